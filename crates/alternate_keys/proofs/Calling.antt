@@ -1,5 +1,6 @@
 -- Calls on pages, one after the other.
 use Rattle.std.proofs.Common.{◌≤◌, ◌⊎◌, inr, ◌∙◌, [], ap, arith}
+use Rattle.station.specs.Calls.{OnlyReads}
 use Rattle.station.specs.declared.device.Device.{Ghosts as Devices}
 use Rattle.station.proofs.Calls.{reads_then}
 use Rattle.pages.specs.Image.{Map, Volume}
@@ -48,11 +49,11 @@ module _ {D : Type 0} (d : Devices D) where
     is_open = second.is_open;
   }
 
-  pub sectors_kept : (A : Type 0) (p q : PageMap) (a b : D) → Edits d A p a q b → sectors_of p ≤ d.sectors a
-      → sectors_of q ≤ d.sectors b
-  sectors_kept A p q a b edits fits =
-      let same = ap (λ (v : Volume). v.root.sectors) (same_volume p q edits.committed) in
-      let many = edits.only.sectors in
+  pub sectors_still : (A : Type 0) (p q : PageMap) (a b : D) → OnlyReads d A a b → SameCommitted p q
+      → sectors_of p ≤ d.sectors a → sectors_of q ≤ d.sectors b
+  sectors_still A p q a b only committed fits =
+      let same = ap (λ (v : Volume). v.root.sectors) (same_volume p q committed) in
+      let many = only.sectors in
       omega (arith, same, many, fits)
 
   -- the last call alone is to blame

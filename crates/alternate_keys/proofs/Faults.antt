@@ -22,9 +22,16 @@ commit_sound error (inr (inl is)) told = let clash : Full ≡ Damaged = sym (ap 
 commit_sound error (inr (inr (inl is))) told = let clash : Memory ≡ Damaged = sym (ap fault_of is) ∙ told in cc
 commit_sound error (inr (inr (inr is))) told = let clash : Spent ≡ Damaged = sym (ap fault_of is) ∙ told in cc
 
--- where memory alone may be wanting the device isn't to blame
+-- where memory alone may be wanting, the call isn't refused for another reason
 pub never_device : {T : Type 0} (result : Result T StoreFault) → IsOkUnless result Memory → result ≡ Err Device → ⊥
 never_device result only is = let clash : Device ≡ Memory = subst (λ r. IfErr r (λ x. x ≡ Memory)) is only in cc
+
+pub never_spent : {T : Type 0} (result : Result T StoreFault) → IsOkUnless result Memory → result ≡ Err Spent → ⊥
+never_spent result only is = let clash : Spent ≡ Memory = subst (λ r. IfErr r (λ x. x ≡ Memory)) is only in cc
+
+pub never_full_memory : {T : Type 0} (result : Result T StoreFault) → IsOkUnless result Memory → result ≡ Err Full
+    → ⊥
+never_full_memory result only is = let clash : Full ≡ Memory = subst (λ r. IfErr r (λ x. x ≡ Memory)) is only in cc
 
 -- a call that only reads is never refused for want of room
 pub never_full : {T : Type 0} (result : Result T StoreFault) → IfErr result IsReadFault → result ≡ Err Full → ⊥

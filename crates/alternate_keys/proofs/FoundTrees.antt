@@ -1,6 +1,6 @@
 -- The trees in which a row of a file that was found is sought.
 use Rattle.std.proofs.Common.{◌≡◌, ◌≤◌, ◌<◌, ◌^◌, ℕ, true, List, length, refl, sym, ap, subst, ◌∙◌, arith}
-use Rattle.std.specs.Prelude.{Option, Some}
+use Rattle.std.specs.Prelude.{Option, Some, None}
 use Rattle.std.proofs.lemmas.Bool.{eqb-true}
 use Rattle.station.specs.Disk.{Sector}
 use Rattle.pages.specs.Image.{Map}
@@ -16,7 +16,7 @@ use Rattle.records.specs.Spec.{Spec, is_spec, are_keys}
 use Rattle.records.specs.Rows.{prime_place}
 use Rattle.records.specs.Order.{RowBound}
 use Rattle.records.specs.Stores.{IsKey}
-use Rattle.records.specs.Files.{File}
+use Rattle.records.specs.Files.{File, Files, file_at}
 use Rattle.volume_format.specs.Trees.{layout_under}
 use Rattle.file_bytes.specs.Rows.{prime_key_length}
 use Rattle.volume_format.specs.Volume.{FileTrees}
@@ -72,6 +72,18 @@ pairs_as pages one held spec key own tree same is there pairs =
     subst (λ (t : RootedTree). HasPairs spec key pages held.rows t) (sym there)
     (subst (λ (s : Spec). HasPairs s key pages held.rows own) is
     (subst (λ (f : File). HasPairs f.spec key pages f.rows own) same pairs))
+
+-- what the catalog says of a name, by another word for it
+pub listed_as : (m : Map) (files : Files) (one two : List ℕ) (listed : Option Entry) → one ≡ two
+    → IsListed m (file_at one files) listed → IsListed m (file_at two files) listed
+listed_as m files one two listed same is = subst (λ (n : List ℕ). IsListed m (file_at n files) listed) same is
+
+-- a file that is there is listed
+pub unlisted : (m : Map) (found : Option File) (listed : Option Entry) (held : File) → IsListed m found listed
+    → listed ≡ None → found ≡ Some held → ⊥
+unlisted m found listed held is none there =
+    let clash : None ≡ Some held = sym (subst (IsListed m found) none is) ∙ there in
+    cc
 
 -- what is known where the trees of a file are looked into
 pub record Knows (m : Map) (found : Option File) (held : File) (spec : Spec) (key : KeyOfReference)

@@ -232,6 +232,14 @@ module _ {spec : Spec} {named : NamedFile} {generation : ℕ} {pages : List (Opt
   there_is = prime_there spec named generation pages left right listing has number arrival bytes new.same new.good
       new.long new.low new.numbered
 
+  pub there_told : {own : ℕ} (there : Bool) → own ≡ new_number spec.organization number arrival →
+      there ≡ is_some (entry_with (map (entry_under spec Prime) named.file.rows)
+      (entry_under spec Prime (row_with spec own arrival bytes)).key)
+      → there ≡ has_prime named.file (new_row named.file number bytes)
+  there_told there own_is told =
+      told ∙ ap (λ (n : ℕ). is_some (entry_with (map (entry_under spec Prime) named.file.rows)
+      (entry_under spec Prime (row_with spec n arrival bytes)).key)) own_is ∙ there_is
+
   pub taken_numbered : {own : ℕ} → own ≡ new_number spec.organization number arrival →
       IsSome (entry_with (map (entry_under spec Prime) named.file.rows)
       (entry_under spec Prime (row_with spec own arrival bytes)).key)

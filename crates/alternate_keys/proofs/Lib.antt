@@ -2,7 +2,9 @@ pub mod Least
 pub mod Aims
 pub mod Sought
 pub mod Tells
+pub mod RowFor
 pub mod Faults
+pub mod Passing
 pub mod Catalogs
 pub mod Present
 pub mod Keeping
@@ -22,6 +24,7 @@ pub mod Fresh
 pub mod Placing
 pub mod Walks
 pub mod Pairing
+pub mod KeyTurn
 pub mod RowEdits
 pub mod PairEdits
 pub mod RowValues
@@ -35,12 +38,14 @@ pub mod Bytes
 pub mod FoundRow
 pub mod Preparing
 pub mod Turning
+pub mod Committing
 pub mod WriteCalls
 pub mod Heads
 pub mod Empties
 pub mod Counted
 pub mod Added
 pub mod MadeFile
+pub mod Making
 pub mod HeldTrees
 pub mod Moving
 pub mod MovingRows

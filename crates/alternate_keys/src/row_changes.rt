@@ -196,31 +196,16 @@ fn replace_trees<D: Device>(
     ensures spent { result ≡ Err StoreFault.Spent → is_spent pages.old ≡ true }
     ensures cause { IfErr result IsWriteFault }
 {
+    let verb = RowVerb::Replace;
     let mut prime = file_tree(alloc, file, KeyOfReference::Prime, listing);
     let place = file.key_place(KeyOfReference::Prime);
-    let row = match find_row(
-        alloc,
-        &prime,
-        pages,
-        device,
-        file,
-        number,
-        part_of(place, bytes),
-    )? {
+    let prime_key = part_of(place, bytes);
+    let row = match find_row(alloc, &prime, pages, device, file, number, prime_key)? {
         Some(row) => row,
         None => return Ok(RowTurn::none(alloc, Outcome::Missing)),
     };
     let old = row.value();
-    let outcome = find_duplicate_key(
-        alloc,
-        pages,
-        device,
-        file,
-        listing,
-        RowVerb::Replace,
-        old,
-        bytes,
-    )?;
+    let outcome = find_duplicate_key(alloc, pages, device, file, listing, verb, old, bytes)?;
     if !is_done(outcome) {
         return Ok(RowTurn::none(alloc, outcome));
     }
@@ -233,17 +218,7 @@ fn replace_trees<D: Device>(
     let next = arrival_next(file, old, bytes, arrival);
     let root = prime.root();
     let listing = move_row(
-        alloc,
-        pages,
-        device,
-        file,
-        listing,
-        RowVerb::Replace,
-        old,
-        arrival,
-        bytes,
-        root,
-        next,
+        alloc, pages, device, file, listing, verb, old, arrival, bytes, root, next,
     )?;
     Ok(RowTurn { outcome, listing })
 }

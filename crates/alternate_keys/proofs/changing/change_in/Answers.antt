@@ -1,72 +1,58 @@
-use Rattle.std.proofs.Common.{rules, ◌≡◌, inl, inr, Bool, true, false, Err, ℕ, List, length, refl, sym, ap, subst, ◌∙◌}
-use Rattle.std.proofs.Common.{arith}
-use Rattle.std.specs.Prelude.{if◌then◌else◌}
-use Rattle.std.proofs.lemmas.Result.{err_from_is_err_and}
-use Rattle.station.specs.Blocks.{CrashLeaves}
-use Rattle.station.specs.History.{Through}
+use Rattle.std.proofs.Common.{◌≡◌, inr, Bool, true, false, Err, List, ℕ, length, sym, ap, subst, ◌∙◌, arith}
+use Rattle.std.specs.Prelude.{if◌then◌else◌, IfErr}
 use Rattle.station.specs.State.{State}
 use Rattle.station.proofs.Calls.{reads_writes, blamed_where, writes_then}
-use Rattle.station.proofs.Spans.{stays}
-use Rattle.pages.specs.Image.{Map, Volume, map_of}
-use Rattle.pages.specs.Pages.{map_now, committed_of, next_generation, Agrees}
-use Rattle.pages.specs.declared.page_map.PageMap.{PageMap}
-use Rattle.records.specs.declared.fault.StoreFault.TheVariants.{Device, Full, Damaged}
+use Rattle.pages.specs.Pages.{committed_of, Agrees}
+use Rattle.records.specs.declared.fault.StoreFault.TheVariants.{Device}
 use Rattle.records.specs.Changes.{FileChange}
-use Rattle.records.specs.Files.{Files, with_file}
-use Rattle.records.specs.Spec.{Spec}
-use Rattle.records.specs.Stores.{spec_of, is_change, files_after, Either}
-use Rattle.volume_format.specs.Volume.{MapHolds, Holds}
-use Rattle.alternate_keys.specs.Held.{held_law}
+use Rattle.records.specs.Files.{File, Files, file_at, with_file}
+use Rattle.records.specs.Stores.{Has, spec_of, is_change, files_after}
 use Rattle.alternate_keys.specs.Moved.{changed_by}
-use Rattle.alternate_keys.specs.Settles.{IsChanged}
-use Rattle.alternate_keys.specs.Stands.{Represents}
-use Rattle.alternate_keys.proofs.Still.{same_volume, stands_still, lacks_room}
+use Rattle.alternate_keys.specs.Stands.{Represents, keys_of}
+use Rattle.alternate_keys.proofs.Committing.{changed_from, refused_turned, put_turned}
+use Rattle.alternate_keys.proofs.Faults.{refused_by_call}
+use Rattle.alternate_keys.proofs.Still.{stands_still}
 use Rattle.alternate_keys.proofs.Turning.{changed_spec, keys_then, lacks_before, lacks_then}
+use Rattle.alternate_keys.specs.Faults.{IsWriteFault}
+use Rattle.alternate_keys.proofs.Calling.{sectors_still}
+use Rattle.alternate_keys.proofs.Passing.{passed, spent_before}
+use Rattle.alternate_keys.proofs.changing.change_in.Given.{Over}
 use Rattle.alternate_keys.proofs.changing.change_in.Goals as goal
+use Rattle.alternate_keys.proofs.changing.change_in.Goals.{After-prepare, After-finish}
 
 pub returns-in_err-outcome-clause-only : goal.returns-in_err-outcome-clause-only
 returns-in_err-outcome-clause-only g c =
     blamed_where g.D.Device (c.prepare.result ≡ Err Device) _ c.args.device.now c.prepare.new.device
-    (λ is. let from = err_from_is_err_and c.from_residual.result c.from_residual.ensures.1 in
-    let told : c.prepare.result ≡ Err Device = cc in told)
+    (λ is. refused_by_call c.in_err-outcome.was c.from_residual.ensures.1 is)
     (reads_writes g.D.Device (c.prepare.result ≡ Err Device) c.args.device.now c.prepare.new.device
     c.prepare.ensures.edits.only)
 
+-- the change, and the files after it
+abbrev change : (g : Over) (c : After-prepare g) → File → FileChange
+change g c held = changed_by c.args.verb c.args.file.now.organization c.args.number c.args.bytes.now held
+
+abbrev after : (g : Over) (c : After-prepare g) → Files → File → Files
+after g c files held = files_after c.args.file.now.name.items files (change g c held)
+
+keys : (g : Over) (c : After-prepare g) (files : Files) (held : File) → Has files c.args.file.now held
+    → keys_of (file_at c.args.file.now.name.items (after g c files held)) ≡ length c.args.file.now.alternates.items
+keys g c files held has =
+    keys_then c.args.file.now.name.items files held (change g c held) (spec_of c.args.file.now) has.there has.spec
+    (changed_spec c.args.verb c.args.file.now.organization c.args.number c.args.bytes.now held)
+
 pub returns-in_err-outcome-clause-turned : goal.returns-in_err-outcome-clause-turned
 returns-in_err-outcome-clause-turned g c = λ honest files held stands has.
-    let spec : Spec = spec_of c.args.file.now in
-    let name : List ℕ = c.args.file.now.name.items in
-    let changed : FileChange =
-    changed_by c.args.verb c.args.file.now.organization c.args.number c.args.bytes.now held in
-    let after : Files = files_after name files changed in
-    let old = g.D.Device.state c.args.device.now in
-    let new = g.D.Device.state c.prepare.new.device in
-    let only = c.prepare.ensures.edits.only in
-    let still = only.state honest in
-    let keys = keys_then name files held changed spec has.there has.spec
-    (changed_spec c.args.verb c.args.file.now.organization c.args.number c.args.bytes.now held) in
+    let at = (goal.at.returns-in_err-outcome-clause-turned g c).After-prepare in
     let none = ap (λ (l : List ℕ). length l) stands.rested in
-    let from = err_from_is_err_and c.from_residual.result c.from_residual.ensures.1 in
-    record {
-      stands = search rules;
-      moments =
-          subst (λ (h : List State). Through (g.D.Device.history c.args.device.now) h new
-          (CrashLeaves old.events (Either Holds files after))) (sym (only.history honest))
-          (subst (λ (s : State). Through (g.D.Device.history c.args.device.now) (g.D.Device.history c.args.device.now) s
-          (CrashLeaves old.events (Either Holds files after))) (sym still)
-          (stays (g.D.Device.history c.args.device.now) old (CrashLeaves old.events (Either Holds files after))
-          (record {
-            events = refl;
-            images = λ image crash. inl (held_law c.args.pages.now old.disk image files stands crash);
-          })));
-      sound = λ is. c.prepare.ensures.damaged honest stands.agrees files held stands.holds has
-          (let told : c.prepare.result ≡ Err Damaged = cc in told);
-      room = λ is.
-          let room = c.prepare.ensures.room honest stands.agrees files held stands.holds has
-          (let told : c.prepare.result ≡ Err Full = cc in told) in
-          lacks_room c.args.pages.now old.disk false name after stands.agrees (lacks_before
-          (committed_of c.args.pages.now) name after (length spec.alternates) keys (omega (arith, room, none)));
-    }
+    refused_turned g.D.Device _ c.args.pages.now c.prepare.new.pages c.args.device.now c.prepare.new.device honest
+    c.prepare.ensures.edits.only files (after g at files held) stands c.from_residual.result false
+    c.args.file.now.name.items c.in_err-outcome.field-0.0 c.from_residual.ensures.1
+    (λ is. c.prepare.ensures.damaged honest stands.agrees files held stands.holds has
+    (refused_by_call c.in_err-outcome.was c.from_residual.ensures.1 is))
+    (λ is. let room = c.prepare.ensures.room honest stands.agrees files held stands.holds has
+    (refused_by_call c.in_err-outcome.was c.from_residual.ensures.1 is) in
+    lacks_before (committed_of c.args.pages.now) c.args.file.now.name.items (after g at files held)
+    (length c.args.file.now.alternates.items) (keys g at files held has) (omega (arith, room, none)))
 
 pub returns-clause-only : goal.returns-clause-only
 returns-clause-only g c =
@@ -75,62 +61,49 @@ returns-clause-only g c =
     (reads_writes g.D.Device (c.prepare.result ≡ Err Device) c.args.device.now c.prepare.new.device
     c.prepare.ensures.edits.only) c.finish.ensures.only
 
+-- where nothing was changed, the files are those from before
+rested : (g : Over) (c : After-finish g) → g.D.Device.is_honest c.args.device.now → (files : Files) (held : File)
+    → Represents c.args.pages.now (g.D.Device.state c.args.device.now).disk files → (ch : FileChange)
+    → c.in_ok-outcome.outcome ≡ ch.outcome → is_change c.in_ok-outcome.outcome ≡ false
+    → Represents c.prepare.new.pages (g.D.Device.state c.prepare.new.device).disk
+    (files_after c.args.file.now.name.items files ch)
+rested g c honest files held stands ch outcome_is none =
+    let edits = c.prepare.ensures.edits in
+    let still = edits.only.state honest in
+    let same : files ≡ files_after c.args.file.now.name.items files ch =
+    sym (ap (λ (b : Bool). if b then with_file c.args.file.now.name.items ch.file files else files)
+    (ap is_change (sym outcome_is) ∙ none)) in
+    let here = stands_still c.args.pages.now c.prepare.new.pages (g.D.Device.state c.args.device.now).disk files
+    (c.in_ok-outcome.ensures.same none) (subst (λ (s : State). Agrees c.prepare.new.pages s.disk) still
+    (edits.agrees honest stands.agrees)) stands in
+    subst (λ (l : Files). Represents c.prepare.new.pages (g.D.Device.state c.prepare.new.device).disk l) same
+    (subst (λ (s : State). Represents c.prepare.new.pages s.disk files) (sym still) here)
+
 pub returns-clause-turned : goal.returns-clause-turned
 returns-clause-turned g c = λ honest files held stands has.
-    let spec : Spec = spec_of c.args.file.now in
-    let name : List ℕ = c.args.file.now.name.items in
-    let changed : FileChange =
-    changed_by c.args.verb c.args.file.now.organization c.args.number c.args.bytes.now held in
-    let after : Files = files_after name files changed in
-    let before : PageMap = c.args.pages.now in
-    let between : PageMap = c.prepare.new.pages in
-    let old = g.D.Device.state c.args.device.now in
-    let new = g.D.Device.state c.prepare.new.device in
+    let at = goal.at.returns-clause-turned g c in
     let edits = c.prepare.ensures.edits in
-    let still : new ≡ old = edits.only.state honest in
     let agrees = edits.agrees honest stands.agrees in
-    let outcome_is = c.in_ok-outcome.ensures.outcome honest stands.agrees files held stands.holds has in
-    let changed_map : is_change c.in_ok-outcome.outcome ≡ true
-    → IsChanged g.D.Device between c.prepare.new.device files after = λ done. record {
-      honest = edits.only.honest.0 honest;
-      agrees = agrees;
-      was = subst (λ (s : State). MapHolds (map_of s.disk.present (committed_of between)) files) (sym still)
-          (subst (λ (v : Volume). MapHolds (map_of old.disk.present v) files) (sym (same_volume before between
-          edits.committed)) (subst (λ (m : Map). MapHolds m files) stands.still stands.holds));
-      will = subst (λ (s : State). MapHolds (next_generation (map_now between s.disk.present)) after) (sym still)
-          (c.in_ok-outcome.ensures.will honest stands.agrees files held stands.holds has done);
-    } in
-    let rested : is_change c.in_ok-outcome.outcome ≡ false → Represents between new.disk after = λ none.
-    let same : files ≡ after = sym (ap (λ (b : Bool). if b then with_file name changed.file files else files)
-    (ap is_change (sym outcome_is) ∙ none)) in
-    let here : Represents between old.disk files = stands_still before between old.disk files
-    (c.in_ok-outcome.ensures.same none) (subst (λ (s : State). Agrees between s.disk) still agrees) stands in
-    subst (λ (l : Files). Represents between new.disk l) same
-    (subst (λ (s : State). Represents between s.disk files) (sym still) here) in
-    let settles = c.finish.ensures.settles files after changed_map rested in
-    let keys = keys_then name files held changed spec has.there has.spec
-    (changed_spec c.args.verb c.args.file.now.organization c.args.number c.args.bytes.now held) in
+    let later : Files = after g at.After-prepare files held in
     let none = ap (λ (l : List ℕ). length l) stands.rested in
     let few = c.in_ok-outcome.ensures.few honest stands.agrees files held stands.holds has in
-    let moments_then =
-    subst (λ (h : List State). Through h (g.D.Device.history c.finish.new.device) (g.D.Device.state c.finish.new.device)
-    (CrashLeaves new.events (Either Holds files after))) (edits.only.history honest) settles.moments in
-    record {
-      stands = settles.stands;
-      moments =
-          subst (λ (s : State). Through (g.D.Device.history c.args.device.now) (g.D.Device.history c.finish.new.device)
-          (g.D.Device.state c.finish.new.device) (CrashLeaves s.events (Either Holds files after))) still moments_then;
-      sound = settles.sound;
-      room = λ is. lacks_room before old.disk false name after stands.agrees
-          (lacks_then before between name after (length spec.alternates) keys edits.committed
-          (c.few_needed.ensures between) (omega (arith, few, none)) (settles.full is));
-    }
+    put_turned g.D.Device _ c.args.pages.now c.prepare.new.pages c.args.device.now c.prepare.new.device honest
+    edits.only
+    files later stands c.finish.result false c.args.file.now.name.items c.finish.new.pages c.finish.new.device
+    (c.finish.ensures.settles files later
+    (λ done. changed_from g.D.Device _ c.args.pages.now c.prepare.new.pages c.args.device.now c.prepare.new.device
+    honest edits.only files later stands edits.committed agrees
+    (c.in_ok-outcome.ensures.will honest stands.agrees files held stands.holds has done))
+    (rested g at.After-finish honest files held stands (change g at.After-prepare held)
+    (c.in_ok-outcome.ensures.outcome honest stands.agrees files held stands.holds has)))
+    (λ full. lacks_then c.args.pages.now c.prepare.new.pages c.args.file.now.name.items later
+    (length c.args.file.now.alternates.items) (keys g at.After-prepare files held has) edits.committed
+    (c.few_needed.ensures c.prepare.new.pages) (omega (arith, few, none)) full)
 
 pub returns-in_err-outcome-clause-full : goal.returns-in_err-outcome-clause-full
 returns-in_err-outcome-clause-full g c = λ honest files held stands has is.
-    let from = err_from_is_err_and c.from_residual.result c.from_residual.ensures.1 in
-    c.prepare.ensures.full honest stands.agrees files held stands.holds has (let told : c.prepare.result ≡ Err Full =
-    cc in told)
+    c.prepare.ensures.full honest stands.agrees files held stands.holds has
+    (refused_by_call c.in_err-outcome.was c.from_residual.ensures.1 is)
 
 pub returns-clause-full : goal.returns-clause-full
 returns-clause-full g c = λ honest files held stands has is.
@@ -144,3 +117,25 @@ pub returns-clause-unwritten : goal.returns-clause-unwritten
 returns-clause-unwritten g c = λ is honest.
     let only = c.prepare.ensures.edits.only in
     c.finish.ensures.unwritten is (only.honest.0 honest) ∙ only.state honest
+
+pub returns-in_err-outcome-clause-spent : goal.returns-in_err-outcome-clause-spent
+returns-in_err-outcome-clause-spent g c =
+    λ is. c.prepare.ensures.spent (refused_by_call c.in_err-outcome.was c.from_residual.ensures.1 is)
+
+pub returns-in_err-outcome-clause-cause : goal.returns-in_err-outcome-clause-cause
+returns-in_err-outcome-clause-cause g c =
+    passed c.from_residual.result c.in_err-outcome.field-0.0 c.from_residual.ensures.1 (λ r. IfErr r IsWriteFault)
+    c.in_err-outcome.ensures.cause
+
+pub finish-requires-clause-sectors : goal.finish-requires-clause-sectors
+finish-requires-clause-sectors g c =
+    sectors_still g.D.Device _ c.args.pages.now c.prepare.new.pages c.args.device.now c.prepare.new.device
+    c.prepare.ensures.edits.only c.prepare.ensures.edits.committed c.requires.sectors
+
+pub finish-requires-clause-open : goal.finish-requires-clause-open
+finish-requires-clause-open g c = c.prepare.ensures.edits.is_open
+
+pub returns-clause-spent : goal.returns-clause-spent
+returns-clause-spent g c =
+    λ is. spent_before c.args.pages.now c.prepare.new.pages c.prepare.ensures.edits.committed (c.finish.ensures.spent
+    is)

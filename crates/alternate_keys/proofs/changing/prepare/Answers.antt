@@ -7,7 +7,7 @@ use Rattle.volume_format.specs.Calls.{LooksAt}
 use Rattle.alternate_keys.specs.Calls.{Edits}
 use Rattle.alternate_keys.specs.Moved.{changed_by}
 use Rattle.alternate_keys.proofs.Bytes.{bytes_by}
-use Rattle.alternate_keys.proofs.Calling.{looks_edits, edits_blamed, edits_last}
+use Rattle.alternate_keys.proofs.Calling.{looks_edits, edits_blamed, edits_last, sectors_still}
 use Rattle.alternate_keys.proofs.Faults.{never_full, refused_by_call}
 use Rattle.alternate_keys.proofs.HeldTrees.{HoldsTrees}
 use Rattle.alternate_keys.proofs.ListedFile.{HoldsFile, HoldsChanged, file_held, map_at, lefts, rights, named_at}
@@ -15,6 +15,9 @@ use Rattle.alternate_keys.proofs.ListedFile.{never_listed, trees_listed, entry_l
 use Rattle.alternate_keys.proofs.ListedFile.{files_listed}
 use Rattle.alternate_keys.proofs.Preparing.{are_then}
 use Rattle.alternate_keys.proofs.Still.{room_before}
+use Rattle.std.specs.Prelude.{IfErr}
+use Rattle.alternate_keys.specs.Faults.{IsWriteFault}
+use Rattle.alternate_keys.proofs.Passing.{never_ok, passed, read_is_write, spent_before}
 use Rattle.alternate_keys.proofs.changing.prepare.Given.{Over}
 use Rattle.alternate_keys.proofs.changing.prepare.Goals as goal
 use Rattle.alternate_keys.proofs.changing.prepare.Goals.{After-find_listing, After-change_trees}
@@ -147,7 +150,7 @@ returns-in_err-entry-clause-edits g c =
 
 pub returns-in-None-clause-edits : goal.returns-in-None-clause-edits
 returns-in-None-clause-edits g c =
-    edits_blamed g.D.Device _ _ _ _ _ _ (λ is. absurd cc)
+    edits_blamed g.D.Device _ _ _ _ _ _ (λ is. never_ok is)
     (looks_edits g.D.Device _ _ _ _ _ (looks g (goal.at.returns-in-None-clause-edits g c).After-find_listing))
 
 -- what was read and written until the trees have changed
@@ -169,7 +172,7 @@ returns-in_err-turn-clause-edits g c =
 pub returns-then-not-is_done-clause-edits : goal.returns-then-not-is_done-clause-edits
 returns-then-not-is_done-clause-edits g c =
     let to = goal.at.returns-then-not-is_done-clause-edits g c in
-    edits_blamed g.D.Device _ _ _ _ _ _ (λ is. absurd cc)
+    edits_blamed g.D.Device _ _ _ _ _ _ (λ is. never_ok is)
     (turned g to.After-change_trees (looks g to.After-find_listing))
 
 pub returns-then-not-is_done-clause-same : goal.returns-then-not-is_done-clause-same
@@ -187,7 +190,7 @@ returns-in_err-replace_listing-clause-edits g c =
 pub returns-clause-edits : goal.returns-clause-edits
 returns-clause-edits g c =
     let to = goal.at.returns-clause-edits g c in
-    edits_last g.D.Device _ _ _ _ _ _ _ _ _ (λ is. absurd cc)
+    edits_last g.D.Device _ _ _ _ _ _ _ _ _ (λ is. never_ok is)
     (turned g to.After-change_trees (looks g to.After-find_listing)) c.replace_listing.ensures.edits
 
 pub returns-in_err-turn-clause-full : goal.returns-in_err-turn-clause-full
@@ -210,3 +213,73 @@ pub returns-in_err-entry-clause-full : goal.returns-in_err-entry-clause-full
 returns-in_err-entry-clause-full g c = λ honest agrees files held holds has full.
     absurd (never_full c.find_listing.result c.find_listing.ensures.cause
     (refused_by_call c.in_err-entry.was c.from_residual.ensures.1 full))
+
+pub returns-in_err-entry-clause-spent : goal.returns-in_err-entry-clause-spent
+returns-in_err-entry-clause-spent g c =
+    λ is. c.find_listing.ensures.spent (refused_by_call c.in_err-entry.was c.from_residual.ensures.1 is)
+
+pub returns-in_err-entry-clause-cause : goal.returns-in_err-entry-clause-cause
+returns-in_err-entry-clause-cause g c =
+    passed c.from_residual.result c.in_err-entry.field-0.0 c.from_residual.ensures.1 (λ r. IfErr r IsWriteFault)
+    (read_is_write c.in_err-entry.field-0.0 c.in_err-entry.ensures.cause)
+
+pub returns-in_err-entry-clause-room : goal.returns-in_err-entry-clause-room
+returns-in_err-entry-clause-room g c =
+    λ honest agrees files held holds has is. absurd (never_full c.find_listing.result c.find_listing.ensures.cause
+    (refused_by_call c.in_err-entry.was c.from_residual.ensures.1 is))
+
+pub change_trees-requires-clause-sectors : goal.change_trees-requires-clause-sectors
+change_trees-requires-clause-sectors g c =
+    sectors_still g.D.Device _ c.args.pages.now c.find_listing.new.pages c.args.device.now c.find_listing.new.device
+    c.find_listing.ensures.only c.find_listing.ensures.unchanged.committed c.requires.sectors
+
+pub change_trees-requires-clause-open : goal.change_trees-requires-clause-open
+change_trees-requires-clause-open g c = c.find_listing.ensures.open
+
+pub returns-in_err-turn-clause-spent : goal.returns-in_err-turn-clause-spent
+returns-in_err-turn-clause-spent g c =
+    λ is. spent_before c.args.pages.now c.find_listing.new.pages c.find_listing.ensures.unchanged.committed
+    (c.change_trees.ensures.spent (refused_by_call c.in_err-turn.was c.from_residual-in_err-turn.ensures.1 is))
+
+pub returns-in_err-turn-clause-cause : goal.returns-in_err-turn-clause-cause
+returns-in_err-turn-clause-cause g c =
+    passed c.from_residual-in_err-turn.result c.in_err-turn.field-0.0 c.from_residual-in_err-turn.ensures.1 (λ r.
+    IfErr r IsWriteFault) c.in_err-turn.ensures.cause
+
+pub replace_listing-requires-clause-sectors : goal.replace_listing-requires-clause-sectors
+replace_listing-requires-clause-sectors g c =
+    sectors_still g.D.Device _ c.find_listing.new.pages c.change_trees.new.pages c.find_listing.new.device
+    c.change_trees.new.device c.change_trees.ensures.edits.only c.change_trees.ensures.edits.committed (sectors_still
+    g.D.Device _ c.args.pages.now c.find_listing.new.pages c.args.device.now c.find_listing.new.device
+    c.find_listing.ensures.only c.find_listing.ensures.unchanged.committed c.requires.sectors)
+
+pub replace_listing-requires-clause-open : goal.replace_listing-requires-clause-open
+replace_listing-requires-clause-open g c = c.change_trees.ensures.edits.is_open
+
+pub returns-in_err-replace_listing-clause-spent : goal.returns-in_err-replace_listing-clause-spent
+returns-in_err-replace_listing-clause-spent g c =
+    λ is. spent_before c.args.pages.now c.find_listing.new.pages c.find_listing.ensures.unchanged.committed
+    (spent_before c.find_listing.new.pages c.change_trees.new.pages c.change_trees.ensures.edits.committed
+    (c.replace_listing.ensures.spent (refused_by_call c.in_err-replace_listing.was
+    c.from_residual-in_err-replace_listing.ensures.1 is)))
+
+pub returns-in_err-replace_listing-clause-cause : goal.returns-in_err-replace_listing-clause-cause
+returns-in_err-replace_listing-clause-cause g c =
+    passed c.from_residual-in_err-replace_listing.result c.in_err-replace_listing.field-0.0
+    c.from_residual-in_err-replace_listing.ensures.1 (λ r. IfErr r IsWriteFault) (read_is_write
+    c.in_err-replace_listing.field-0.0 c.in_err-replace_listing.ensures.cause)
+
+pub returns-in_err-replace_listing-clause-room : goal.returns-in_err-replace_listing-clause-room
+returns-in_err-replace_listing-clause-room g c =
+    λ honest agrees files held holds has is. absurd (never_full c.replace_listing.result
+    c.replace_listing.ensures.cause (refused_by_call c.in_err-replace_listing.was
+    c.from_residual-in_err-replace_listing.ensures.1 is))
+
+pub returns-in-None-clause-spent : goal.returns-in-None-clause-spent
+returns-in-None-clause-spent g c = λ is. never_ok is
+
+pub returns-then-not-is_done-clause-spent : goal.returns-then-not-is_done-clause-spent
+returns-then-not-is_done-clause-spent g c = λ is. never_ok is
+
+pub returns-clause-spent : goal.returns-clause-spent
+returns-clause-spent g c = λ is. never_ok is

@@ -10,6 +10,7 @@ use Rattle.volume_format.specs.Forest.{TreeLevels, IsForest}
 use Rattle.volume_format.specs.Volume.{listing_of, no_tree}
 use Rattle.alternate_keys.proofs.Calling.{edits_nothing, edits_then}
 use Rattle.alternate_keys.proofs.Pairing.{rest_of}
+use Rattle.alternate_keys.proofs.Faults.{refused_by_call}
 use Rattle.alternate_keys.proofs.clearing.clear_alternates.Goals as goal
 
 drop_none : {X : Type 0} (xs : List X) → drop 0 xs ≡ xs
@@ -33,9 +34,7 @@ loop-key-init g c = record {
 
 pub returns-in_err-clear_tree-clause-damaged : goal.returns-in_err-clear_tree-clause-damaged
 returns-in_err-clear_tree-clause-damaged g c = λ honest agrees kept left right stored forest refused.
-    let from = rw refused at c.from_residual.ensures.1 in
-    let fault : c.in_err-clear_tree.field-0.0 ≡ Damaged = sym from in
-    let told : c.clear_tree.result ≡ Err Damaged = c.in_err-clear_tree.was ∙ ap Err fault in
+    let told = refused_by_call c.in_err-clear_tree.was c.from_residual.ensures.1 refused in
     let loop = c.loop-key in
     let image = (g.D.Device.state c.args.device.now).disk.present in
     let here : List (Option Sector) = (map_now loop.pages image).pages in

@@ -1,5 +1,5 @@
 use Rattle.std.proofs.Common.{◌≡◌, ◌++◌, Err, List, sym, ap, subst, ◌∙◌, arith}
-use Rattle.std.specs.Prelude.{Option, OnOk}
+use Rattle.std.specs.Prelude.{Option, OnOk, IfErr}
 use Rattle.station.specs.Disk.{Sector}
 use Rattle.station.specs.State.{State}
 use Rattle.pages.specs.Pages.{map_now}
@@ -7,13 +7,15 @@ use Rattle.records.specs.declared.fault.StoreFault.TheVariants.{Damaged}
 use Rattle.volume_format.specs.Forest.{IsForest}
 use Rattle.volume_format.specs.Volume.{FileTrees, listing_of}
 use Rattle.alternate_keys.proofs.FileTrees.{prime_told, good_spec, all_stored}
+use Rattle.alternate_keys.specs.Faults.{IsReadFault}
+use Rattle.alternate_keys.proofs.Passing.{passed, spent_before}
+use Rattle.alternate_keys.proofs.Calling.{sectors_still}
+use Rattle.alternate_keys.proofs.Faults.{refused_by_call}
 use Rattle.alternate_keys.proofs.clearing.clear_trees.Goals as goal
 
 pub returns-in_err-clear_tree-clause-damaged : goal.returns-in_err-clear_tree-clause-damaged
 returns-in_err-clear_tree-clause-damaged g c = λ honest agrees spec named generation left right has refused.
-    let from = rw refused at c.from_residual.ensures.1 in
-    let fault : c.in_err-clear_tree.field-0.0 ≡ Damaged = sym from in
-    let told : c.clear_tree.result ≡ Err Damaged = c.in_err-clear_tree.was ∙ ap Err fault in
+    let told = refused_by_call c.in_err-clear_tree.was c.from_residual.ensures.1 refused in
     let before : List (Option Sector) =
     (map_now c.args.pages.now (g.D.Device.state c.args.device.now).disk.present).pages in
     let kept : FileTrees = has.placed.kept in
@@ -55,3 +57,25 @@ returns-clause-damaged g c = λ honest agrees spec named generation left right h
     (left ++ (kept.alternates ++ right))) (sym still) first in
     c.clear_alternates.ensures.damaged (edits.only.honest.0 honest) (edits.agrees honest agrees) kept left right
     (all_stored spec named generation before left right c.args.value.now has) there refused
+
+pub returns-in_err-clear_tree-clause-spent : goal.returns-in_err-clear_tree-clause-spent
+returns-in_err-clear_tree-clause-spent g c =
+    λ is. c.clear_tree.ensures.spent (refused_by_call c.in_err-clear_tree.was c.from_residual.ensures.1 is)
+
+pub returns-in_err-clear_tree-clause-cause : goal.returns-in_err-clear_tree-clause-cause
+returns-in_err-clear_tree-clause-cause g c =
+    passed c.from_residual.result c.in_err-clear_tree.field-0.0 c.from_residual.ensures.1 (λ r. IfErr r IsReadFault)
+    c.in_err-clear_tree.ensures.cause
+
+pub clear_alternates-requires-clause-sectors : goal.clear_alternates-requires-clause-sectors
+clear_alternates-requires-clause-sectors g c =
+    sectors_still g.D.Device _ c.args.pages.now c.clear_tree.new.pages c.args.device.now c.clear_tree.new.device
+    c.clear_tree.ensures.edits.only c.clear_tree.ensures.edits.committed c.requires.sectors
+
+pub clear_alternates-requires-clause-open : goal.clear_alternates-requires-clause-open
+clear_alternates-requires-clause-open g c = c.clear_tree.ensures.edits.is_open
+
+pub returns-clause-spent : goal.returns-clause-spent
+returns-clause-spent g c =
+    λ is. spent_before c.args.pages.now c.clear_tree.new.pages c.clear_tree.ensures.edits.committed
+    (c.clear_alternates.ensures.spent is)

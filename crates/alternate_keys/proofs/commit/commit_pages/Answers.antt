@@ -7,6 +7,7 @@ use Rattle.records.specs.declared.fault.StoreFault.TheVariants.{Full, Damaged}
 use Rattle.alternate_keys.proofs.Faults.{commit_sound}
 use Rattle.volume_format.proofs.Faults.{full_back}
 use Rattle.alternate_keys.proofs.Settled.{moments_hold, stands_then, changed_or_not, rests_then}
+use Rattle.alternate_keys.proofs.Passing.{never_ok}
 use Rattle.alternate_keys.proofs.commit.commit_pages.Goals as goal
 
 pub returns-in-Ok-clause-settles : goal.returns-in-Ok-clause-settles
@@ -29,8 +30,8 @@ returns-in-Ok-clause-settles g c = λ before after changed.
           (changed_or_not c.args.pages.now);
       moments = moments_hold (g.D.Device.history c.args.device.now) (g.D.Device.history c.commit.new.device) new
           old.events m n before after changed.was changed.will (c.in-Ok.ensures.moments changed.honest changed.agrees);
-      sound = λ is. absurd cc;
-      full = λ is. absurd cc;
+      sound = λ is. never_ok is;
+      full = λ is. never_ok is;
     }
 
 pub returns-in-Err-clause-settles : goal.returns-in-Err-clause-settles

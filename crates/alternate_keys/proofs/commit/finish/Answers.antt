@@ -4,6 +4,7 @@ use Rattle.station.proofs.Spans.{stays}
 use Rattle.records.specs.Stores.{is_change}
 use Rattle.records.specs.declared.fault.StoreFault.TheVariants.{Full, Damaged}
 use Rattle.alternate_keys.specs.Held.{held_law}
+use Rattle.alternate_keys.proofs.Passing.{never_ok}
 use Rattle.alternate_keys.proofs.commit.finish.Goals as goal
 
 pub returns-then-not-is_done-clause-settles : goal.returns-then-not-is_done-clause-settles
@@ -17,8 +18,8 @@ returns-then-not-is_done-clause-settles g c = λ before after changed rested.
         events = refl;
         images = λ image crash. inr (held_law c.args.pages.now state.disk image after stands crash);
       });
-      sound = λ is. absurd cc;
-      full = λ is. absurd cc;
+      sound = λ is. never_ok is;
+      full = λ is. never_ok is;
     }
 
 pub returns-in_err-commit_pages-clause-settles : goal.returns-in_err-commit_pages-clause-settles
@@ -40,6 +41,6 @@ returns-clause-settles g c = λ before after changed rested.
     record {
       stands = settles.stands;
       moments = settles.moments;
-      sound = λ is. absurd cc;
-      full = λ is. absurd cc;
+      sound = λ is. never_ok is;
+      full = λ is. never_ok is;
     }

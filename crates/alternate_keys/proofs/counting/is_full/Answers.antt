@@ -18,6 +18,7 @@ use Rattle.volume_format.specs.Volume.{FileTrees, catalog_entry}
 use Rattle.volume_format.proofs.Looks.{looks_blamed, looks_then}
 use Rattle.alternate_keys.proofs.Catalogs.{catalog_holds}
 use Rattle.alternate_keys.proofs.Counted.{entry_at, first_at, next_at, none_at, some_at}
+use Rattle.alternate_keys.proofs.Faults.{refused_by_call}
 use Rattle.alternate_keys.proofs.counting.is_full.Goals as goal
 
 pub loop-turn-init : goal.loop-turn-init
@@ -109,9 +110,7 @@ returns-clause-full g c = λ honest agrees files holds yes.
 
 pub returns-in_err-next-clause-damaged : goal.returns-in_err-next-clause-damaged
 returns-in_err-next-clause-damaged g c = λ honest agrees files holds refused.
-    let from = rw refused at c.from_residual.ensures.1 in
-    let fault : c.in_err-next.field-0.0 ≡ Damaged = sym from in
-    let told : c.first_in.result ≡ Err Damaged = c.in_err-next.was ∙ ap Err fault in
+    let told = refused_by_call c.in_err-next.was c.from_residual.ensures.1 refused in
     let m : Map = map_now c.args.pages.now (g.D.Device.state c.args.device.now).disk.present in
     let tree : RootedTree = c.catalog_tree-catalog.result in
     let there = catalog_holds m files holds tree c.catalog_tree-catalog.ensures.layout
@@ -130,9 +129,7 @@ returns-in_err-next-in-Some-clause-looks g c =
 
 pub returns-in_err-next-in-Some-clause-damaged : goal.returns-in_err-next-in-Some-clause-damaged
 returns-in_err-next-in-Some-clause-damaged g c = λ honest agrees files holds refused.
-    let from = rw refused at c.from_residual-in_err-next-in-Some.ensures.1 in
-    let fault : c.in_err-next-in-Some.field-0.0 ≡ Damaged = sym from in
-    let told : c.next_in.result ≡ Err Damaged = c.in_err-next-in-Some.was ∙ ap Err fault in
+    let told = refused_by_call c.in_err-next-in-Some.was c.from_residual-in_err-next-in-Some.ensures.1 refused in
     let m : Map = map_now c.args.pages.now (g.D.Device.state c.args.device.now).disk.present in
     let tree : RootedTree = c.catalog_tree-catalog.result in
     let loop = c.loop-turn in

@@ -1,5 +1,5 @@
 use Rattle.std.proofs.Common.{◌≡◌, List, ℕ, Err, true, false, sym, ap, subst, ◌∙◌}
-use Rattle.std.specs.Prelude.{take}
+use Rattle.std.specs.Prelude.{take, IfErr}
 use Rattle.std.proofs.lemmas.Result.{err_from_is_err_and}
 use Rattle.pages.specs.Image.{Map}
 use Rattle.pages.specs.Pages.{map_now}
@@ -11,12 +11,14 @@ use Rattle.file_bytes.specs.Description.{spec_bytes}
 use Rattle.records.specs.Stores.{spec_of}
 use Rattle.alternate_keys.specs.Listed.{IsListed}
 use Rattle.alternate_keys.proofs.Present.{absent, present_by}
+use Rattle.alternate_keys.specs.Faults.{IsReadFault}
+use Rattle.alternate_keys.proofs.Passing.{memory_is_read, never_ok, passed}
+use Rattle.alternate_keys.proofs.Faults.{never_spent, refused_by_call}
 use Rattle.alternate_keys.proofs.finding.find_in.Goals as goal
 
 pub returns-in_err-entry-clause-damaged : goal.returns-in_err-entry-clause-damaged
 returns-in_err-entry-clause-damaged g c = λ honest agrees files holds is.
-    let from = err_from_is_err_and c.from_residual.result c.from_residual.ensures.1 in
-    let damaged : c.find_listing.result ≡ Err Damaged = cc in
+    let damaged = refused_by_call c.in_err-entry.was c.from_residual.ensures.1 is in
     c.find_listing.ensures.damaged honest agrees files holds damaged
 
 pub returns-in-None-clause-presence : goal.returns-in-None-clause-presence
@@ -53,3 +55,31 @@ returns-clause-presence g c = λ honest agrees files holds.
     ∙ ap (λ (l : List ℕ). same_bytes (take 43 c.value.result.now) l)
     (sym (c.deref-2.ensures.value ∙ c.in_ok-spec.ensures.bytes))
     ∙ sym c.says.ensures ∙ c.if-says.false)
+
+pub returns-in_err-entry-clause-spent : goal.returns-in_err-entry-clause-spent
+returns-in_err-entry-clause-spent g c =
+    λ is. c.find_listing.ensures.spent (refused_by_call c.in_err-entry.was c.from_residual.ensures.1 is)
+
+pub returns-in_err-entry-clause-cause : goal.returns-in_err-entry-clause-cause
+returns-in_err-entry-clause-cause g c =
+    passed c.from_residual.result c.in_err-entry.field-0.0 c.from_residual.ensures.1 (λ r. IfErr r IsReadFault)
+    c.in_err-entry.ensures.cause
+
+pub returns-in_err-spec-clause-spent : goal.returns-in_err-spec-clause-spent
+returns-in_err-spec-clause-spent g c =
+    λ is. absurd (never_spent c.spell_description.result c.spell_description.ensures.memory (refused_by_call
+    c.in_err-spec.was c.from_residual-in_err-spec.ensures.1 is))
+
+pub returns-in_err-spec-clause-cause : goal.returns-in_err-spec-clause-cause
+returns-in_err-spec-clause-cause g c =
+    passed c.from_residual-in_err-spec.result c.in_err-spec.field-0.0 c.from_residual-in_err-spec.ensures.1 (λ r.
+    IfErr r IsReadFault) (memory_is_read c.in_err-spec.field-0.0 c.in_err-spec.ensures.memory)
+
+pub returns-in-None-clause-spent : goal.returns-in-None-clause-spent
+returns-in-None-clause-spent g c = λ is. never_ok is
+
+pub returns-then-says-clause-spent : goal.returns-then-says-clause-spent
+returns-then-says-clause-spent g c = λ is. never_ok is
+
+pub returns-clause-spent : goal.returns-clause-spent
+returns-clause-spent g c = λ is. never_ok is

@@ -21,6 +21,7 @@ use Rattle.alternate_keys.specs.Seen.{begins_with_value}
 use Rattle.volume_format.specs.Trees.{entry_under}
 use Rattle.btree.proofs.Frames.{unchanged_on, same_pages}
 use Rattle.alternate_keys.proofs.Tells.{repeated_is, row_there, alternate_number, alternate_long}
+use Rattle.alternate_keys.proofs.Faults.{refused_by_call}
 use Rattle.alternate_keys.proofs.found_rows.read_alternate_row.Goals as goal
 
 pub returns-in_err-row-clause-unchanged : goal.returns-in_err-row-clause-unchanged
@@ -41,9 +42,7 @@ returns-clause-unchanged g c = unchanged_on c.args.pages.now c.is_repeated.new.p
 
 pub returns-in_err-row-clause-damaged : goal.returns-in_err-row-clause-damaged
 returns-in_err-row-clause-damaged g c = λ honest agrees is spec i rows row told fits.
-    let from = rw is at c.from_residual-in_err-row.ensures.1 in
-    let fault : c.in_err-row.field-0.0 ≡ Damaged = cc from in
-    let damaged : c.get.result ≡ Err Damaged = c.in_err-row.was ∙ ap Err fault in
+    let damaged = refused_by_call c.in_err-row.was c.from_residual-in_err-row.ensures.1 is in
     let same =
     same_pages c.args.pages.now c.is_repeated.new.pages (g.D.Device.state c.args.device.now) (g.D.Device.state
     c.is_repeated.new.device) c.is_repeated.ensures.unchanged (c.is_repeated.ensures.only.state honest) in
@@ -103,8 +102,7 @@ returns-in_err-number-clause-damaged g c = λ honest agrees is spec i rows row t
 
 pub returns-in_err-repeated-clause-damaged : goal.returns-in_err-repeated-clause-damaged
 returns-in_err-repeated-clause-damaged g c = λ honest agrees is spec i rows row told fits.
-    let from = err_from_is_err_and c.from_residual-in_err-repeated.result c.from_residual-in_err-repeated.ensures.1 in
-    let damaged : c.is_repeated.result ≡ Err Damaged = cc in
+    let damaged = refused_by_call c.in_err-repeated.was c.from_residual-in_err-repeated.ensures.1 is in
     c.is_repeated.ensures.damaged honest agrees damaged told.pairs.levels told.pairs.holds
 
 pub returns-clause-found : goal.returns-clause-found

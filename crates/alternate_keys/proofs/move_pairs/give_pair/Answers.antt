@@ -1,5 +1,5 @@
-use Rattle.std.proofs.Common.{◌≡◌, ◌++◌, true, false, Ok, Err, ℕ, List, sym, ap, subst, ◌∙◌}
-use Rattle.std.specs.Prelude.{Option, is_some}
+use Rattle.std.proofs.Common.{◌≡◌, ◌++◌, true, false, Ok, Err, ℕ, List, sym, ap, subst, ◌∙◌, refl}
+use Rattle.std.specs.Prelude.{Option, is_some, IfErr}
 use Rattle.station.specs.Disk.{Sector}
 use Rattle.byteorder.specs.Endian.{big_bytes}
 use Rattle.pages.specs.Pages.{map_now}
@@ -10,6 +10,9 @@ use Rattle.records.specs.Rows.{part}
 use Rattle.records.specs.Stores.{spec_of}
 use Rattle.volume_format.specs.Grows.{IsTreeAmong}
 use Rattle.alternate_keys.specs.Moved.{pair_entry}
+use Rattle.alternate_keys.proofs.Passing.{damaged_not_spent, memory_is_write, never_ok, passed}
+use Rattle.alternate_keys.specs.Faults.{IsWriteFault}
+use Rattle.alternate_keys.proofs.Faults.{never_spent, refused_by_call}
 use Rattle.alternate_keys.proofs.move_pairs.give_pair.Goals as goal
 
 made : List ℕ → List ℕ → Entry
@@ -17,16 +20,12 @@ made key value = record { key = key; value = value }
 
 pub returns-in_err-insert_among-clause-damaged : goal.returns-in_err-insert_among-clause-damaged
 returns-in_err-insert_among-clause-damaged g c = λ honest agrees left right entries stands none refused.
-    let from = rw refused at c.from_residual-in_err-insert_among.ensures.1 in
-    let fault : c.in_err-insert_among.field-0.0 ≡ Damaged = sym from in
-    let told : c.insert_among.result ≡ Err Damaged = c.in_err-insert_among.was ∙ ap Err fault in
+    let told = refused_by_call c.in_err-insert_among.was c.from_residual-in_err-insert_among.ensures.1 refused in
     c.insert_among.ensures.damaged honest agrees left right entries stands told
 
 pub returns-in_err-insert_among-clause-room : goal.returns-in_err-insert_among-clause-room
 returns-in_err-insert_among-clause-room g c = λ honest agrees left right entries stands full.
-    let from = rw full at c.from_residual-in_err-insert_among.ensures.1 in
-    let fault : c.in_err-insert_among.field-0.0 ≡ Full = sym from in
-    let told : c.insert_among.result ≡ Err Full = c.in_err-insert_among.was ∙ ap Err fault in
+    let told = refused_by_call c.in_err-insert_among.was c.from_residual-in_err-insert_among.ensures.1 full in
     c.insert_among.ensures.room honest agrees left right entries stands told
 
 pub returns-then-branch-clause-given : goal.returns-then-branch-clause-given
@@ -58,3 +57,29 @@ returns-clause-damaged g c = λ honest agrees left right entries stands none is.
     ap (λ (e : Option Entry). is_some e) (ap (entry_with entries) key ∙ none) in
     let both : true ≡ false = sym some ∙ clash in
     cc
+
+pub returns-in_err-at-clause-spent : goal.returns-in_err-at-clause-spent
+returns-in_err-at-clause-spent g c =
+    λ is. absurd (never_spent c.pair_bytes.result c.pair_bytes.ensures.memory (refused_by_call c.in_err-at.was
+    c.from_residual.ensures.1 is))
+
+pub returns-in_err-at-clause-cause : goal.returns-in_err-at-clause-cause
+returns-in_err-at-clause-cause g c =
+    passed c.from_residual.result c.in_err-at.field-0.0 c.from_residual.ensures.1 (λ r. IfErr r IsWriteFault)
+    (memory_is_write c.in_err-at.field-0.0 c.in_err-at.ensures.memory)
+
+pub returns-in_err-insert_among-clause-spent : goal.returns-in_err-insert_among-clause-spent
+returns-in_err-insert_among-clause-spent g c =
+    λ is. c.insert_among.ensures.spent (refused_by_call c.in_err-insert_among.was
+    c.from_residual-in_err-insert_among.ensures.1 is)
+
+pub returns-in_err-insert_among-clause-cause : goal.returns-in_err-insert_among-clause-cause
+returns-in_err-insert_among-clause-cause g c =
+    passed c.from_residual-in_err-insert_among.result c.in_err-insert_among.field-0.0
+    c.from_residual-in_err-insert_among.ensures.1 (λ r. IfErr r IsWriteFault) c.in_err-insert_among.ensures.cause
+
+pub returns-then-branch-clause-spent : goal.returns-then-branch-clause-spent
+returns-then-branch-clause-spent g c = λ is. never_ok is
+
+pub returns-clause-spent : goal.returns-clause-spent
+returns-clause-spent g c = λ is. damaged_not_spent Damaged refl is

@@ -13,13 +13,12 @@ use Rattle.volume_format.specs.Grows.{IsTreeAmong}
 use Rattle.alternate_keys.specs.declared.row_verb.RowVerb.{RowVerb}
 use Rattle.alternate_keys.specs.Moved.{entries_after, MayMove, pair_entry, old_key, changes_at}
 use Rattle.alternate_keys.proofs.Still.{same_volume}
+use Rattle.alternate_keys.proofs.Faults.{refused_by_call}
 use Rattle.alternate_keys.proofs.move_pairs.move_pair.Goals as goal
 
 pub returns-in_err-give_pair-in-Insert-clause-damaged : goal.returns-in_err-give_pair-in-Insert-clause-damaged
 returns-in_err-give_pair-in-Insert-clause-damaged g c = λ honest agrees left right entries stands may refused.
-    let from = rw refused at c.from_residual.ensures.1 in
-    let fault : c.in_err-give_pair-in-Insert.field-0.0 ≡ Damaged = sym from in
-    let told : c.give_pair.result ≡ Err Damaged = c.in_err-give_pair-in-Insert.was ∙ ap Err fault in
+    let told = refused_by_call c.in_err-give_pair-in-Insert.was c.from_residual.ensures.1 refused in
     let spec : Spec = spec_of c.args.file.now in
     let old : List ℕ = c.args.old.now in
     let bytes : List ℕ = c.args.bytes.now in
@@ -28,9 +27,7 @@ returns-in_err-give_pair-in-Insert-clause-damaged g c = λ honest agrees left ri
 
 pub returns-in_err-give_pair-in-Insert-clause-room : goal.returns-in_err-give_pair-in-Insert-clause-room
 returns-in_err-give_pair-in-Insert-clause-room g c = λ honest agrees left right entries stands full.
-    let from = rw full at c.from_residual.ensures.1 in
-    let fault : c.in_err-give_pair-in-Insert.field-0.0 ≡ Full = sym from in
-    let told : c.give_pair.result ≡ Err Full = c.in_err-give_pair-in-Insert.was ∙ ap Err fault in
+    let told = refused_by_call c.in_err-give_pair-in-Insert.was c.from_residual.ensures.1 full in
     let room = c.give_pair.ensures.room honest agrees left right entries stands told in
     omega (arith, room)
 
@@ -52,9 +49,8 @@ returns-in_ok-give_pair-in-Insert-clause-few g c = λ honest agrees left right e
 
 pub returns-in_err-take_pair-in-Remove-clause-damaged : goal.returns-in_err-take_pair-in-Remove-clause-damaged
 returns-in_err-take_pair-in-Remove-clause-damaged g c = λ honest agrees left right entries stands may refused.
-    let from = rw refused at c.from_residual-in_err-take_pair-in-Remove.ensures.1 in
-    let fault : c.in_err-take_pair-in-Remove.field-0.0 ≡ Damaged = sym from in
-    let told : c.take_pair.result ≡ Err Damaged = c.in_err-take_pair-in-Remove.was ∙ ap Err fault in
+    let told =
+    refused_by_call c.in_err-take_pair-in-Remove.was c.from_residual-in_err-take_pair-in-Remove.ensures.1 refused in
     let spec : Spec = spec_of c.args.file.now in
     let old : List ℕ = c.args.old.now in
     let bytes : List ℕ = c.args.bytes.now in
@@ -79,9 +75,8 @@ returns-in_ok-take_pair-in-Remove-clause-few g c = λ honest agrees left right e
 
 pub returns-in_err-take_pair-in-Replace-clause-damaged : goal.returns-in_err-take_pair-in-Replace-clause-damaged
 returns-in_err-take_pair-in-Replace-clause-damaged g c = λ honest agrees left right entries stands may refused.
-    let from = rw refused at c.from_residual-in_err-take_pair-in-Replace.ensures.1 in
-    let fault : c.in_err-take_pair-in-Replace.field-0.0 ≡ Damaged = sym from in
-    let told : c.take_pair-in-Replace.result ≡ Err Damaged = c.in_err-take_pair-in-Replace.was ∙ ap Err fault in
+    let told =
+    refused_by_call c.in_err-take_pair-in-Replace.was c.from_residual-in_err-take_pair-in-Replace.ensures.1 refused in
     let spec : Spec = spec_of c.args.file.now in
     let old : List ℕ = c.args.old.now in
     let bytes : List ℕ = c.args.bytes.now in
@@ -92,9 +87,8 @@ returns-in_err-take_pair-in-Replace-clause-damaged g c = λ honest agrees left r
 
 pub returns-in_err-give_pair-in-Replace-clause-damaged : goal.returns-in_err-give_pair-in-Replace-clause-damaged
 returns-in_err-give_pair-in-Replace-clause-damaged g c = λ honest agrees left right entries stands may refused.
-    let from = rw refused at c.from_residual-in_err-give_pair-in-Replace.ensures.1 in
-    let fault : c.in_err-give_pair-in-Replace.field-0.0 ≡ Damaged = sym from in
-    let told : c.give_pair-in-Replace.result ≡ Err Damaged = c.in_err-give_pair-in-Replace.was ∙ ap Err fault in
+    let told =
+    refused_by_call c.in_err-give_pair-in-Replace.was c.from_residual-in_err-give_pair-in-Replace.ensures.1 refused in
     let spec : Spec = spec_of c.args.file.now in
     let old : List ℕ = c.args.old.now in
     let bytes : List ℕ = c.args.bytes.now in
@@ -112,9 +106,8 @@ returns-in_err-give_pair-in-Replace-clause-damaged g c = λ honest agrees left r
 
 pub returns-in_err-give_pair-in-Replace-clause-room : goal.returns-in_err-give_pair-in-Replace-clause-room
 returns-in_err-give_pair-in-Replace-clause-room g c = λ honest agrees left right entries stands full.
-    let from = rw full at c.from_residual-in_err-give_pair-in-Replace.ensures.1 in
-    let fault : c.in_err-give_pair-in-Replace.field-0.0 ≡ Full = sym from in
-    let told : c.give_pair-in-Replace.result ≡ Err Full = c.in_err-give_pair-in-Replace.was ∙ ap Err fault in
+    let told =
+    refused_by_call c.in_err-give_pair-in-Replace.was c.from_residual-in_err-give_pair-in-Replace.ensures.1 full in
     let spec : Spec = spec_of c.args.file.now in
     let old : List ℕ = c.args.old.now in
     let bytes : List ℕ = c.args.bytes.now in

@@ -1,28 +1,28 @@
-use Rattle.std.proofs.Common.{◌≡◌, ◌<◌, ◌+◌, ◌++◌, ℕ, List, [], ◌∷◌, length, drop, Err, refl, sym, ap, subst, ◌∙◌}
-use Rattle.std.proofs.Common.{arith}
-use Rattle.std.specs.Prelude.{Option, slice_index_or}
+use Rattle.std.proofs.Common.{◌≡◌, ◌<◌, ◌+◌, ◌++◌, ℕ, List, [], ◌∷◌, length, drop, Err, refl, sym, ap, subst}
+use Rattle.std.proofs.Common.{◌∙◌, arith}
+use Rattle.std.specs.Prelude.{Option}
 use Rattle.std.proofs.lemmas.List.{length-append}
 use Rattle.station.specs.Disk.{Sector}
 use Rattle.station.specs.State.{State}
 use Rattle.pages.specs.Use.{free_count}
-use Rattle.pages.specs.Pages.{map_now, committed_of}
-use Rattle.btree.specs.Rooted.{RootedTree}
-use Rattle.btree.specs.Entries.{Entry, entries_of}
-use Rattle.records.specs.declared.fault.StoreFault.TheVariants.{Device, Full, Damaged}
-use Rattle.records.specs.declared.key.KeyOfReference.TheVariants.{Alternate}
+use Rattle.pages.specs.Pages.{map_now}
+use Rattle.btree.specs.Calls.{pages_on}
+use Rattle.records.specs.declared.fault.StoreFault.TheVariants.{Device}
 use Rattle.records.specs.Spec.{Spec}
+use Rattle.records.specs.Files.{File}
 use Rattle.records.specs.Stores.{spec_of}
 use Rattle.volume_format.specs.Forest.{TreeLevels, IsForest}
 use Rattle.volume_format.specs.Grows.{IsTreeAmong}
-use Rattle.volume_format.specs.Trees.{AreOf}
-use Rattle.volume_format.specs.Volume.{no_tree}
-use Rattle.alternate_keys.specs.Moved.{entries_after, MayMove}
-use Rattle.alternate_keys.specs.Placed.{HaveBecome, listed_tree}
+use Rattle.alternate_keys.specs.Moved.{PairsMove, entries_after}
+use Rattle.alternate_keys.specs.Placed.{OnIndexes, HaveBecome, listed_tree}
 use Rattle.alternate_keys.proofs.Calling.{edits_nothing, edits_then}
+use Rattle.alternate_keys.proofs.Faults.{refused_by_call}
 use Rattle.alternate_keys.proofs.Keeping.{same_tree}
-use Rattle.alternate_keys.proofs.Pairing.{stands_next, become_next, entries_ascend, pairs_next}
+use Rattle.alternate_keys.proofs.KeyTurn.{IsTurn, lefts, rights, entries_there, turn_stands, turn_may, turn_over}
 use Rattle.alternate_keys.proofs.Still.{same_volume}
+use Rattle.alternate_keys.proofs.move_pairs.move_pairs.Given.{Over}
 use Rattle.alternate_keys.proofs.move_pairs.move_pairs.Goals as goal
+use Rattle.alternate_keys.proofs.move_pairs.move_pairs.Goals.{After-move_pair, After-push}
 
 drop_none : {X : Type 0} (xs : List X) → drop 0 xs ≡ xs
 drop_none [] = refl
@@ -46,188 +46,103 @@ loop-key-init g c = record {
   count = ap (λ (l : List ℕ). length l) c.new-roots.ensures.items;
 }
 
-pub returns-in_err-move_pair-clause-room : goal.returns-in_err-move_pair-clause-room
-returns-in_err-move_pair-clause-room g c = λ honest agrees held left right trees is has after spec_then move full.
-    let from = rw full at c.from_residual.ensures.1 in
-    let fault : c.in_err-move_pair.field-0.0 ≡ Full = sym from in
-    let told : c.move_pair.result ≡ Err Full = c.in_err-move_pair.was ∙ ap Err fault in
-    let loop = c.loop-key in
-    let spec : Spec = spec_of c.args.file.now in
-    let listing : List ℕ = c.args.listing.now in
-    let old : List ℕ = c.args.old.now in
-    let bytes : List ℕ = c.args.bytes.now in
-    let image = (g.D.Device.state c.args.device.now).disk.present in
-    let before : List (Option Sector) = (map_now c.args.pages.now image).pages in
-    let here : List (Option Sector) = (map_now loop.pages image).pages in
-    let honest_then = loop.invariant.edits.only.honest.0 honest in
-    let agrees_then = loop.invariant.edits.agrees honest agrees in
-    let still = loop.invariant.edits.only.state honest in
-    let same : (map_now loop.pages (g.D.Device.state loop.device).disk.present).pages ≡ here =
-    ap (λ (s : State). (map_now loop.pages s.disk.present).pages) still in
+-- the turn of the key, and its tree among the others
+turn : (g : Over) (c : After-move_pair g) → OnIndexes g.D.Device (spec_of c.args.file.now) c.args.pages.now
+    c.args.device.now c.args.listing.now (λ held left right trees. (after : File) → after.spec ≡ held.spec
+    → PairsMove c.args.verb held after c.args.old.now c.args.bytes.now c.args.arrival →
+    IsTurn held after (pages_on g.D.Device c.args.pages.now c.args.device.now)
+    (pages_on g.D.Device c.loop-key.pages c.args.device.now) left right trees c.args.listing.now c.loop-key.key
+    c.loop-key.roots.items c.file_tree-tree.result)
+turn g c honest agrees held left right trees is has after spec_then move =
     let n : c.len-count.result ≡ length c.args.file.now.alternates.items =
     omega (arith, c.len-count.ensures, c.args.file.now.alternates.ok) in
-    let become : HaveBecome after here left right trees loop.key loop.roots.items =
-    loop.invariant.came honest agrees held left right trees is has after spec_then move in
-    let low : loop.key < length spec.alternates = let test = c.loop-key-test.true in omega (arith, n, test) in
-    let low_held : loop.key < length held.spec.alternates =
-    subst (λ (s : Spec). loop.key < length s.alternates) (sym is) low in
-    let tree : RootedTree = c.file_tree-tree.result in
-    let tree_is : tree ≡ listed_tree held.spec loop.key listing =
-    same_tree tree (listed_tree spec loop.key listing) c.file_tree-tree.ensures.layout c.file_tree-tree.ensures.root
-    ∙ ap (λ (s : Spec). listed_tree s loop.key listing) (sym is) in
-    let lefts : List TreeLevels = left ++ become.done in
-    let rights : List TreeLevels = drop (loop.key + 1) trees ++ right in
-    let t : TreeLevels = slice_index_or trees loop.key no_tree in
-    let entries : List Entry = entries_of tree.layout t.levels in
-    let stands_here = stands_next held after before here left right trees listing loop.key loop.roots.items has become
-    low_held tree tree_is in
-    let stands = subst (λ (p : List (Option Sector)). IsTreeAmong p lefts rights tree entries) (sym same) stands_here in
-    let few = loop.invariant.few honest agrees held left right trees is has after spec_then move in
-    let room = c.move_pair.ensures.room honest_then agrees_then lefts rights entries stands told in
-    let committed : free_count (committed_of loop.pages) ≡ free_count (committed_of c.args.pages.now) =
-    ap free_count (same_volume c.args.pages.now loop.pages loop.invariant.edits.committed) in
-    omega (arith, few, room, committed, low)
+    let test = c.loop-key-test.true in
+    record {
+      has = has;
+      become = c.loop-key.invariant.came honest agrees held left right trees is has after spec_then move;
+      low = subst (λ (s : Spec). c.loop-key.key < length s.alternates) (sym is) (omega (arith, n, test));
+      tree_is = same_tree c.file_tree-tree.result (listed_tree (spec_of c.args.file.now) c.loop-key.key
+          c.args.listing.now) c.file_tree-tree.ensures.layout c.file_tree-tree.ensures.root
+          ∙ ap (λ (s : Spec). listed_tree s c.loop-key.key c.args.listing.now) (sym is);
+    }
+
+stands : (g : Over) (c : After-move_pair g) {held after : File} {before : List (Option Sector)}
+    {left right trees : List TreeLevels} {listing : List ℕ} {i : ℕ} {roots : List ℕ} → g.D.Device.is_honest
+    c.args.device.now → (t : IsTurn held after before (pages_on g.D.Device c.loop-key.pages c.args.device.now) left
+    right trees listing i roots c.file_tree-tree.result) → IsTreeAmong (pages_on g.D.Device c.loop-key.pages
+    c.loop-key.device) (lefts t) (rights t) c.file_tree-tree.result (entries_there t)
+stands g c honest t =
+    subst (λ (s : State). IsTreeAmong (map_now c.loop-key.pages s.disk.present).pages (lefts t) (rights t)
+    c.file_tree-tree.result (entries_there t)) (sym (c.loop-key.invariant.edits.only.state honest)) (turn_stands t)
+
+pub returns-in_err-move_pair-clause-room : goal.returns-in_err-move_pair-clause-room
+returns-in_err-move_pair-clause-room g c = λ honest agrees held left right trees is has after spec_then move full.
+    let at = (goal.at.returns-in_err-move_pair-clause-room g c).After-move_pair in
+    let t = turn g at honest agrees held left right trees is has after spec_then move in
+    let edits = c.loop-key.invariant.edits in
+    let room = c.move_pair.ensures.room (edits.only.honest.0 honest) (edits.agrees honest agrees) (lefts t) (rights t)
+    (entries_there t) (stands g at honest t)
+    (refused_by_call c.in_err-move_pair.was c.from_residual.ensures.1 full) in
+    let few = c.loop-key.invariant.few honest agrees held left right trees is has after spec_then move in
+    let committed = ap free_count (same_volume c.args.pages.now c.loop-key.pages edits.committed) in
+    let low = t.low in
+    let count = ap (λ (s : Spec). length s.alternates) is in
+    omega (arith, few, room, committed, low, count)
 
 pub returns-in_err-move_pair-clause-damaged : goal.returns-in_err-move_pair-clause-damaged
 returns-in_err-move_pair-clause-damaged g c =
     λ honest agrees held left right trees is has after spec_then move may refused.
-    let from = rw refused at c.from_residual.ensures.1 in
-    let fault : c.in_err-move_pair.field-0.0 ≡ Damaged = sym from in
-    let told : c.move_pair.result ≡ Err Damaged = c.in_err-move_pair.was ∙ ap Err fault in
-    let loop = c.loop-key in
-    let spec : Spec = spec_of c.args.file.now in
-    let listing : List ℕ = c.args.listing.now in
-    let old : List ℕ = c.args.old.now in
-    let bytes : List ℕ = c.args.bytes.now in
-    let image = (g.D.Device.state c.args.device.now).disk.present in
-    let before : List (Option Sector) = (map_now c.args.pages.now image).pages in
-    let here : List (Option Sector) = (map_now loop.pages image).pages in
-    let honest_then = loop.invariant.edits.only.honest.0 honest in
-    let agrees_then = loop.invariant.edits.agrees honest agrees in
-    let still = loop.invariant.edits.only.state honest in
-    let same : (map_now loop.pages (g.D.Device.state loop.device).disk.present).pages ≡ here =
-    ap (λ (s : State). (map_now loop.pages s.disk.present).pages) still in
-    let n : c.len-count.result ≡ length c.args.file.now.alternates.items =
-    omega (arith, c.len-count.ensures, c.args.file.now.alternates.ok) in
-    let become : HaveBecome after here left right trees loop.key loop.roots.items =
-    loop.invariant.came honest agrees held left right trees is has after spec_then move in
-    let low : loop.key < length spec.alternates = let test = c.loop-key-test.true in omega (arith, n, test) in
-    let low_held : loop.key < length held.spec.alternates =
-    subst (λ (s : Spec). loop.key < length s.alternates) (sym is) low in
-    let tree : RootedTree = c.file_tree-tree.result in
-    let tree_is : tree ≡ listed_tree held.spec loop.key listing =
-    same_tree tree (listed_tree spec loop.key listing) c.file_tree-tree.ensures.layout c.file_tree-tree.ensures.root
-    ∙ ap (λ (s : Spec). listed_tree s loop.key listing) (sym is) in
-    let lefts : List TreeLevels = left ++ become.done in
-    let rights : List TreeLevels = drop (loop.key + 1) trees ++ right in
-    let t : TreeLevels = slice_index_or trees loop.key no_tree in
-    let entries : List Entry = entries_of tree.layout t.levels in
-    let stands_here = stands_next held after before here left right trees listing loop.key loop.roots.items has become
-    low_held tree tree_is in
-    let stands = subst (λ (p : List (Option Sector)). IsTreeAmong p lefts rights tree entries) (sym same) stands_here in
-    let own =
-    may loop.key entries low_held (pairs_next held before left right trees listing loop.key has low_held tree tree_is)
-    (entries_ascend here lefts rights tree entries stands_here) in
-    let mine = subst (λ (s : Spec). MayMove c.args.verb s loop.key old bytes c.args.arrival entries) is own in
-    c.move_pair.ensures.damaged honest_then agrees_then lefts rights entries stands mine told
+    let at = (goal.at.returns-in_err-move_pair-clause-damaged g c).After-move_pair in
+    let t = turn g at honest agrees held left right trees is has after spec_then move in
+    let edits = c.loop-key.invariant.edits in
+    c.move_pair.ensures.damaged (edits.only.honest.0 honest) (edits.agrees honest agrees) (lefts t) (rights t)
+    (entries_there t) (stands g at honest t) (turn_may t c.args.verb (spec_of c.args.file.now) c.args.old.now
+    c.args.bytes.now c.args.arrival is may)
+    (refused_by_call c.in_err-move_pair.was c.from_residual.ensures.1 refused)
+
+-- the tree of the key has become that of the changed file
+came : (g : Over) (c : After-push g) → OnIndexes g.D.Device (spec_of c.args.file.now) c.args.pages.now
+    c.args.device.now c.args.listing.now (λ held left right trees. (after : File) → after.spec ≡ held.spec
+    → PairsMove c.args.verb held after c.args.old.now c.args.bytes.now c.args.arrival →
+    (t : IsTurn held after (pages_on g.D.Device c.args.pages.now c.args.device.now)
+    (pages_on g.D.Device c.loop-key.pages c.args.device.now) left right trees c.args.listing.now c.loop-key.key
+    c.loop-key.roots.items c.file_tree-tree.result) → IsTreeAmong (pages_on g.D.Device c.loop-key.pages
+    c.loop-key.device) (lefts t) (rights t) c.file_tree-tree.result (entries_there t) →
+    (next : List ℕ) → c.loop-key.roots.items ++ c.root.result ∷ [] ≡ next
+    → HaveBecome after (pages_on g.D.Device c.move_pair.new.pages c.args.device.now) left right trees
+    (c.loop-key.key + 1) next)
+came g c honest agrees held left right trees is has after spec_then move t there next pushed =
+    let edits = c.loop-key.invariant.edits in
+    let told = c.in_ok-move_pair.ensures.moved (edits.only.honest.0 honest) (edits.agrees honest agrees) (lefts t)
+    (rights t) (entries_there t) there in
+    let put = subst (λ (s : State). IsTreeAmong (map_now c.move_pair.new.pages s.disk.present).pages (lefts t)
+    (rights t) c.move_pair.new.tree (entries_after c.args.verb (spec_of c.args.file.now) c.loop-key.key c.args.old.now
+    c.args.bytes.now c.args.arrival (entries_there t))) (edits.only.state honest) told in
+    turn_over t c.args.verb (spec_of c.args.file.now) c.args.old.now c.args.bytes.now c.args.arrival is spec_then move
+    (pages_on g.D.Device c.move_pair.new.pages c.args.device.now) c.move_pair.new.tree c.move_pair.ensures.layout put
+    next (ap (λ (r : ℕ). c.loop-key.roots.items ++ r ∷ []) (sym c.root.ensures) ∙ pushed)
 
 pub loop-key-preserved : goal.loop-key-preserved
 loop-key-preserved g c = record {
-  edits =
-      let loop = c.loop-key in
-      edits_then g.D.Device ⊥ (c.move_pair.result ≡ Err Device) ⊥ c.args.pages.now loop.pages
-      c.move_pair.new.pages c.args.device.now loop.device c.move_pair.new.device (λ is. absurd is) loop.invariant.edits
-      c.move_pair.ensures.edits;
+  edits = edits_then g.D.Device ⊥ (c.move_pair.result ≡ Err Device) ⊥ _ _ _ _ _ _ (λ is. absurd is)
+      c.loop-key.invariant.edits c.move_pair.ensures.edits;
   came = λ honest agrees held left right trees is has after spec_then move.
-      let loop = c.loop-key in
-      let spec : Spec = spec_of c.args.file.now in
-      let listing : List ℕ = c.args.listing.now in
-      let old : List ℕ = c.args.old.now in
-      let bytes : List ℕ = c.args.bytes.now in
-      let image = (g.D.Device.state c.args.device.now).disk.present in
-      let before : List (Option Sector) = (map_now c.args.pages.now image).pages in
-      let here : List (Option Sector) = (map_now loop.pages image).pages in
-      let honest_then = loop.invariant.edits.only.honest.0 honest in
-      let agrees_then = loop.invariant.edits.agrees honest agrees in
-      let still = loop.invariant.edits.only.state honest in
-      let same : (map_now loop.pages (g.D.Device.state loop.device).disk.present).pages ≡ here =
-      ap (λ (s : State). (map_now loop.pages s.disk.present).pages) still in
-      let n : c.len-count.result ≡ length c.args.file.now.alternates.items =
-      omega (arith, c.len-count.ensures, c.args.file.now.alternates.ok) in
-      let become : HaveBecome after here left right trees loop.key loop.roots.items =
-      loop.invariant.came honest agrees held left right trees is has after spec_then move in
-      let low : loop.key < length spec.alternates = let test = c.loop-key-test.true in omega (arith, n, test) in
-      let low_held : loop.key < length held.spec.alternates =
-      subst (λ (s : Spec). loop.key < length s.alternates) (sym is) low in
-      let tree : RootedTree = c.file_tree-tree.result in
-      let tree_is : tree ≡ listed_tree held.spec loop.key listing =
-      same_tree tree (listed_tree spec loop.key listing) c.file_tree-tree.ensures.layout c.file_tree-tree.ensures.root
-      ∙ ap (λ (s : Spec). listed_tree s loop.key listing) (sym is) in
-      let lefts : List TreeLevels = left ++ become.done in
-      let rights : List TreeLevels = drop (loop.key + 1) trees ++ right in
-      let t : TreeLevels = slice_index_or trees loop.key no_tree in
-      let entries : List Entry = entries_of tree.layout t.levels in
-      let stands_here = stands_next held after before here left right trees listing loop.key loop.roots.items has become
-      low_held tree tree_is in
-      let stands =
-      subst (λ (p : List (Option Sector)). IsTreeAmong p lefts rights tree entries) (sym same) stands_here in
-      let new : RootedTree = c.move_pair.new.tree in
-      let later : List (Option Sector) = (map_now c.move_pair.new.pages image).pages in
-      let told = c.in_ok-move_pair.ensures.moved honest_then agrees_then lefts rights entries stands in
-      let put = subst (λ (s : State). IsTreeAmong (map_now c.move_pair.new.pages s.disk.present).pages lefts rights new
-      (entries_after c.args.verb spec loop.key old bytes c.args.arrival entries)) still told in
-      let own = move loop.key entries low_held (pairs_next held before left right trees listing loop.key has low_held
-      tree tree_is) (entries_ascend here lefts rights tree entries stands_here) in
-      let mine = subst (λ (s : Spec). AreOf after.spec (Alternate loop.key) after.rows
-      (entries_after c.args.verb s loop.key old bytes c.args.arrival entries)) (spec_then ∙ is) own in
-      let next = become_next held after before here later left right trees listing loop.key loop.roots.items
-      has become low_held tree new (entries_after c.args.verb spec loop.key old bytes c.args.arrival entries) tree_is
-      c.move_pair.ensures.layout spec_then mine put in
-      let pushed : loop.roots.items ++ new.root ∷ [] ≡ c.push.new.self.items =
-      ap (λ (r : ℕ). loop.roots.items ++ r ∷ []) (sym c.root.ensures) ∙ sym c.in_ok-push.ensures.items in
-      subst (λ (l : List ℕ). HaveBecome after later left right trees (loop.key + 1) l) pushed next;
+      let at = goal.at.loop-key-preserved g c in
+      let t = turn g at.After-move_pair honest agrees held left right trees is has after spec_then move in
+      came g at.After-push honest agrees held left right trees is has after spec_then move t
+      (stands g at.After-move_pair honest t) c.push.new.self.items (sym c.in_ok-push.ensures.items);
   few = λ honest agrees held left right trees is has after spec_then move.
-      let loop = c.loop-key in
-      let spec : Spec = spec_of c.args.file.now in
-      let listing : List ℕ = c.args.listing.now in
-      let old : List ℕ = c.args.old.now in
-      let bytes : List ℕ = c.args.bytes.now in
-      let image = (g.D.Device.state c.args.device.now).disk.present in
-      let before : List (Option Sector) = (map_now c.args.pages.now image).pages in
-      let here : List (Option Sector) = (map_now loop.pages image).pages in
-      let honest_then = loop.invariant.edits.only.honest.0 honest in
-      let agrees_then = loop.invariant.edits.agrees honest agrees in
-      let still = loop.invariant.edits.only.state honest in
-      let same : (map_now loop.pages (g.D.Device.state loop.device).disk.present).pages ≡ here =
-      ap (λ (s : State). (map_now loop.pages s.disk.present).pages) still in
-      let n : c.len-count.result ≡ length c.args.file.now.alternates.items =
-      omega (arith, c.len-count.ensures, c.args.file.now.alternates.ok) in
-      let become : HaveBecome after here left right trees loop.key loop.roots.items =
-      loop.invariant.came honest agrees held left right trees is has after spec_then move in
-      let low : loop.key < length spec.alternates = let test = c.loop-key-test.true in omega (arith, n, test) in
-      let low_held : loop.key < length held.spec.alternates =
-      subst (λ (s : Spec). loop.key < length s.alternates) (sym is) low in
-      let tree : RootedTree = c.file_tree-tree.result in
-      let tree_is : tree ≡ listed_tree held.spec loop.key listing =
-      same_tree tree (listed_tree spec loop.key listing) c.file_tree-tree.ensures.layout c.file_tree-tree.ensures.root
-      ∙ ap (λ (s : Spec). listed_tree s loop.key listing) (sym is) in
-      let lefts : List TreeLevels = left ++ become.done in
-      let rights : List TreeLevels = drop (loop.key + 1) trees ++ right in
-      let t : TreeLevels = slice_index_or trees loop.key no_tree in
-      let entries : List Entry = entries_of tree.layout t.levels in
-      let stands_here = stands_next held after before here left right trees listing loop.key loop.roots.items has become
-      low_held tree tree_is in
-      let stands =
-      subst (λ (p : List (Option Sector)). IsTreeAmong p lefts rights tree entries) (sym same) stands_here in
-      let few = loop.invariant.few honest agrees held left right trees is has after spec_then move in
-      let more = c.in_ok-move_pair.ensures.few honest_then agrees_then lefts rights entries stands in
+      let at = (goal.at.loop-key-preserved g c).After-move_pair in
+      let t = turn g at honest agrees held left right trees is has after spec_then move in
+      let edits = c.loop-key.invariant.edits in
+      let more = c.in_ok-move_pair.ensures.few (edits.only.honest.0 honest) (edits.agrees honest agrees) (lefts t)
+      (rights t) (entries_there t) (stands g at honest t) in
+      let few = c.loop-key.invariant.few honest agrees held left right trees is has after spec_then move in
       omega (arith, few, more);
   count =
-      let loop = c.loop-key in
-      let all : length c.push.new.self.items ≡ length (loop.roots.items ++ c.root.result ∷ []) =
-      ap (λ (l : List ℕ). length l) c.in_ok-push.ensures.items in
-      let many = length-append loop.roots.items (c.root.result ∷ []) in
-      let count = loop.invariant.count in
+      let all = ap (λ (l : List ℕ). length l) c.in_ok-push.ensures.items in
+      let many = length-append c.loop-key.roots.items (c.root.result ∷ []) in
+      let count = c.loop-key.invariant.count in
       omega (arith, all, many, count);
 }
 

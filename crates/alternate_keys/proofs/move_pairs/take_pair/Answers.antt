@@ -1,11 +1,14 @@
 use Rattle.std.proofs.Common.{◌≡◌, ℕ, List, sym, subst, ◌∙◌}
-use Rattle.std.specs.Prelude.{Option, IsSome, OnOk}
+use Rattle.std.specs.Prelude.{Option, IsSome, OnOk, IfErr}
 use Rattle.station.specs.Disk.{Sector}
 use Rattle.pages.specs.Pages.{map_now}
 use Rattle.btree.specs.Entries.{entry_with, without_entry}
 use Rattle.records.specs.Stores.{spec_of}
 use Rattle.volume_format.specs.Grows.{IsTreeAmong}
 use Rattle.alternate_keys.specs.Moved.{old_key}
+use Rattle.alternate_keys.proofs.Passing.{memory_is_read, passed}
+use Rattle.alternate_keys.proofs.Faults.{never_spent, refused_by_call}
+use Rattle.alternate_keys.specs.Faults.{IsReadFault}
 use Rattle.alternate_keys.proofs.move_pairs.take_pair.Goals as goal
 
 pub returns-clause-taken : goal.returns-clause-taken
@@ -24,3 +27,13 @@ returns-clause-damaged g c = λ honest agrees left right entries stands some is.
     c.deref.ensures.value ∙ c.in_ok-at.ensures.key in
     c.remove_among.ensures.damaged honest agrees left right entries stands
     (subst (λ (k : List ℕ). IsSome (entry_with entries k)) (sym key) some) is
+
+pub returns-in_err-at-clause-spent : goal.returns-in_err-at-clause-spent
+returns-in_err-at-clause-spent g c =
+    λ is. absurd (never_spent c.old_pair.result c.old_pair.ensures.memory (refused_by_call c.in_err-at.was
+    c.from_residual.ensures.1 is))
+
+pub returns-in_err-at-clause-cause : goal.returns-in_err-at-clause-cause
+returns-in_err-at-clause-cause g c =
+    passed c.from_residual.result c.in_err-at.field-0.0 c.from_residual.ensures.1 (λ r. IfErr r IsReadFault)
+    (memory_is_read c.in_err-at.field-0.0 c.in_err-at.ensures.memory)

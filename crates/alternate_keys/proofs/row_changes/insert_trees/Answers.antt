@@ -1,8 +1,8 @@
-use Rattle.std.proofs.Common.{◌≡◌, ◌<◌, ◌+◌, Ok, Err, ℕ, List, [], length, sym, ap, ◌∙◌, arith}
+use Rattle.std.proofs.Common.{◌≡◌, ◌<◌, ◌+◌, Ok, Err, ℕ, List, [], length, sym, ap, ◌∙◌, arith, refl}
 use Rattle.pages.specs.Use.{free_count}
 use Rattle.pages.specs.Pages.{committed_of, changed_pages_of}
 use Rattle.btree.proofs.Frames.{unchanged_on}
-use Rattle.records.specs.declared.fault.StoreFault.TheVariants.{Device, Full}
+use Rattle.records.specs.declared.fault.StoreFault.TheVariants.{Device, Full, Damaged}
 use Rattle.records.specs.Changes.{FileChange, insertion}
 use Rattle.records.specs.Files.{NamedFile}
 use Rattle.records.specs.Stores.{spec_of, is_change}
@@ -12,7 +12,7 @@ use Rattle.alternate_keys.specs.Calls.{Edits}
 use Rattle.alternate_keys.specs.Moved.{named_after}
 use Rattle.alternate_keys.specs.Placed.{OnTrees}
 use Rattle.alternate_keys.proofs.Bytes.{all_bytes}
-use Rattle.alternate_keys.proofs.Calling.{looks_edits, edits_blamed, edits_last}
+use Rattle.alternate_keys.proofs.Calling.{looks_edits, edits_blamed, edits_last, sectors_still}
 use Rattle.alternate_keys.proofs.Faults.{never_full, refused_by_call}
 use Rattle.alternate_keys.proofs.FileTrees.{arrival_few, arrival_is, prime_stands}
 use Rattle.alternate_keys.proofs.HeldTrees.{HoldsTrees, still_holds}
@@ -20,6 +20,10 @@ use Rattle.alternate_keys.proofs.InsertRow.{IsNew, Inserts, taken_numbered, inse
 use Rattle.alternate_keys.proofs.Moving.{IsMoving, room_then, few_then, placed_then}
 use Rattle.alternate_keys.proofs.MovingRows.{HasNewRow, has_new_row, inserted_moves}
 use Rattle.alternate_keys.proofs.Still.{room_before}
+use Rattle.alternate_keys.proofs.Passing.{damaged_not_spent, never_ok, passed, read_is_write, spent_before}
+use Rattle.std.specs.Prelude.{IfErr}
+use Rattle.alternate_keys.specs.Faults.{IsWriteFault}
+use Rattle.alternate_keys.proofs.Passing.{damaged_not_device}
 use Rattle.alternate_keys.proofs.row_changes.insert_trees.Given.{Over}
 use Rattle.alternate_keys.proofs.row_changes.insert_trees.Goals as goal
 use Rattle.alternate_keys.proofs.row_changes.insert_trees.Goals.{After-look_at_new_row, After-insert_row}
@@ -210,12 +214,12 @@ returns-in_err-outcome-clause-edits g c =
 
 pub returns-then-not-is_done-clause-edits : goal.returns-then-not-is_done-clause-edits
 returns-then-not-is_done-clause-edits g c =
-    edits_blamed g.D.Device _ _ _ _ _ _ (λ is. absurd cc)
+    edits_blamed g.D.Device _ _ _ _ _ _ (λ is. never_ok is)
     (looks_edits g.D.Device _ _ _ _ _ c.look_at_new_row.ensures.looks)
 
 pub returns-then-arrival-clause-edits : goal.returns-then-arrival-clause-edits
 returns-then-arrival-clause-edits g c =
-    edits_blamed g.D.Device _ _ _ _ _ _ (λ is. absurd cc)
+    edits_blamed g.D.Device _ _ _ _ _ _ (λ is. damaged_not_device is)
     (looks_edits g.D.Device _ _ _ _ _ c.look_at_new_row.ensures.looks)
 
 put : (g : Over) (c : After-insert_row g) → Edits g.D.Device (c.insert_row.result ≡ Err Device) c.args.pages.now
@@ -231,7 +235,7 @@ returns-in_err-insert_row-clause-edits g c =
 
 pub returns-then-not-branch-clause-edits : goal.returns-then-not-branch-clause-edits
 returns-then-not-branch-clause-edits g c =
-    edits_blamed g.D.Device _ _ _ _ _ _ (λ is. absurd cc)
+    edits_blamed g.D.Device _ _ _ _ _ _ (λ is. never_ok is)
     (put g (goal.at.returns-then-not-branch-clause-edits g c).After-insert_row)
 
 pub returns-in_err-listing-clause-edits : goal.returns-in_err-listing-clause-edits
@@ -242,7 +246,7 @@ returns-in_err-listing-clause-edits g c =
 
 pub returns-clause-edits : goal.returns-clause-edits
 returns-clause-edits g c =
-    edits_last g.D.Device _ _ _ _ _ _ _ _ _ (λ is. absurd cc)
+    edits_last g.D.Device _ _ _ _ _ _ _ _ _ (λ is. never_ok is)
     (put g (goal.at.returns-clause-edits g c).After-insert_row) c.move_row.ensures.edits
 
 pub returns-then-not-branch-clause-same : goal.returns-then-not-branch-clause-same
@@ -271,3 +275,71 @@ pub returns-in_err-outcome-clause-full : goal.returns-in_err-outcome-clause-full
 returns-in_err-outcome-clause-full g c = λ unspent honest agrees named generation left right has full.
     absurd (never_full c.look_at_new_row.result c.look_at_new_row.ensures.cause
     (refused_by_call c.in_err-outcome.was c.from_residual.ensures.1 full))
+
+pub returns-in_err-outcome-clause-spent : goal.returns-in_err-outcome-clause-spent
+returns-in_err-outcome-clause-spent g c =
+    λ is. c.look_at_new_row.ensures.spent (refused_by_call c.in_err-outcome.was c.from_residual.ensures.1 is)
+
+pub returns-in_err-outcome-clause-cause : goal.returns-in_err-outcome-clause-cause
+returns-in_err-outcome-clause-cause g c =
+    passed c.from_residual.result c.in_err-outcome.field-0.0 c.from_residual.ensures.1 (λ r. IfErr r IsWriteFault)
+    (read_is_write c.in_err-outcome.field-0.0 c.in_err-outcome.ensures.cause)
+
+pub returns-in_err-outcome-clause-room : goal.returns-in_err-outcome-clause-room
+returns-in_err-outcome-clause-room g c =
+    λ honest agrees named generation left right has is. absurd (never_full c.look_at_new_row.result
+    c.look_at_new_row.ensures.cause (refused_by_call c.in_err-outcome.was c.from_residual.ensures.1 is))
+
+pub insert_row-requires-clause-sectors : goal.insert_row-requires-clause-sectors
+insert_row-requires-clause-sectors g c =
+    sectors_still g.D.Device _ c.args.pages.now c.look_at_new_row.new.pages c.args.device.now
+    c.look_at_new_row.new.device c.look_at_new_row.ensures.looks.only
+    c.look_at_new_row.ensures.looks.unchanged.committed c.requires.sectors
+
+pub insert_row-requires-clause-open : goal.insert_row-requires-clause-open
+insert_row-requires-clause-open g c = c.look_at_new_row.ensures.looks.is_open
+
+pub returns-in_err-insert_row-clause-spent : goal.returns-in_err-insert_row-clause-spent
+returns-in_err-insert_row-clause-spent g c =
+    λ is. spent_before c.args.pages.now c.look_at_new_row.new.pages
+    c.look_at_new_row.ensures.looks.unchanged.committed (c.insert_row.ensures.spent (refused_by_call
+    c.in_err-insert_row.was c.from_residual-in_err-insert_row.ensures.1 is))
+
+pub returns-in_err-insert_row-clause-cause : goal.returns-in_err-insert_row-clause-cause
+returns-in_err-insert_row-clause-cause g c =
+    passed c.from_residual-in_err-insert_row.result c.in_err-insert_row.field-0.0
+    c.from_residual-in_err-insert_row.ensures.1 (λ r. IfErr r IsWriteFault) c.in_err-insert_row.ensures.cause
+
+pub move_row-requires-clause-sectors : goal.move_row-requires-clause-sectors
+move_row-requires-clause-sectors g c =
+    sectors_still g.D.Device _ c.look_at_new_row.new.pages c.insert_row.new.pages c.look_at_new_row.new.device
+    c.insert_row.new.device c.insert_row.ensures.only c.insert_row.ensures.committed (sectors_still g.D.Device _
+    c.args.pages.now c.look_at_new_row.new.pages c.args.device.now c.look_at_new_row.new.device
+    c.look_at_new_row.ensures.looks.only c.look_at_new_row.ensures.looks.unchanged.committed c.requires.sectors)
+
+pub move_row-requires-clause-open : goal.move_row-requires-clause-open
+move_row-requires-clause-open g c = c.insert_row.ensures.open
+
+pub returns-in_err-listing-clause-spent : goal.returns-in_err-listing-clause-spent
+returns-in_err-listing-clause-spent g c =
+    λ is. spent_before c.args.pages.now c.look_at_new_row.new.pages
+    c.look_at_new_row.ensures.looks.unchanged.committed (spent_before c.look_at_new_row.new.pages
+    c.insert_row.new.pages c.insert_row.ensures.committed (c.move_row.ensures.spent (refused_by_call
+    c.in_err-listing.was c.from_residual-in_err-listing.ensures.1 is)))
+
+pub returns-in_err-listing-clause-cause : goal.returns-in_err-listing-clause-cause
+returns-in_err-listing-clause-cause g c =
+    passed c.from_residual-in_err-listing.result c.in_err-listing.field-0.0 c.from_residual-in_err-listing.ensures.1
+    (λ r. IfErr r IsWriteFault) c.in_err-listing.ensures.cause
+
+pub returns-then-not-is_done-clause-spent : goal.returns-then-not-is_done-clause-spent
+returns-then-not-is_done-clause-spent g c = λ is. never_ok is
+
+pub returns-then-not-branch-clause-spent : goal.returns-then-not-branch-clause-spent
+returns-then-not-branch-clause-spent g c = λ is. never_ok is
+
+pub returns-clause-spent : goal.returns-clause-spent
+returns-clause-spent g c = λ is. never_ok is
+
+pub returns-then-arrival-clause-spent : goal.returns-then-arrival-clause-spent
+returns-then-arrival-clause-spent g c = λ is. damaged_not_spent Damaged refl is

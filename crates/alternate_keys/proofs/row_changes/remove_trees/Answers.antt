@@ -8,7 +8,7 @@ use Rattle.alternate_keys.specs.declared.row_verb.RowVerb.TheVariants.{Remove}
 use Rattle.alternate_keys.specs.Calls.{Edits}
 use Rattle.alternate_keys.specs.Moved.{named_after}
 use Rattle.alternate_keys.specs.Placed.{OnTrees}
-use Rattle.alternate_keys.proofs.Calling.{looks_edits, edits_blamed, edits_last}
+use Rattle.alternate_keys.proofs.Calling.{looks_edits, edits_blamed, edits_last, sectors_still}
 use Rattle.alternate_keys.proofs.Faults.{never_full, refused_by_call}
 use Rattle.alternate_keys.proofs.FileTrees.{prime_stands, prime_rows}
 use Rattle.alternate_keys.proofs.FoundRow.{none_at, entry_there, value_long}
@@ -16,6 +16,9 @@ use Rattle.alternate_keys.proofs.HeldTrees.{HoldsRow, holds_row}
 use Rattle.alternate_keys.proofs.Moving.{IsMoving, room_then, few_then, placed_then}
 use Rattle.alternate_keys.proofs.MovingRows.{removed_moves}
 use Rattle.alternate_keys.proofs.RemoveRow.{removed_missing, removed_done}
+use Rattle.std.specs.Prelude.{IfErr}
+use Rattle.alternate_keys.specs.Faults.{IsWriteFault}
+use Rattle.alternate_keys.proofs.Passing.{never_ok, passed, read_is_write, spent_before}
 use Rattle.alternate_keys.proofs.row_changes.remove_trees.Given.{Over}
 use Rattle.alternate_keys.proofs.row_changes.remove_trees.Goals as goal
 use Rattle.alternate_keys.proofs.row_changes.remove_trees.Goals.{In-Some, After-remove_among, After-move_row}
@@ -129,7 +132,7 @@ returns-in_err-row-clause-edits g c =
 
 pub returns-in-None-clause-edits : goal.returns-in-None-clause-edits
 returns-in-None-clause-edits g c =
-    edits_blamed g.D.Device _ _ _ _ _ _ (λ is. absurd cc) (looks_edits g.D.Device _ _ _ _ _ c.find_row.ensures.looks)
+    edits_blamed g.D.Device _ _ _ _ _ _ (λ is. never_ok is) (looks_edits g.D.Device _ _ _ _ _ c.find_row.ensures.looks)
 
 -- what was read and written until the row left the tree of rows
 put : (g : Over) (c : After-remove_among g) → Edits g.D.Device (c.remove_among.result ≡ Err Device) c.args.pages.now
@@ -151,7 +154,7 @@ returns-in_err-listing-clause-edits g c =
 
 pub returns-clause-edits : goal.returns-clause-edits
 returns-clause-edits g c =
-    edits_last g.D.Device _ _ _ _ _ _ _ _ _ (λ is. absurd cc)
+    edits_last g.D.Device _ _ _ _ _ _ _ _ _ (λ is. never_ok is)
     (put g (goal.at.returns-clause-edits g c).After-remove_among) c.move_row.ensures.edits
 
 pub returns-in_err-remove_among-clause-full : goal.returns-in_err-remove_among-clause-full
@@ -172,3 +175,70 @@ pub returns-in_err-row-clause-full : goal.returns-in_err-row-clause-full
 returns-in_err-row-clause-full g c = λ honest agrees named generation left right has refused.
     absurd (never_full c.find_row.result c.find_row.ensures.cause
     (refused_by_call c.in_err-row.was c.from_residual.ensures.1 refused))
+
+pub returns-in_err-row-clause-spent : goal.returns-in_err-row-clause-spent
+returns-in_err-row-clause-spent g c =
+    λ is. c.find_row.ensures.spent (refused_by_call c.in_err-row.was c.from_residual.ensures.1 is)
+
+pub returns-in_err-row-clause-cause : goal.returns-in_err-row-clause-cause
+returns-in_err-row-clause-cause g c =
+    passed c.from_residual.result c.in_err-row.field-0.0 c.from_residual.ensures.1 (λ r. IfErr r IsWriteFault)
+    (read_is_write c.in_err-row.field-0.0 c.in_err-row.ensures.cause)
+
+pub returns-in_err-row-clause-room : goal.returns-in_err-row-clause-room
+returns-in_err-row-clause-room g c =
+    λ honest agrees named generation left right has is. absurd (never_full c.find_row.result c.find_row.ensures.cause
+    (refused_by_call c.in_err-row.was c.from_residual.ensures.1 is))
+
+pub remove_among-requires-clause-sectors : goal.remove_among-requires-clause-sectors
+remove_among-requires-clause-sectors g c =
+    sectors_still g.D.Device _ c.args.pages.now c.find_row.new.pages c.args.device.now c.find_row.new.device
+    c.find_row.ensures.looks.only c.find_row.ensures.looks.unchanged.committed c.requires.sectors
+
+pub remove_among-requires-clause-open : goal.remove_among-requires-clause-open
+remove_among-requires-clause-open g c = c.find_row.ensures.looks.is_open
+
+pub returns-in_err-remove_among-clause-spent : goal.returns-in_err-remove_among-clause-spent
+returns-in_err-remove_among-clause-spent g c =
+    λ is. spent_before c.args.pages.now c.find_row.new.pages c.find_row.ensures.looks.unchanged.committed
+    (c.remove_among.ensures.spent (refused_by_call c.in_err-remove_among.was
+    c.from_residual-in_err-remove_among.ensures.1 is))
+
+pub returns-in_err-remove_among-clause-cause : goal.returns-in_err-remove_among-clause-cause
+returns-in_err-remove_among-clause-cause g c =
+    passed c.from_residual-in_err-remove_among.result c.in_err-remove_among.field-0.0
+    c.from_residual-in_err-remove_among.ensures.1 (λ r. IfErr r IsWriteFault) (read_is_write
+    c.in_err-remove_among.field-0.0 c.in_err-remove_among.ensures.cause)
+
+pub returns-in_err-remove_among-clause-room : goal.returns-in_err-remove_among-clause-room
+returns-in_err-remove_among-clause-room g c =
+    λ honest agrees named generation left right has is. absurd (never_full c.remove_among.result
+    c.remove_among.ensures.cause (refused_by_call c.in_err-remove_among.was
+    c.from_residual-in_err-remove_among.ensures.1 is))
+
+pub move_row-requires-clause-sectors : goal.move_row-requires-clause-sectors
+move_row-requires-clause-sectors g c =
+    sectors_still g.D.Device _ c.find_row.new.pages c.remove_among.new.pages c.find_row.new.device
+    c.remove_among.new.device c.remove_among.ensures.edits.only c.remove_among.ensures.edits.committed (sectors_still
+    g.D.Device _ c.args.pages.now c.find_row.new.pages c.args.device.now c.find_row.new.device
+    c.find_row.ensures.looks.only c.find_row.ensures.looks.unchanged.committed c.requires.sectors)
+
+pub move_row-requires-clause-open : goal.move_row-requires-clause-open
+move_row-requires-clause-open g c = c.remove_among.ensures.edits.is_open
+
+pub returns-in_err-listing-clause-spent : goal.returns-in_err-listing-clause-spent
+returns-in_err-listing-clause-spent g c =
+    λ is. spent_before c.args.pages.now c.find_row.new.pages c.find_row.ensures.looks.unchanged.committed
+    (spent_before c.find_row.new.pages c.remove_among.new.pages c.remove_among.ensures.edits.committed
+    (c.move_row.ensures.spent (refused_by_call c.in_err-listing.was c.from_residual-in_err-listing.ensures.1 is)))
+
+pub returns-in_err-listing-clause-cause : goal.returns-in_err-listing-clause-cause
+returns-in_err-listing-clause-cause g c =
+    passed c.from_residual-in_err-listing.result c.in_err-listing.field-0.0 c.from_residual-in_err-listing.ensures.1
+    (λ r. IfErr r IsWriteFault) c.in_err-listing.ensures.cause
+
+pub returns-in-None-clause-spent : goal.returns-in-None-clause-spent
+returns-in-None-clause-spent g c = λ is. never_ok is
+
+pub returns-clause-spent : goal.returns-clause-spent
+returns-clause-spent g c = λ is. never_ok is

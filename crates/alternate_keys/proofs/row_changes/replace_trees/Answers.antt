@@ -1,6 +1,6 @@
-use Rattle.std.proofs.Common.{◌≡◌, Err, ℕ, List, length, sym, ap, ◌∙◌, arith}
+use Rattle.std.proofs.Common.{◌≡◌, Err, ℕ, List, length, sym, ap, ◌∙◌, arith, refl}
 use Rattle.btree.proofs.Frames.{unchanged_on}
-use Rattle.records.specs.declared.fault.StoreFault.TheVariants.{Device}
+use Rattle.records.specs.declared.fault.StoreFault.TheVariants.{Device, Damaged}
 use Rattle.records.specs.Rows.{named_pair}
 use Rattle.records.specs.Changes.{FileChange, replacement}
 use Rattle.records.specs.Files.{NamedFile}
@@ -10,8 +10,8 @@ use Rattle.alternate_keys.specs.declared.row_verb.RowVerb.TheVariants.{Replace}
 use Rattle.alternate_keys.specs.Calls.{Edits}
 use Rattle.alternate_keys.specs.Moved.{named_after}
 use Rattle.alternate_keys.specs.Placed.{OnTrees}
-use Rattle.alternate_keys.proofs.Calling.{looks_edits, edits_blamed, edits_last}
-use Rattle.alternate_keys.proofs.Faults.{never_device, never_full, refused_by_call}
+use Rattle.alternate_keys.proofs.Calling.{looks_edits, edits_blamed, edits_last, sectors_still}
+use Rattle.alternate_keys.proofs.Faults.{never_device, never_full, refused_by_call, never_full_memory, never_spent}
 use Rattle.alternate_keys.proofs.FileTrees.{arrival_few, arrival_is, prime_stands, prime_rows, all_pairs}
 use Rattle.alternate_keys.proofs.FoundRow.{none_at, entry_there, value_long}
 use Rattle.alternate_keys.proofs.HeldTrees.{HoldsRow, still_holds, holds_row}
@@ -19,16 +19,22 @@ use Rattle.alternate_keys.proofs.Moving.{IsMoving, room_then, few_then, placed_t
 use Rattle.alternate_keys.proofs.MovingRows.{replaced_moves}
 use Rattle.alternate_keys.proofs.Numbered.{named_by}
 use Rattle.alternate_keys.proofs.ReplaceRow.{Replaces, named_missing, look_bars, look_replaces}
+use Rattle.alternate_keys.proofs.Passing.{damaged_not_spent, memory_is_write, never_ok, passed, read_is_write}
+use Rattle.alternate_keys.proofs.Passing.{spent_before}
+use Rattle.std.specs.Prelude.{IfErr}
+use Rattle.alternate_keys.specs.Faults.{IsWriteFault}
+use Rattle.alternate_keys.proofs.Passing.{damaged_not_device}
 use Rattle.alternate_keys.proofs.row_changes.replace_trees.Given.{Over}
 use Rattle.alternate_keys.proofs.row_changes.replace_trees.Goals as goal
 use Rattle.alternate_keys.proofs.row_changes.replace_trees.Goals.{After-find_row, In-Some, After-find_duplicate_key}
 use Rattle.alternate_keys.proofs.row_changes.replace_trees.Goals.{Else-not-is_done, After-replace_among, After-move_row}
 
 -- the pair that the record names
-pair_is : (g : Over) (c : After-find_row g) → pair_of c.args.file.now.organization c.part_of.result.now c.args.number
+pair_is : (g : Over) (c : After-find_row g)
+    → pair_of c.args.file.now.organization c.part_of-prime_key.result.now c.args.number
     ≡ named_pair c.args.file.now.organization c.args.number c.args.bytes.now
 pair_is g c = named_by (spec_of c.args.file.now) c.key_place-place.result c.args.number c.args.bytes.now
-    c.part_of.result.now c.key_place-place.ensures.place c.part_of.ensures
+    c.part_of-prime_key.result.now c.key_place-place.ensures.place c.part_of-prime_key.ensures
 
 -- its row, where one was found
 abbrev Found : (g : Over) (c : In-Some g) → NamedFile → ℕ → List TreeLevels → List TreeLevels → Type 0
@@ -37,13 +43,15 @@ Found g c named generation left right =
     (named_pair c.args.file.now.organization c.args.number c.args.bytes.now) c.in-Some.row c.find_row.new.pages
     c.find_row.new.device
 
-row_found : (g : Over) (c : In-Some g) → pair_of c.args.file.now.organization c.part_of.result.now c.args.number
+row_found : (g : Over) (c : In-Some g)
+    → pair_of c.args.file.now.organization c.part_of-prime_key.result.now c.args.number
     ≡ named_pair c.args.file.now.organization c.args.number c.args.bytes.now → OnTrees g.D.Device
     (spec_of c.args.file.now) c.args.pages.now c.args.device.now c.args.listing.now (Found g c)
 row_found g c same honest agrees named generation left right has =
     holds_row g.D.Device (record { honest = honest; agrees = agrees; has = has }) c.find_row.ensures.looks
     (named_pair c.args.file.now.organization c.args.number c.args.bytes.now)
-    (pair_of c.args.file.now.organization c.part_of.result.now c.args.number) same c.in_ok-row.field-0 c.in-Some.row
+    (pair_of c.args.file.now.organization c.part_of-prime_key.result.now c.args.number) same c.in_ok-row.field-0
+    c.in-Some.row
     (c.in_ok-row.ensures.found honest agrees named.file.rows (prime_rows _ _ _ _ _ _ _ has c.file_tree-prime.result
     c.file_tree-prime.ensures.layout c.file_tree-prime.ensures.root)) c.in-Some.is
 
@@ -210,7 +218,7 @@ returns-in_err-row-clause-edits g c =
 
 pub returns-in-None-clause-edits : goal.returns-in-None-clause-edits
 returns-in-None-clause-edits g c =
-    edits_blamed g.D.Device _ _ _ _ _ _ (λ is. absurd cc) (looks_edits g.D.Device _ _ _ _ _ c.find_row.ensures.looks)
+    edits_blamed g.D.Device _ _ _ _ _ _ (λ is. never_ok is) (looks_edits g.D.Device _ _ _ _ _ c.find_row.ensures.looks)
 
 pub returns-in_err-outcome-clause-edits : goal.returns-in_err-outcome-clause-edits
 returns-in_err-outcome-clause-edits g c =
@@ -220,12 +228,12 @@ returns-in_err-outcome-clause-edits g c =
 
 pub returns-then-not-is_done-clause-edits : goal.returns-then-not-is_done-clause-edits
 returns-then-not-is_done-clause-edits g c =
-    edits_blamed g.D.Device _ _ _ _ _ _ (λ is. absurd cc)
+    edits_blamed g.D.Device _ _ _ _ _ _ (λ is. never_ok is)
     (looked g (goal.at.returns-then-not-is_done-clause-edits g c).After-find_duplicate_key)
 
 pub returns-then-arrival-clause-edits : goal.returns-then-arrival-clause-edits
 returns-then-arrival-clause-edits g c =
-    edits_blamed g.D.Device _ _ _ _ _ _ (λ is. absurd cc)
+    edits_blamed g.D.Device _ _ _ _ _ _ (λ is. damaged_not_device is)
     (looked g (goal.at.returns-then-arrival-clause-edits g c).After-find_duplicate_key)
 
 pub returns-in_err-value-clause-edits : goal.returns-in_err-value-clause-edits
@@ -251,7 +259,7 @@ returns-in_err-listing-clause-edits g c =
 pub returns-clause-edits : goal.returns-clause-edits
 returns-clause-edits g c =
     let at = goal.at.returns-clause-edits g c in
-    edits_last g.D.Device _ _ _ _ _ _ _ _ _ (λ is. absurd cc)
+    edits_last g.D.Device _ _ _ _ _ _ _ _ _ (λ is. never_ok is)
     (put g at.After-replace_among (looked g at.After-find_duplicate_key)) c.move_row.ensures.edits
 
 pub returns-then-not-is_done-clause-same : goal.returns-then-not-is_done-clause-same
@@ -282,3 +290,125 @@ pub returns-in_err-outcome-clause-full : goal.returns-in_err-outcome-clause-full
 returns-in_err-outcome-clause-full g c = λ honest agrees named generation left right has full.
     absurd (never_full c.find_duplicate_key.result c.find_duplicate_key.ensures.cause
     (refused_by_call c.in_err-outcome.was c.from_residual-in_err-outcome.ensures.1 full))
+
+pub returns-in_err-row-clause-spent : goal.returns-in_err-row-clause-spent
+returns-in_err-row-clause-spent g c =
+    λ is. c.find_row.ensures.spent (refused_by_call c.in_err-row.was c.from_residual.ensures.1 is)
+
+pub returns-in_err-row-clause-cause : goal.returns-in_err-row-clause-cause
+returns-in_err-row-clause-cause g c =
+    passed c.from_residual.result c.in_err-row.field-0.0 c.from_residual.ensures.1 (λ r. IfErr r IsWriteFault)
+    (read_is_write c.in_err-row.field-0.0 c.in_err-row.ensures.cause)
+
+pub returns-in_err-row-clause-room : goal.returns-in_err-row-clause-room
+returns-in_err-row-clause-room g c =
+    λ honest agrees named generation left right has is. absurd (never_full c.find_row.result c.find_row.ensures.cause
+    (refused_by_call c.in_err-row.was c.from_residual.ensures.1 is))
+
+pub find_duplicate_key-requires-clause-sectors : goal.find_duplicate_key-requires-clause-sectors
+find_duplicate_key-requires-clause-sectors g c =
+    sectors_still g.D.Device _ c.args.pages.now c.find_row.new.pages c.args.device.now c.find_row.new.device
+    c.find_row.ensures.looks.only c.find_row.ensures.looks.unchanged.committed c.requires.sectors
+
+pub find_duplicate_key-requires-clause-open : goal.find_duplicate_key-requires-clause-open
+find_duplicate_key-requires-clause-open g c = c.find_row.ensures.looks.is_open
+
+pub returns-in_err-outcome-clause-spent : goal.returns-in_err-outcome-clause-spent
+returns-in_err-outcome-clause-spent g c =
+    λ is. spent_before c.args.pages.now c.find_row.new.pages c.find_row.ensures.looks.unchanged.committed
+    (c.find_duplicate_key.ensures.spent (refused_by_call c.in_err-outcome.was c.from_residual-in_err-outcome.ensures.1
+    is))
+
+pub returns-in_err-outcome-clause-cause : goal.returns-in_err-outcome-clause-cause
+returns-in_err-outcome-clause-cause g c =
+    passed c.from_residual-in_err-outcome.result c.in_err-outcome.field-0.0 c.from_residual-in_err-outcome.ensures.1
+    (λ r. IfErr r IsWriteFault) (read_is_write c.in_err-outcome.field-0.0 c.in_err-outcome.ensures.cause)
+
+pub returns-in_err-outcome-clause-room : goal.returns-in_err-outcome-clause-room
+returns-in_err-outcome-clause-room g c =
+    λ honest agrees named generation left right has is. absurd (never_full c.find_duplicate_key.result
+    c.find_duplicate_key.ensures.cause (refused_by_call c.in_err-outcome.was c.from_residual-in_err-outcome.ensures.1
+    is))
+
+pub returns-in_err-value-clause-spent : goal.returns-in_err-value-clause-spent
+returns-in_err-value-clause-spent g c =
+    λ is. absurd (never_spent c.value_after.result c.value_after.ensures.memory (refused_by_call c.in_err-value.was
+    c.from_residual-in_err-value.ensures.1 is))
+
+pub returns-in_err-value-clause-cause : goal.returns-in_err-value-clause-cause
+returns-in_err-value-clause-cause g c =
+    passed c.from_residual-in_err-value.result c.in_err-value.field-0.0 c.from_residual-in_err-value.ensures.1 (λ r.
+    IfErr r IsWriteFault) (memory_is_write c.in_err-value.field-0.0 c.in_err-value.ensures.memory)
+
+pub returns-in_err-value-clause-room : goal.returns-in_err-value-clause-room
+returns-in_err-value-clause-room g c =
+    λ honest agrees named generation left right has is. absurd (never_full_memory c.value_after.result
+    c.value_after.ensures.memory (refused_by_call c.in_err-value.was c.from_residual-in_err-value.ensures.1 is))
+
+pub replace_among-requires-clause-sectors : goal.replace_among-requires-clause-sectors
+replace_among-requires-clause-sectors g c =
+    sectors_still g.D.Device _ c.find_row.new.pages c.find_duplicate_key.new.pages c.find_row.new.device
+    c.find_duplicate_key.new.device c.find_duplicate_key.ensures.looks.only
+    c.find_duplicate_key.ensures.looks.unchanged.committed (sectors_still g.D.Device _ c.args.pages.now
+    c.find_row.new.pages c.args.device.now c.find_row.new.device c.find_row.ensures.looks.only
+    c.find_row.ensures.looks.unchanged.committed c.requires.sectors)
+
+pub replace_among-requires-clause-open : goal.replace_among-requires-clause-open
+replace_among-requires-clause-open g c = c.find_duplicate_key.ensures.looks.is_open
+
+pub returns-in_err-replace_among-clause-spent : goal.returns-in_err-replace_among-clause-spent
+returns-in_err-replace_among-clause-spent g c =
+    λ is. spent_before c.args.pages.now c.find_row.new.pages c.find_row.ensures.looks.unchanged.committed
+    (spent_before c.find_row.new.pages c.find_duplicate_key.new.pages
+    c.find_duplicate_key.ensures.looks.unchanged.committed (c.replace_among.ensures.spent (refused_by_call
+    c.in_err-replace_among.was c.from_residual-in_err-replace_among.ensures.1 is)))
+
+pub returns-in_err-replace_among-clause-cause : goal.returns-in_err-replace_among-clause-cause
+returns-in_err-replace_among-clause-cause g c =
+    passed c.from_residual-in_err-replace_among.result c.in_err-replace_among.field-0.0
+    c.from_residual-in_err-replace_among.ensures.1 (λ r. IfErr r IsWriteFault) (read_is_write
+    c.in_err-replace_among.field-0.0 c.in_err-replace_among.ensures.cause)
+
+pub returns-in_err-replace_among-clause-room : goal.returns-in_err-replace_among-clause-room
+returns-in_err-replace_among-clause-room g c =
+    λ honest agrees named generation left right has is. absurd (never_full c.replace_among.result
+    c.replace_among.ensures.cause (refused_by_call c.in_err-replace_among.was
+    c.from_residual-in_err-replace_among.ensures.1 is))
+
+pub move_row-requires-clause-sectors : goal.move_row-requires-clause-sectors
+move_row-requires-clause-sectors g c =
+    sectors_still g.D.Device _ c.find_duplicate_key.new.pages c.replace_among.new.pages
+    c.find_duplicate_key.new.device c.replace_among.new.device c.replace_among.ensures.edits.only
+    c.replace_among.ensures.edits.committed (sectors_still g.D.Device _ c.find_row.new.pages
+    c.find_duplicate_key.new.pages c.find_row.new.device c.find_duplicate_key.new.device
+    c.find_duplicate_key.ensures.looks.only c.find_duplicate_key.ensures.looks.unchanged.committed (sectors_still
+    g.D.Device _ c.args.pages.now c.find_row.new.pages c.args.device.now c.find_row.new.device
+    c.find_row.ensures.looks.only c.find_row.ensures.looks.unchanged.committed c.requires.sectors))
+
+pub move_row-requires-clause-open : goal.move_row-requires-clause-open
+move_row-requires-clause-open g c = c.replace_among.ensures.edits.is_open
+
+pub returns-in_err-listing-clause-spent : goal.returns-in_err-listing-clause-spent
+returns-in_err-listing-clause-spent g c =
+    λ is. spent_before c.args.pages.now c.find_row.new.pages c.find_row.ensures.looks.unchanged.committed
+    (spent_before c.find_row.new.pages c.find_duplicate_key.new.pages
+    c.find_duplicate_key.ensures.looks.unchanged.committed (spent_before c.find_duplicate_key.new.pages
+    c.replace_among.new.pages c.replace_among.ensures.edits.committed (c.move_row.ensures.spent (refused_by_call
+    c.in_err-listing.was c.from_residual-in_err-listing.ensures.1 is))))
+
+pub returns-in_err-listing-clause-cause : goal.returns-in_err-listing-clause-cause
+returns-in_err-listing-clause-cause g c =
+    passed c.from_residual-in_err-listing.result c.in_err-listing.field-0.0 c.from_residual-in_err-listing.ensures.1
+    (λ r. IfErr r IsWriteFault) c.in_err-listing.ensures.cause
+
+pub returns-in-None-clause-spent : goal.returns-in-None-clause-spent
+returns-in-None-clause-spent g c = λ is. never_ok is
+
+pub returns-then-not-is_done-clause-spent : goal.returns-then-not-is_done-clause-spent
+returns-then-not-is_done-clause-spent g c = λ is. never_ok is
+
+pub returns-clause-spent : goal.returns-clause-spent
+returns-clause-spent g c = λ is. never_ok is
+
+pub returns-then-arrival-clause-spent : goal.returns-then-arrival-clause-spent
+returns-then-arrival-clause-spent g c = λ is. damaged_not_spent Damaged refl is

@@ -1,101 +1,71 @@
-use Rattle.std.proofs.Common.{◌≡◌, ℕ, List, length, Err, refl, sym, ap, subst, ◌∙◌}
-use Rattle.std.specs.Prelude.{Option, Some}
+use Rattle.std.proofs.Common.{List, refl, sym, ap, ◌∙◌}
 use Rattle.std.specs.Option.{option_map}
-use Rattle.std.proofs.lemmas.List.Elements.{All-contains}
-use Rattle.station.specs.Disk.{Sector}
-use Rattle.pages.specs.Pages.{map_now}
-use Rattle.pages.specs.declared.error.PagesError.TheVariants.{Damaged}
-use Rattle.btree.specs.Rooted.{RootedTree}
+use Rattle.pages.specs.Pages.{Agrees}
+use Rattle.btree.specs.Calls.{pages_on}
+use Rattle.btree.proofs.Frames.{unchanged_on, same_pages}
 use Rattle.records.specs.declared.file_spec.KeyPlace.{KeyPlace}
 use Rattle.records.specs.declared.key.KeyOfReference.{KeyOfReference}
 use Rattle.records.specs.declared.key.KeyOfReference.TheVariants.{Prime, Alternate}
-use Rattle.records.specs.Spec.{Spec}
 use Rattle.records.specs.Rows.{Row, place_of}
-use Rattle.records.specs.Order.{sought_row, found_row}
+use Rattle.records.specs.Order.{RowBound, sought_row, found_row}
 use Rattle.records.specs.Stores.{spec_of, record_of}
-use Rattle.volume_format.specs.Pairs.{IsUnder}
-use Rattle.alternate_keys.specs.Seen.{HasRows, HasPairs, IsPairEntry, IsSought}
-use Rattle.btree.proofs.Frames.{unchanged_on, same_pages}
-use Rattle.alternate_keys.proofs.Tells.{found_for, found_none}
+use Rattle.alternate_keys.specs.Seen.{IsSought, IsPairEntry}
+use Rattle.alternate_keys.proofs.Faults.{refused_by_call}
+use Rattle.alternate_keys.proofs.RowFor.{IsRowFor, row_for, pair_entry_for, told_as, record_as}
+use Rattle.alternate_keys.proofs.Tells.{found_none}
+use Rattle.alternate_keys.proofs.seek.seek_row.Given.{Over}
 use Rattle.alternate_keys.proofs.seek.seek_row.Goals as goal
+use Rattle.alternate_keys.proofs.seek.seek_row.Goals.{In-Prime, After-read_alternate_row}
 
 pub returns-in-None-clause-found : goal.returns-in-None-clause-found
 returns-in-None-clause-found g c = λ honest agrees bound rows way.
-    let pages : List (Option Sector) =
-    (map_now c.args.pages.now (g.D.Device.state c.args.device.now).disk.present).pages in
-    let spec : Spec = spec_of c.args.file.now in
-    let prime : RootedTree = c.args.prime.now in
-    let under : RootedTree = c.args.under.now in
-    let at : List ℕ = c.args.at.now in
-    let none = found_none spec c.args.key bound pages rows prime under c.args.aim at c.in_ok-entry.field-0 way
+    let none = found_none (spec_of c.args.file.now) c.args.key bound (pages_on g.D.Device c.args.pages.now
+    c.args.device.now) rows c.args.prime.now c.args.under.now c.args.aim c.args.at.now c.in_ok-entry.field-0 way
     (c.in_ok-entry.ensures.entry honest agrees way.pairs.levels way.pairs.holds) c.in-None.is in
-    sym (ap (option_map (found_row spec c.args.key rows)) none)
+    sym (ap (option_map (found_row (spec_of c.args.file.now) c.args.key rows)) none)
 
 pub returns-in-None-clause-bytes : goal.returns-in-None-clause-bytes
 returns-in-None-clause-bytes g c = λ honest agrees bound rows way fits.
-    let pages : List (Option Sector) =
-    (map_now c.args.pages.now (g.D.Device.state c.args.device.now).disk.present).pages in
-    let spec : Spec = spec_of c.args.file.now in
-    let prime : RootedTree = c.args.prime.now in
-    let under : RootedTree = c.args.under.now in
-    let at : List ℕ = c.args.at.now in
-    let none = found_none spec c.args.key bound pages rows prime under c.args.aim at c.in_ok-entry.field-0 way
+    let none = found_none (spec_of c.args.file.now) c.args.key bound (pages_on g.D.Device c.args.pages.now
+    c.args.device.now) rows c.args.prime.now c.args.under.now c.args.aim c.args.at.now c.in_ok-entry.field-0 way
     (c.in_ok-entry.ensures.entry honest agrees way.pairs.levels way.pairs.holds) c.in-None.is in
     sym (ap (record_of c.args.bytes.now) none)
 
+-- the row of the entry that was found, in the tree of rows
+prime_row : (g : Over) (c : In-Prime g) → g.D.Device.is_honest c.args.device.now
+    → Agrees c.args.pages.now (g.D.Device.state c.args.device.now).disk → (bound : RowBound) (rows : List Row)
+    → IsSought (spec_of c.args.file.now) c.args.key bound (pages_on g.D.Device c.args.pages.now c.args.device.now) rows
+    c.args.prime.now c.args.under.now c.args.aim c.args.at.now → IsRowFor (spec_of c.args.file.now) Prime bound
+    (pages_on g.D.Device c.args.pages.now c.args.device.now) rows c.args.prime.now c.args.under.now c.args.aim
+    c.args.at.now c.in-Some.entry
+prime_row g c honest agrees bound rows way =
+    row_for (spec_of c.args.file.now) c.args.key Prime bound (pages_on g.D.Device c.args.pages.now c.args.device.now)
+    rows c.args.prime.now c.args.under.now c.args.aim c.args.at.now c.in_ok-entry.field-0 c.in-Some.entry way
+    c.in-Prime.is (c.in_ok-entry.ensures.entry honest agrees) c.in-Some.is
+
 pub returns-in_err-told-in-Prime-clause-damaged : goal.returns-in_err-told-in-Prime-clause-damaged
 returns-in_err-told-in-Prime-clause-damaged g c = λ honest agrees is bound rows way fits.
-    let pages : List (Option Sector) =
-    (map_now c.args.pages.now (g.D.Device.state c.args.device.now).disk.present).pages in
-    let spec : Spec = spec_of c.args.file.now in
-    let prime : RootedTree = c.args.prime.now in
-    let under : RootedTree = c.args.under.now in
-    let at : List ℕ = c.args.at.now in
-    let own : IsSought spec Prime bound pages rows prime under c.args.aim at =
-    subst (λ (k : KeyOfReference). IsSought spec k bound pages rows prime under c.args.aim at) c.in-Prime.is way in
-    let for = found_for spec Prime bound pages rows prime under c.args.aim at c.in_ok-entry.field-0 c.in-Some.entry own
-    (c.in_ok-entry.ensures.entry honest agrees own.pairs.levels own.pairs.holds) c.in-Some.is in
-    let is_under = All-contains (IsUnder spec Prime) rows for.row own.pairs.fits for.has in
-    let long = All-contains (λ (r : Row). length r.bytes ≡ spec.record_length) rows for.row own.there.records for.has in
-    c.in_err-told-in-Prime.ensures.damaged spec for.row refl for.entry_is is_under (long ∙ sym fits)
+    let at = goal.at.returns-in_err-told-in-Prime-clause-damaged g c in
+    let row = prime_row g at.In-Prime honest agrees bound rows way in
+    c.in_err-told-in-Prime.ensures.damaged (spec_of c.args.file.now) row.for.row refl row.for.entry_is row.is_under
+    (row.long ∙ sym fits)
 
 pub returns-in_ok-told-in-Prime-clause-found : goal.returns-in_ok-told-in-Prime-clause-found
 returns-in_ok-told-in-Prime-clause-found g c = λ honest agrees bound rows way.
-    let pages : List (Option Sector) =
-    (map_now c.args.pages.now (g.D.Device.state c.args.device.now).disk.present).pages in
-    let spec : Spec = spec_of c.args.file.now in
-    let prime : RootedTree = c.args.prime.now in
-    let under : RootedTree = c.args.under.now in
-    let at : List ℕ = c.args.at.now in
-    let own : IsSought spec Prime bound pages rows prime under c.args.aim at =
-    subst (λ (k : KeyOfReference). IsSought spec k bound pages rows prime under c.args.aim at) c.in-Prime.is way in
-    let for = found_for spec Prime bound pages rows prime under c.args.aim at c.in_ok-entry.field-0 c.in-Some.entry own
-    (c.in_ok-entry.ensures.entry honest agrees own.pairs.levels own.pairs.holds) c.in-Some.is in
-    let is_under = All-contains (IsUnder spec Prime) rows for.row own.pairs.fits for.has in
-    let T : KeyOfReference → Type 0 =
-    λ k. Some c.in_ok-told-in-Prime.told ≡ option_map (found_row spec k rows) (sought_row spec k bound rows) in
-    subst
-    T (sym c.in-Prime.is) (ap Some (c.in_ok-told-in-Prime.ensures.found spec for.row rows refl for.entry_is is_under)
-    ∙ sym (ap (option_map (found_row spec Prime rows)) for.is))
+    let at = goal.at.returns-in_ok-told-in-Prime-clause-found g c in
+    let row = prime_row g at.In-Prime honest agrees bound rows way in
+    told_as (λ (k : KeyOfReference). found_row (spec_of c.args.file.now) k rows)
+    (λ (k : KeyOfReference). sought_row (spec_of c.args.file.now) k bound rows) c.args.key Prime row.for.row
+    c.in_ok-told-in-Prime.told c.in-Prime.is row.for.is
+    (c.in_ok-told-in-Prime.ensures.found (spec_of c.args.file.now) row.for.row rows refl row.for.entry_is row.is_under)
 
 pub returns-in_ok-told-in-Prime-clause-bytes : goal.returns-in_ok-told-in-Prime-clause-bytes
 returns-in_ok-told-in-Prime-clause-bytes g c = λ honest agrees bound rows way fits.
-    let pages : List (Option Sector) =
-    (map_now c.args.pages.now (g.D.Device.state c.args.device.now).disk.present).pages in
-    let spec : Spec = spec_of c.args.file.now in
-    let prime : RootedTree = c.args.prime.now in
-    let under : RootedTree = c.args.under.now in
-    let at : List ℕ = c.args.at.now in
-    let own : IsSought spec Prime bound pages rows prime under c.args.aim at =
-    subst (λ (k : KeyOfReference). IsSought spec k bound pages rows prime under c.args.aim at) c.in-Prime.is way in
-    let for = found_for spec Prime bound pages rows prime under c.args.aim at c.in_ok-entry.field-0 c.in-Some.entry own
-    (c.in_ok-entry.ensures.entry honest agrees own.pairs.levels own.pairs.holds) c.in-Some.is in
-    let is_under = All-contains (IsUnder spec Prime) rows for.row own.pairs.fits for.has in
-    let long = All-contains (λ (r : Row). length r.bytes ≡ spec.record_length) rows for.row own.there.records for.has in
-    let T : KeyOfReference → Type 0 =
-    λ k. c.read_prime_row.new.bytes ≡ record_of c.args.bytes.now (sought_row spec k bound rows) in
-    subst T (sym c.in-Prime.is) (c.in_ok-told-in-Prime.ensures.bytes spec for.row for.entry_is (long ∙ sym fits)
-    ∙ sym (ap (record_of c.args.bytes.now) for.is))
+    let at = goal.at.returns-in_ok-told-in-Prime-clause-bytes g c in
+    let row = prime_row g at.In-Prime honest agrees bound rows way in
+    record_as (λ (k : KeyOfReference). sought_row (spec_of c.args.file.now) k bound rows) c.args.key Prime row.for.row
+    c.args.bytes.now c.read_prime_row.new.bytes c.in-Prime.is row.for.is (c.in_ok-told-in-Prime.ensures.bytes
+    (spec_of c.args.file.now) row.for.row row.for.entry_is (row.long ∙ sym fits))
 
 pub returns-in_err-told-in-Alternate-clause-unchanged : goal.returns-in_err-told-in-Alternate-clause-unchanged
 returns-in_err-told-in-Alternate-clause-unchanged g c = unchanged_on c.args.pages.now c.look.new.pages
@@ -105,103 +75,59 @@ pub returns-in_ok-told-in-Alternate-clause-unchanged : goal.returns-in_ok-told-i
 returns-in_ok-told-in-Alternate-clause-unchanged g c = unchanged_on c.args.pages.now c.look.new.pages
     c.read_alternate_row.new.pages c.look.ensures.unchanged c.read_alternate_row.ensures.unchanged
 
+-- and in the tree of an alternate key
+alternate_row : (g : Over) (c : After-read_alternate_row g) → g.D.Device.is_honest c.args.device.now
+    → Agrees c.args.pages.now (g.D.Device.state c.args.device.now).disk → (bound : RowBound) (rows : List Row)
+    → IsSought (spec_of c.args.file.now) c.args.key bound (pages_on g.D.Device c.args.pages.now c.args.device.now) rows
+    c.args.prime.now c.args.under.now c.args.aim c.args.at.now → IsRowFor (spec_of c.args.file.now)
+    (Alternate c.in-Alternate.field-0) bound (pages_on g.D.Device c.args.pages.now c.args.device.now) rows
+    c.args.prime.now c.args.under.now c.args.aim c.args.at.now c.in-Some.entry
+alternate_row g c honest agrees bound rows way =
+    row_for (spec_of c.args.file.now) c.args.key (Alternate c.in-Alternate.field-0) bound (pages_on g.D.Device
+    c.args.pages.now c.args.device.now) rows c.args.prime.now c.args.under.now c.args.aim c.args.at.now
+    c.in_ok-entry.field-0 c.in-Some.entry way c.in-Alternate.is (c.in_ok-entry.ensures.entry honest agrees) c.in-Some.is
+
+pair_entry : (g : Over) (c : After-read_alternate_row g) → g.D.Device.is_honest c.args.device.now
+    → (bound : RowBound) (rows : List Row) → (row : IsRowFor (spec_of c.args.file.now)
+    (Alternate c.in-Alternate.field-0) bound (pages_on g.D.Device c.args.pages.now c.args.device.now) rows
+    c.args.prime.now c.args.under.now c.args.aim c.args.at.now c.in-Some.entry) → IsPairEntry
+    (spec_of c.args.file.now) c.in-Alternate.field-0 (pages_on g.D.Device c.look.new.pages c.look.new.device) rows
+    c.args.prime.now c.args.under.now c.key_place-length.result.length c.in-Some.entry row.for.row
+pair_entry g c honest bound rows row =
+    pair_entry_for (spec_of c.args.file.now) c.in-Alternate.field-0 bound (pages_on g.D.Device c.args.pages.now
+    c.args.device.now) (pages_on g.D.Device c.look.new.pages c.look.new.device) rows c.args.prime.now c.args.under.now
+    c.args.aim c.args.at.now c.in-Some.entry c.key_place-length.result.length row
+    (same_pages c.args.pages.now c.look.new.pages (g.D.Device.state c.args.device.now)
+    (g.D.Device.state c.look.new.device) c.look.ensures.unchanged (c.look.ensures.only.state honest))
+    (ap (λ (p : KeyPlace). p.length)
+    (c.key_place-length.ensures.place ∙ ap (place_of (spec_of c.args.file.now)) c.in-Alternate.is))
+
 pub returns-in_err-told-in-Alternate-clause-damaged : goal.returns-in_err-told-in-Alternate-clause-damaged
 returns-in_err-told-in-Alternate-clause-damaged g c = λ honest agrees is bound rows way fits.
-    let from = rw is at c.from_residual-in_err-told-in-Alternate.ensures.1 in
-    let fault : c.in_err-told-in-Alternate.field-0.0 ≡ Damaged = cc from in
-    let damaged : c.read_alternate_row.result ≡ Err Damaged = c.in_err-told-in-Alternate.was ∙ ap Err fault in
-    let pages : List (Option Sector) =
-    (map_now c.args.pages.now (g.D.Device.state c.args.device.now).disk.present).pages in
-    let spec : Spec = spec_of c.args.file.now in
-    let prime : RootedTree = c.args.prime.now in
-    let under : RootedTree = c.args.under.now in
-    let at : List ℕ = c.args.at.now in
-    let i = c.in-Alternate.field-0 in
-    let own : IsSought spec (Alternate i) bound pages rows prime under c.args.aim at =
-    subst (λ (k : KeyOfReference). IsSought spec k bound pages rows prime under c.args.aim at) c.in-Alternate.is way in
-    let for = found_for spec (Alternate i) bound pages rows prime under c.args.aim at c.in_ok-entry.field-0
-    c.in-Some.entry own (c.in_ok-entry.ensures.entry honest agrees own.pairs.levels own.pairs.holds) c.in-Some.is in
-    let same = same_pages c.args.pages.now c.look.new.pages (g.D.Device.state c.args.device.now)
-    (g.D.Device.state c.look.new.device) c.look.ensures.unchanged (c.look.ensures.only.state honest) in
-    let later : List (Option Sector) =
-    (map_now c.look.new.pages (g.D.Device.state c.look.new.device).disk.present).pages in
-    let place = own.indexed i refl in
-    let told : IsPairEntry spec i later rows prime under c.key_place-length.result.length c.in-Some.entry for.row =
-    record {
-      place = place.0;
-      indexed = place.1;
-      there = subst (λ (p : List (Option Sector)). HasRows spec p rows prime) (sym same) own.there;
-      pairs = subst (λ (p : List (Option Sector)). HasPairs spec (Alternate i) p rows under) (sym same) own.pairs;
-      long = ap (λ (p : KeyPlace). p.length) (c.key_place-length.ensures.place ∙ ap (place_of spec) c.in-Alternate.is);
-      has = for.has;
-      is = for.entry_is;
-    } in
+    let at = goal.at.returns-in_err-told-in-Alternate-clause-damaged g c in
+    let row = alternate_row g at.After-read_alternate_row honest agrees bound rows way in
     c.read_alternate_row.ensures.damaged (c.look.ensures.only.honest.0 honest) (c.look.ensures.agrees honest agrees)
-    damaged spec i rows for.row told fits
+    (refused_by_call c.in_err-told-in-Alternate.was c.from_residual-in_err-told-in-Alternate.ensures.1 is)
+    (spec_of c.args.file.now) c.in-Alternate.field-0 rows row.for.row
+    (pair_entry g at.After-read_alternate_row honest bound rows row) fits
 
 pub returns-in_ok-told-in-Alternate-clause-found : goal.returns-in_ok-told-in-Alternate-clause-found
 returns-in_ok-told-in-Alternate-clause-found g c = λ honest agrees bound rows way.
-    let pages : List (Option Sector) =
-    (map_now c.args.pages.now (g.D.Device.state c.args.device.now).disk.present).pages in
-    let spec : Spec = spec_of c.args.file.now in
-    let prime : RootedTree = c.args.prime.now in
-    let under : RootedTree = c.args.under.now in
-    let at : List ℕ = c.args.at.now in
-    let i = c.in-Alternate.field-0 in
-    let own : IsSought spec (Alternate i) bound pages rows prime under c.args.aim at =
-    subst (λ (k : KeyOfReference). IsSought spec k bound pages rows prime under c.args.aim at) c.in-Alternate.is way in
-    let for = found_for spec (Alternate i) bound pages rows prime under c.args.aim at c.in_ok-entry.field-0
-    c.in-Some.entry own (c.in_ok-entry.ensures.entry honest agrees own.pairs.levels own.pairs.holds) c.in-Some.is in
-    let same = same_pages c.args.pages.now c.look.new.pages (g.D.Device.state c.args.device.now)
-    (g.D.Device.state c.look.new.device) c.look.ensures.unchanged (c.look.ensures.only.state honest) in
-    let later : List (Option Sector) =
-    (map_now c.look.new.pages (g.D.Device.state c.look.new.device).disk.present).pages in
-    let place = own.indexed i refl in
-    let told : IsPairEntry spec i later rows prime under c.key_place-length.result.length c.in-Some.entry for.row =
-    record {
-      place = place.0;
-      indexed = place.1;
-      there = subst (λ (p : List (Option Sector)). HasRows spec p rows prime) (sym same) own.there;
-      pairs = subst (λ (p : List (Option Sector)). HasPairs spec (Alternate i) p rows under) (sym same) own.pairs;
-      long = ap (λ (p : KeyPlace). p.length) (c.key_place-length.ensures.place ∙ ap (place_of spec) c.in-Alternate.is);
-      has = for.has;
-      is = for.entry_is;
-    } in
-    let T : KeyOfReference → Type 0 =
-    λ k. Some c.in_ok-told-in-Alternate.told ≡ option_map (found_row spec k rows) (sought_row spec k bound rows) in
-    subst T (sym c.in-Alternate.is) (ap Some (c.in_ok-told-in-Alternate.ensures.found
-    (c.look.ensures.only.honest.0 honest) (c.look.ensures.agrees honest agrees) spec i rows for.row told)
-    ∙ sym (ap (option_map (found_row spec (Alternate i) rows)) for.is))
+    let at = goal.at.returns-in_ok-told-in-Alternate-clause-found g c in
+    let row = alternate_row g at.After-read_alternate_row honest agrees bound rows way in
+    told_as (λ (k : KeyOfReference). found_row (spec_of c.args.file.now) k rows)
+    (λ (k : KeyOfReference). sought_row (spec_of c.args.file.now) k bound rows) c.args.key
+    (Alternate c.in-Alternate.field-0) row.for.row c.in_ok-told-in-Alternate.told c.in-Alternate.is row.for.is
+    (c.in_ok-told-in-Alternate.ensures.found (c.look.ensures.only.honest.0 honest) (c.look.ensures.agrees honest agrees)
+    (spec_of c.args.file.now) c.in-Alternate.field-0 rows row.for.row
+    (pair_entry g at.After-read_alternate_row honest bound rows row))
 
 pub returns-in_ok-told-in-Alternate-clause-bytes : goal.returns-in_ok-told-in-Alternate-clause-bytes
 returns-in_ok-told-in-Alternate-clause-bytes g c = λ honest agrees bound rows way fits.
-    let pages : List (Option Sector) =
-    (map_now c.args.pages.now (g.D.Device.state c.args.device.now).disk.present).pages in
-    let spec : Spec = spec_of c.args.file.now in
-    let prime : RootedTree = c.args.prime.now in
-    let under : RootedTree = c.args.under.now in
-    let at : List ℕ = c.args.at.now in
-    let i = c.in-Alternate.field-0 in
-    let own : IsSought spec (Alternate i) bound pages rows prime under c.args.aim at =
-    subst (λ (k : KeyOfReference). IsSought spec k bound pages rows prime under c.args.aim at) c.in-Alternate.is way in
-    let for = found_for spec (Alternate i) bound pages rows prime under c.args.aim at c.in_ok-entry.field-0
-    c.in-Some.entry own (c.in_ok-entry.ensures.entry honest agrees own.pairs.levels own.pairs.holds) c.in-Some.is in
-    let same = same_pages c.args.pages.now c.look.new.pages (g.D.Device.state c.args.device.now)
-    (g.D.Device.state c.look.new.device) c.look.ensures.unchanged (c.look.ensures.only.state honest) in
-    let later : List (Option Sector) =
-    (map_now c.look.new.pages (g.D.Device.state c.look.new.device).disk.present).pages in
-    let place = own.indexed i refl in
-    let told : IsPairEntry spec i later rows prime under c.key_place-length.result.length c.in-Some.entry for.row =
-    record {
-      place = place.0;
-      indexed = place.1;
-      there = subst (λ (p : List (Option Sector)). HasRows spec p rows prime) (sym same) own.there;
-      pairs = subst (λ (p : List (Option Sector)). HasPairs spec (Alternate i) p rows under) (sym same) own.pairs;
-      long = ap (λ (p : KeyPlace). p.length) (c.key_place-length.ensures.place ∙ ap (place_of spec) c.in-Alternate.is);
-      has = for.has;
-      is = for.entry_is;
-    } in
-    let T : KeyOfReference → Type 0 =
-    λ k. c.read_alternate_row.new.bytes ≡ record_of c.args.bytes.now (sought_row spec k bound rows) in
-    subst T (sym c.in-Alternate.is) (c.in_ok-told-in-Alternate.ensures.bytes (c.look.ensures.only.honest.0 honest)
-    (c.look.ensures.agrees honest agrees) spec i rows for.row told fits ∙ sym (ap (record_of c.args.bytes.now) for.is))
+    let at = goal.at.returns-in_ok-told-in-Alternate-clause-bytes g c in
+    let row = alternate_row g at.After-read_alternate_row honest agrees bound rows way in
+    record_as (λ (k : KeyOfReference). sought_row (spec_of c.args.file.now) k bound rows) c.args.key
+    (Alternate c.in-Alternate.field-0) row.for.row c.args.bytes.now c.read_alternate_row.new.bytes c.in-Alternate.is
+    row.for.is (c.in_ok-told-in-Alternate.ensures.bytes (c.look.ensures.only.honest.0 honest)
+    (c.look.ensures.agrees honest agrees) (spec_of c.args.file.now) c.in-Alternate.field-0 rows row.for.row
+    (pair_entry g at.After-read_alternate_row honest bound rows row) fits)

@@ -1,51 +1,91 @@
-use Rattle.std.proofs.Common.{◌≡◌, ◌≤◌, List, ℕ, Err, sym, ap, subst, ◌∙◌, arith}
-use Rattle.std.specs.Prelude.{Option, Some, None}
+use Rattle.std.proofs.Common.{◌≡◌, ◌≤◌, List, Err, sym, ap, subst, ◌∙◌, arith}
+use Rattle.std.specs.Prelude.{Option}
 use Rattle.std.proofs.lemmas.Result.{err_from_is_err_and}
 use Rattle.station.specs.Disk.{Sector}
-use Rattle.pages.specs.Image.{Map}
 use Rattle.pages.specs.Pages.{map_now}
 use Rattle.pages.specs.declared.error.PagesError.TheVariants as pages
 use Rattle.records.specs.declared.fault.StoreFault.TheVariants.{Damaged}
 use Rattle.records.specs.declared.key.KeyOfReference.TheVariants.{Prime}
 use Rattle.records.specs.Spec.{Spec}
-use Rattle.records.specs.Order.{RowBound}
 use Rattle.records.specs.Files.{file_at}
 use Rattle.records.specs.Stores.{spec_of, bound_at}
 use Rattle.btree_pages.specs.declared.row_layout.RowLayout.{RowLayout}
 use Rattle.btree.proofs.Frames.{unchanged_on, same_pages}
-use Rattle.btree.specs.Rooted.{RootedTree}
-use Rattle.alternate_keys.specs.Aims.{IsBound}
-use Rattle.alternate_keys.specs.Listed.{IsListed, root_in}
+use Rattle.btree.specs.Calls.{pages_on}
+use Rattle.alternate_keys.specs.Listed.{root_in}
 use Rattle.alternate_keys.specs.Seen.{IsSought}
+use Rattle.alternate_keys.specs.Turned.{OnFile}
 use Rattle.volume_format.proofs.Faults.{damaged_back}
-use Rattle.alternate_keys.proofs.FoundTrees.{Knows, layout_short, sought_in}
+use Rattle.alternate_keys.proofs.FoundTrees.{Knows, layout_short, listed_as, sought_in, unlisted}
+use Rattle.alternate_keys.proofs.Faults.{refused_by_call}
+use Rattle.alternate_keys.proofs.seeking.seek_in.Given.{Over}
 use Rattle.alternate_keys.proofs.seeking.seek_in.Goals as goal
+use Rattle.alternate_keys.proofs.seeking.seek_in.Goals.{After-seek_row}
+
+-- the file's entry in the catalog, and its trees
+knows : (g : Over) (c : After-seek_row g) → OnFile g.D.Device c.args.file.now c.args.pages.now c.args.device.now
+    (λ files held. Knows (map_now c.args.pages.now (g.D.Device.state c.args.device.now).disk.present)
+    (file_at c.args.file.now.name.items files) held (spec_of c.args.file.now) c.args.key c.in_ok-entry.field-0
+    c.in-Some.entry c.file_tree-prime.result c.file_tree-under.result)
+knows g c honest agrees files held holds has =
+    let image = (g.D.Device.state c.args.device.now).disk.present in
+    let bounds = c.map_bounds.ensures.open c.args.pages.now image c.requires.open c.requires.unspent in
+    record {
+      few = bounds.0;
+      small = bounds.1;
+      listing = listed_as (map_now c.args.pages.now image) files c.deref.result.now c.args.file.now.name.items
+          c.in_ok-entry.field-0 c.deref.ensures.value (c.in_ok-entry.ensures.listed honest agrees files holds);
+      some = c.in-Some.is;
+      there = has.there;
+      spec_is = has.spec;
+      good = c.args.file.now.sound;
+      key_is = c.requires.key;
+      prime_layout = c.file_tree-prime.ensures.layout;
+      prime_root = c.file_tree-prime.ensures.root ∙ ap (root_in Prime) c.value.ensures;
+      under_layout = c.file_tree-under.ensures.layout;
+      under_root = c.file_tree-under.ensures.root ∙ ap (root_in c.args.key) c.value-2.ensures;
+    }
+
+-- the row is sought in them
+sought : (g : Over) (c : After-seek_row g) → OnFile g.D.Device c.args.file.now c.args.pages.now c.args.device.now
+    (λ files held. IsSought (spec_of c.args.file.now) c.args.key
+    (bound_at c.args.side c.args.value.now c.args.number)
+    (pages_on g.D.Device c.find_listing.new.pages c.find_listing.new.device) held.rows c.file_tree-prime.result
+    c.file_tree-under.result c.search_start_for-aim.result c.deref-2.result.now)
+sought g c honest agrees files held holds has =
+    let way = sought_in _ _ held (spec_of c.args.file.now) c.args.key
+    (bound_at c.args.side c.args.value.now c.args.number) c.in_ok-entry.field-0 c.in-Some.entry
+    c.file_tree-prime.result c.file_tree-under.result c.search_start_for-aim.result c.deref-2.result.now
+    (knows g c honest agrees files held holds has)
+    (record { value = c.requires.value; number = let low = c.ranges.number.fits in omega arith })
+    c.search_start_for-aim.ensures (c.deref-2.ensures.value ∙ c.in_ok-at.ensures.bytes) in
+    let same = same_pages c.args.pages.now c.find_listing.new.pages (g.D.Device.state c.args.device.now)
+    (g.D.Device.state c.find_listing.new.device) c.find_listing.ensures.unchanged
+    (c.find_listing.ensures.only.state honest) in
+    subst (λ (p : List (Option Sector)). IsSought (spec_of c.args.file.now) c.args.key
+    (bound_at c.args.side c.args.value.now c.args.number) p held.rows c.file_tree-prime.result
+    c.file_tree-under.result c.search_start_for-aim.result c.deref-2.result.now) (sym same) way
 
 pub returns-in_err-entry-clause-damaged : goal.returns-in_err-entry-clause-damaged
 returns-in_err-entry-clause-damaged g c = λ honest agrees files held holds has is.
-    let from = err_from_is_err_and c.from_residual.result c.from_residual.ensures.1 in
-    let damaged : c.find_listing.result ≡ Err Damaged = cc in
+    let damaged = refused_by_call c.in_err-entry.was c.from_residual.ensures.1 is in
     c.find_listing.ensures.damaged honest agrees files holds damaged
 
 pub returns-in-None-clause-found : goal.returns-in-None-clause-found
 returns-in-None-clause-found g c = λ honest agrees files held holds has.
-    let m : Map = map_now c.args.pages.now (g.D.Device.state c.args.device.now).disk.present in
-    let listed = subst (λ (n : List ℕ). IsListed m (file_at n files) c.in_ok-entry.field-0) c.deref.ensures.value
-    (c.in_ok-entry.ensures.listed honest agrees files holds) in
-    let none : file_at c.args.file.now.name.items files ≡ None =
-    subst (IsListed m (file_at c.args.file.now.name.items files)) c.in-None.is listed in
-    let clash : None ≡ Some held = sym none ∙ has.there in
-    cc
+    let image = (g.D.Device.state c.args.device.now).disk.present in
+    let listed = listed_as (map_now c.args.pages.now image) files c.deref.result.now c.args.file.now.name.items
+    c.in_ok-entry.field-0 c.deref.ensures.value (c.in_ok-entry.ensures.listed honest agrees files holds) in
+    absurd (unlisted (map_now c.args.pages.now image) (file_at c.args.file.now.name.items files)
+    c.in_ok-entry.field-0 held listed c.in-None.is has.there)
 
 pub returns-in-None-clause-bytes : goal.returns-in-None-clause-bytes
 returns-in-None-clause-bytes g c = λ honest agrees files held holds has.
-    let m : Map = map_now c.args.pages.now (g.D.Device.state c.args.device.now).disk.present in
-    let listed = subst (λ (n : List ℕ). IsListed m (file_at n files) c.in_ok-entry.field-0) c.deref.ensures.value
-    (c.in_ok-entry.ensures.listed honest agrees files holds) in
-    let none : file_at c.args.file.now.name.items files ≡ None =
-    subst (IsListed m (file_at c.args.file.now.name.items files)) c.in-None.is listed in
-    let clash : None ≡ Some held = sym none ∙ has.there in
-    cc
+    let image = (g.D.Device.state c.args.device.now).disk.present in
+    let listed = listed_as (map_now c.args.pages.now image) files c.deref.result.now c.args.file.now.name.items
+    c.in_ok-entry.field-0 c.deref.ensures.value (c.in_ok-entry.ensures.listed honest agrees files holds) in
+    absurd (unlisted (map_now c.args.pages.now image) (file_at c.args.file.now.name.items files)
+    c.in_ok-entry.field-0 held listed c.in-None.is has.there)
 
 pub seek_row-requires-clause-short : goal.seek_row-requires-clause-short
 seek_row-requires-clause-short g c =
@@ -62,85 +102,17 @@ returns-in-Ok-clause-unchanged g c = unchanged_on c.args.pages.now c.find_listin
 
 pub returns-in-Ok-clause-found : goal.returns-in-Ok-clause-found
 returns-in-Ok-clause-found g c = λ honest agrees files held holds has.
-    let m : Map = map_now c.args.pages.now (g.D.Device.state c.args.device.now).disk.present in
-    let name : List ℕ = c.args.file.now.name.items in
-    let spec : Spec = spec_of c.args.file.now in
-    let b : RowBound = bound_at c.args.side c.args.value.now c.args.number in
-    let prime : RootedTree = c.file_tree-prime.result in
-    let under : RootedTree = c.file_tree-under.result in
-    let at : List ℕ = c.deref-2.result.now in
-    let bounds = c.map_bounds.ensures.open c.args.pages.now (g.D.Device.state c.args.device.now).disk.present
-    c.requires.open c.requires.unspent in
-    let knows : Knows m (file_at name files) held spec c.args.key c.in_ok-entry.field-0 c.in-Some.entry prime under =
-    record {
-      few = bounds.0;
-      small = bounds.1;
-      listing = subst (λ (n : List ℕ). IsListed m (file_at n files) c.in_ok-entry.field-0) c.deref.ensures.value
-          (c.in_ok-entry.ensures.listed honest agrees files holds);
-      some = c.in-Some.is;
-      there = has.there;
-      spec_is = has.spec;
-      good = c.args.file.now.sound;
-      key_is = c.requires.key;
-      prime_layout = c.file_tree-prime.ensures.layout;
-      prime_root = c.file_tree-prime.ensures.root ∙ ap (root_in Prime) c.value.ensures;
-      under_layout = c.file_tree-under.ensures.layout;
-      under_root = c.file_tree-under.ensures.root ∙ ap (root_in c.args.key) c.value-2.ensures;
-    } in
-    let bounded : IsBound spec c.args.key b =
-    record { value = c.requires.value; number = let low = c.ranges.number.fits in omega arith } in
-    let way = sought_in m (file_at name files) held spec c.args.key b c.in_ok-entry.field-0
-    c.in-Some.entry prime under c.search_start_for-aim.result at knows bounded c.search_start_for-aim.ensures
-    (c.deref-2.ensures.value ∙ c.in_ok-at.ensures.bytes) in
-    let same =
-    same_pages c.args.pages.now c.find_listing.new.pages (g.D.Device.state c.args.device.now) (g.D.Device.state
-    c.find_listing.new.device) c.find_listing.ensures.unchanged (c.find_listing.ensures.only.state honest) in
-    let here = subst (λ (p : List (Option Sector)).
-    IsSought spec c.args.key b p held.rows prime under c.search_start_for-aim.result at) (sym same) way in
-    let honest_then = c.find_listing.ensures.only.honest.0 honest in
-    let agrees_then = c.find_listing.ensures.agrees honest agrees in
-    c.in-Ok.ensures.found honest_then agrees_then b held.rows here
+    let at = goal.at.returns-in-Ok-clause-found g c in
+    c.in-Ok.ensures.found (c.find_listing.ensures.only.honest.0 honest) (c.find_listing.ensures.agrees honest agrees)
+    (bound_at c.args.side c.args.value.now c.args.number) held.rows
+    (sought g at.After-seek_row honest agrees files held holds has)
 
 pub returns-in-Ok-clause-bytes : goal.returns-in-Ok-clause-bytes
 returns-in-Ok-clause-bytes g c = λ honest agrees files held holds has.
-    let m : Map = map_now c.args.pages.now (g.D.Device.state c.args.device.now).disk.present in
-    let name : List ℕ = c.args.file.now.name.items in
-    let spec : Spec = spec_of c.args.file.now in
-    let b : RowBound = bound_at c.args.side c.args.value.now c.args.number in
-    let prime : RootedTree = c.file_tree-prime.result in
-    let under : RootedTree = c.file_tree-under.result in
-    let at : List ℕ = c.deref-2.result.now in
-    let bounds = c.map_bounds.ensures.open c.args.pages.now (g.D.Device.state c.args.device.now).disk.present
-    c.requires.open c.requires.unspent in
-    let knows : Knows m (file_at name files) held spec c.args.key c.in_ok-entry.field-0 c.in-Some.entry prime under =
-    record {
-      few = bounds.0;
-      small = bounds.1;
-      listing = subst (λ (n : List ℕ). IsListed m (file_at n files) c.in_ok-entry.field-0) c.deref.ensures.value
-          (c.in_ok-entry.ensures.listed honest agrees files holds);
-      some = c.in-Some.is;
-      there = has.there;
-      spec_is = has.spec;
-      good = c.args.file.now.sound;
-      key_is = c.requires.key;
-      prime_layout = c.file_tree-prime.ensures.layout;
-      prime_root = c.file_tree-prime.ensures.root ∙ ap (root_in Prime) c.value.ensures;
-      under_layout = c.file_tree-under.ensures.layout;
-      under_root = c.file_tree-under.ensures.root ∙ ap (root_in c.args.key) c.value-2.ensures;
-    } in
-    let bounded : IsBound spec c.args.key b =
-    record { value = c.requires.value; number = let low = c.ranges.number.fits in omega arith } in
-    let way = sought_in m (file_at name files) held spec c.args.key b c.in_ok-entry.field-0
-    c.in-Some.entry prime under c.search_start_for-aim.result at knows bounded c.search_start_for-aim.ensures
-    (c.deref-2.ensures.value ∙ c.in_ok-at.ensures.bytes) in
-    let same =
-    same_pages c.args.pages.now c.find_listing.new.pages (g.D.Device.state c.args.device.now) (g.D.Device.state
-    c.find_listing.new.device) c.find_listing.ensures.unchanged (c.find_listing.ensures.only.state honest) in
-    let here = subst (λ (p : List (Option Sector)).
-    IsSought spec c.args.key b p held.rows prime under c.search_start_for-aim.result at) (sym same) way in
-    let honest_then = c.find_listing.ensures.only.honest.0 honest in
-    let agrees_then = c.find_listing.ensures.agrees honest agrees in
-    c.in-Ok.ensures.bytes honest_then agrees_then b held.rows here c.requires.bytes
+    let at = goal.at.returns-in-Ok-clause-bytes g c in
+    c.in-Ok.ensures.bytes (c.find_listing.ensures.only.honest.0 honest) (c.find_listing.ensures.agrees honest agrees)
+    (bound_at c.args.side c.args.value.now c.args.number) held.rows
+    (sought g at.After-seek_row honest agrees files held holds has) c.requires.bytes
 
 pub returns-clause-unchanged : goal.returns-clause-unchanged
 returns-clause-unchanged g c = unchanged_on c.args.pages.now c.find_listing.new.pages c.seek_row.new.pages
@@ -148,43 +120,10 @@ returns-clause-unchanged g c = unchanged_on c.args.pages.now c.find_listing.new.
 
 pub returns-clause-damaged : goal.returns-clause-damaged
 returns-clause-damaged g c = λ honest agrees files held holds has is.
-    let m : Map = map_now c.args.pages.now (g.D.Device.state c.args.device.now).disk.present in
-    let name : List ℕ = c.args.file.now.name.items in
-    let spec : Spec = spec_of c.args.file.now in
-    let b : RowBound = bound_at c.args.side c.args.value.now c.args.number in
-    let prime : RootedTree = c.file_tree-prime.result in
-    let under : RootedTree = c.file_tree-under.result in
-    let at : List ℕ = c.deref-2.result.now in
-    let bounds = c.map_bounds.ensures.open c.args.pages.now (g.D.Device.state c.args.device.now).disk.present
-    c.requires.open c.requires.unspent in
-    let knows : Knows m (file_at name files) held spec c.args.key c.in_ok-entry.field-0 c.in-Some.entry prime under =
-    record {
-      few = bounds.0;
-      small = bounds.1;
-      listing = subst (λ (n : List ℕ). IsListed m (file_at n files) c.in_ok-entry.field-0) c.deref.ensures.value
-          (c.in_ok-entry.ensures.listed honest agrees files holds);
-      some = c.in-Some.is;
-      there = has.there;
-      spec_is = has.spec;
-      good = c.args.file.now.sound;
-      key_is = c.requires.key;
-      prime_layout = c.file_tree-prime.ensures.layout;
-      prime_root = c.file_tree-prime.ensures.root ∙ ap (root_in Prime) c.value.ensures;
-      under_layout = c.file_tree-under.ensures.layout;
-      under_root = c.file_tree-under.ensures.root ∙ ap (root_in c.args.key) c.value-2.ensures;
-    } in
-    let bounded : IsBound spec c.args.key b =
-    record { value = c.requires.value; number = let low = c.ranges.number.fits in omega arith } in
-    let way = sought_in m (file_at name files) held spec c.args.key b c.in_ok-entry.field-0
-    c.in-Some.entry prime under c.search_start_for-aim.result at knows bounded c.search_start_for-aim.ensures
-    (c.deref-2.ensures.value ∙ c.in_ok-at.ensures.bytes) in
-    let same =
-    same_pages c.args.pages.now c.find_listing.new.pages (g.D.Device.state c.args.device.now) (g.D.Device.state
-    c.find_listing.new.device) c.find_listing.ensures.unchanged (c.find_listing.ensures.only.state honest) in
-    let here = subst (λ (p : List (Option Sector)).
-    IsSought spec c.args.key b p held.rows prime under c.search_start_for-aim.result at) (sym same) way in
-    let honest_then = c.find_listing.ensures.only.honest.0 honest in
-    let agrees_then = c.find_listing.ensures.agrees honest agrees in
+    let at = goal.at.returns-clause-damaged g c in
     let told : c.to_fault.result ≡ Damaged = cc in
     let fault : c.in-Err.error ≡ pages.Damaged = damaged_back c.in-Err.error (sym c.to_fault.ensures ∙ told) in
-    c.in-Err.ensures.damaged honest_then agrees_then (ap Err fault) b held.rows here c.requires.bytes
+    c.in-Err.ensures.damaged (c.find_listing.ensures.only.honest.0 honest)
+    (c.find_listing.ensures.agrees honest agrees) (ap Err fault)
+    (bound_at c.args.side c.args.value.now c.args.number) held.rows
+    (sought g at.After-seek_row honest agrees files held holds has) c.requires.bytes

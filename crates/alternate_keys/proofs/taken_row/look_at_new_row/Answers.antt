@@ -1,77 +1,61 @@
-use Rattle.std.proofs.Common.{◌≡◌, inr, true, false, Err, ℕ, List, [], length, sym, ap, subst, ◌∙◌}
-use Rattle.std.proofs.Common.{arith}
-use Rattle.std.specs.Prelude.{map, Option, is_some}
-use Rattle.std.specs.List.{All}
-use Rattle.station.specs.Disk.{Sector}
+use Rattle.std.proofs.Common.{◌≡◌, inr, true, false, ℕ, List, [], length, Err, sym, ap, ◌∙◌, arith}
+use Rattle.std.specs.Prelude.{IfErr}
 use Rattle.pages.specs.Use.{free_count}
-use Rattle.pages.specs.Pages.{map_now}
-use Rattle.btree.proofs.Frames.{same_pages}
-use Rattle.btree.specs.Entries.{Entry, entry_with}
-use Rattle.records.specs.declared.fault.StoreFault.TheVariants.{Device, Damaged}
-use Rattle.records.specs.declared.key.KeyOfReference.TheVariants.{Prime}
-use Rattle.records.specs.Spec.{Spec}
-use Rattle.records.specs.Rows.{named_pair}
-use Rattle.records.specs.Changes.{FileChange, has_prime, new_row, new_number}
-use Rattle.records.specs.Files.{IsByte}
+use Rattle.btree.specs.Calls.{pages_on}
+use Rattle.records.specs.declared.fault.StoreFault.TheVariants.{Device}
+use Rattle.records.specs.Changes.{FileChange}
+use Rattle.records.specs.Files.{NamedFile}
 use Rattle.records.specs.Stores.{spec_of}
-use Rattle.volume_format.specs.Trees.{entry_under}
-use Rattle.file_bytes.specs.Rows.{prime_key}
-use Rattle.alternate_keys.specs.Placed.{HasTrees}
-use Rattle.alternate_keys.proofs.Bytes.{all_bytes}
+use Rattle.volume_format.specs.Forest.{TreeLevels}
 use Rattle.volume_format.proofs.Looks.{looks_blamed, looks_then}
+use Rattle.alternate_keys.specs.Faults.{IsReadFault}
+use Rattle.alternate_keys.specs.Placed.{OnTrees}
+use Rattle.alternate_keys.specs.Seen.{HasRows}
+use Rattle.alternate_keys.proofs.Bytes.{all_bytes}
+use Rattle.alternate_keys.proofs.Calling.{sectors_still}
+use Rattle.alternate_keys.proofs.Faults.{refused_by_call}
 use Rattle.alternate_keys.proofs.FileTrees.{arrival_is, prime_rows, all_pairs}
-use Rattle.alternate_keys.proofs.InsertRow.{inserted_there, inserted_taken, prime_there, look_free, look_full}
+use Rattle.alternate_keys.proofs.HeldTrees.{HoldsTrees, still_holds}
+use Rattle.alternate_keys.proofs.InsertRow.{IsNew, inserted_there, inserted_taken, there_told, look_free, look_full}
 use Rattle.alternate_keys.proofs.InsertRow.{look_taken}
+use Rattle.alternate_keys.proofs.Passing.{never_ok, passed, spent_before}
 use Rattle.alternate_keys.proofs.Still.{same_volume}
 use Rattle.alternate_keys.proofs.TakenRow.{new_row_changes}
+use Rattle.alternate_keys.proofs.taken_row.look_at_new_row.Given.{Over}
 use Rattle.alternate_keys.proofs.taken_row.look_at_new_row.Goals as goal
+use Rattle.alternate_keys.proofs.taken_row.look_at_new_row.Goals.{After-is_row_there}
 
 pub returns-in_err-outcome-clause-looks : goal.returns-in_err-outcome-clause-looks
 returns-in_err-outcome-clause-looks g c =
-    looks_blamed g.D.Device (c.find_duplicate_key.result ≡ Err Device) _ c.args.pages.now c.find_duplicate_key.new.pages
-    c.args.device.now c.find_duplicate_key.new.device
-    (λ is. let from = rw is at c.from_residual.ensures.1 in let fault : c.in_err-outcome.field-0.0 ≡ Device =
-    sym from in let told : c.find_duplicate_key.result ≡ Err Device = c.in_err-outcome.was ∙ ap Err fault in told)
-    c.find_duplicate_key.ensures.looks
+    looks_blamed g.D.Device (c.find_duplicate_key.result ≡ Err Device) _ _ _ _ _
+    (λ is. refused_by_call c.in_err-outcome.was c.from_residual.ensures.1 is) c.find_duplicate_key.ensures.looks
 
 pub returns-in_err-outcome-clause-damaged : goal.returns-in_err-outcome-clause-damaged
 returns-in_err-outcome-clause-damaged g c = λ honest agrees named generation left right has refused.
-    let from = rw refused at c.from_residual.ensures.1 in
-    let fault : c.in_err-outcome.field-0.0 ≡ Damaged = sym from in
-    let refusal : c.find_duplicate_key.result ≡ Err Damaged = c.in_err-outcome.was ∙ ap Err fault in
-    let before : List (Option Sector) =
-    (map_now c.args.pages.now (g.D.Device.state c.args.device.now).disk.present).pages in
-    c.find_duplicate_key.ensures.damaged honest agrees named.file.rows
-    (all_pairs (spec_of c.args.file.now) named generation before left right c.args.listing.now has) refusal
+    c.find_duplicate_key.ensures.damaged honest agrees named.file.rows (all_pairs _ _ _ _ _ _ _ has)
+    (refused_by_call c.in_err-outcome.was c.from_residual.ensures.1 refused)
 
 pub returns-then-not-is_done-clause-looks : goal.returns-then-not-is_done-clause-looks
 returns-then-not-is_done-clause-looks g c =
-    looks_blamed g.D.Device (c.find_duplicate_key.result ≡ Err Device) _ c.args.pages.now c.find_duplicate_key.new.pages
-    c.args.device.now c.find_duplicate_key.new.device (λ is. absurd cc) c.find_duplicate_key.ensures.looks
+    looks_blamed g.D.Device (c.find_duplicate_key.result ≡ Err Device) _ _ _ _ _ (λ is. never_ok is)
+    c.find_duplicate_key.ensures.looks
 
 pub returns-then-not-is_done-clause-taken : goal.returns-then-not-is_done-clause-taken
 returns-then-not-is_done-clause-taken g c = λ honest agrees named generation left right has none.
-    let spec : Spec = spec_of c.args.file.now in
-    let bytes : List ℕ = c.args.bytes.now in
-    let before : List (Option Sector) =
-    (map_now c.args.pages.now (g.D.Device.state c.args.device.now).disk.present).pages in
-    let told = c.in_ok-outcome.ensures.told honest agrees named.file.rows
-    (all_pairs spec named generation before left right c.args.listing.now has) in
-    let full = look_full spec named.file has.spec_is [] bytes c.in_ok-outcome.outcome told none in
-    look_taken spec named.file has.spec_is [] bytes c.in_ok-outcome.outcome told none
-    ∙ sym (ap (λ (ch : FileChange). ch.outcome) (inserted_taken c.args.number bytes named.file full))
+    let spec = spec_of c.args.file.now in
+    let told = c.in_ok-outcome.ensures.told honest agrees named.file.rows (all_pairs _ _ _ _ _ _ _ has) in
+    look_taken spec named.file has.spec_is [] c.args.bytes.now c.in_ok-outcome.outcome told none
+    ∙ sym (ap (λ (ch : FileChange). ch.outcome) (inserted_taken c.args.number c.args.bytes.now named.file
+    (look_full spec named.file has.spec_is [] c.args.bytes.now c.in_ok-outcome.outcome told none)))
 
 pub returns-then-not-is_scarce-clause-looks : goal.returns-then-not-is_scarce-clause-looks
 returns-then-not-is_scarce-clause-looks g c =
-    looks_blamed g.D.Device (c.find_duplicate_key.result ≡ Err Device) _ c.args.pages.now c.find_duplicate_key.new.pages
-    c.args.device.now c.find_duplicate_key.new.device (λ is. absurd cc) c.find_duplicate_key.ensures.looks
+    looks_blamed g.D.Device (c.find_duplicate_key.result ≡ Err Device) _ _ _ _ _ (λ is. never_ok is)
+    c.find_duplicate_key.ensures.looks
 
 pub returns-then-not-is_scarce-clause-told : goal.returns-then-not-is_scarce-clause-told
 returns-then-not-is_scarce-clause-told g c = λ honest agrees named generation left right has done_is.
-    let before : List (Option Sector) =
-    (map_now c.args.pages.now (g.D.Device.state c.args.device.now).disk.present).pages in
-    c.in_ok-outcome.ensures.told honest agrees named.file.rows
-    (all_pairs (spec_of c.args.file.now) named generation before left right c.args.listing.now has)
+    c.in_ok-outcome.ensures.told honest agrees named.file.rows (all_pairs _ _ _ _ _ _ _ has)
 
 pub returns-then-not-is_scarce-clause-free : goal.returns-then-not-is_scarce-clause-free
 returns-then-not-is_scarce-clause-free g c = λ unspent honest agrees named generation left right has done_is few.
@@ -82,126 +66,117 @@ returns-then-not-is_scarce-clause-free g c = λ unspent honest agrees named gene
     let clash : true ≡ false = sym scarce ∙ c.if-not-is_scarce.true in
     absurd cc
 
+-- the trees after the values were looked at, and their rows
+trees_looked : (g : Over) (c : After-is_row_there g) → OnTrees g.D.Device (spec_of c.args.file.now) c.args.pages.now
+    c.args.device.now c.args.listing.now (λ named generation left right. HoldsTrees g.D.Device
+    (spec_of c.args.file.now) named generation left right c.args.listing.now c.find_duplicate_key.new.pages
+    c.find_duplicate_key.new.device)
+trees_looked g c honest agrees named generation left right has =
+    still_holds g.D.Device (record { honest = honest; agrees = agrees; has = has }) c.find_duplicate_key.ensures.looks
+
+rows_looked : (g : Over) (c : After-is_row_there g) {named : NamedFile} {generation : ℕ} {left right : List TreeLevels}
+    → HoldsTrees g.D.Device (spec_of c.args.file.now) named generation left right c.args.listing.now
+    c.find_duplicate_key.new.pages c.find_duplicate_key.new.device → HasRows (spec_of c.args.file.now)
+    (pages_on g.D.Device c.find_duplicate_key.new.pages c.find_duplicate_key.new.device) named.file.rows
+    c.file_tree-prime.result
+rows_looked g c trees = prime_rows _ _ _ _ _ _ _ trees.has c.file_tree-prime.result c.file_tree-prime.ensures.layout
+    c.file_tree-prime.ensures.root
+
+is_new : (g : Over) (c : After-is_row_there g) {named : NamedFile} {generation : ℕ} {left right : List TreeLevels}
+    → HoldsTrees g.D.Device (spec_of c.args.file.now) named generation left right c.args.listing.now
+    c.find_duplicate_key.new.pages c.find_duplicate_key.new.device →
+    IsNew (spec_of c.args.file.now) named.file c.args.number c.next_arrival.result c.args.bytes.now
+is_new g c trees = record {
+  same = c.next_arrival.ensures ∙ arrival_is _ _ _ _ _ _ _ trees.has;
+  good = c.args.file.now.sound;
+  long = c.requires.bytes;
+  low = all_bytes c.args.bytes.now c.type_inv.bytes;
+  numbered = c.requires.number;
+}
+
 pub returns-in_err-is_row_there-clause-looks : goal.returns-in_err-is_row_there-clause-looks
 returns-in_err-is_row_there-clause-looks g c =
-    looks_then g.D.Device (c.find_duplicate_key.result ≡ Err Device) (c.is_row_there.result ≡ Err Device)
-    _ c.args.pages.now c.find_duplicate_key.new.pages c.is_row_there.new.pages c.args.device.now
-    c.find_duplicate_key.new.device c.is_row_there.new.device
-    (λ is. inr (let from =
-    rw is at c.from_residual-in_err-is_row_there.ensures.1 in let fault : c.in_err-is_row_there.field-0.0 ≡ Device =
-    sym from in let told : c.is_row_there.result ≡ Err Device = c.in_err-is_row_there.was ∙ ap Err fault in told))
+    looks_then g.D.Device (c.find_duplicate_key.result ≡ Err Device) (c.is_row_there.result ≡ Err Device) _ _ _ _ _ _ _
+    (λ is. inr (refused_by_call c.in_err-is_row_there.was c.from_residual-in_err-is_row_there.ensures.1 is))
     c.find_duplicate_key.ensures.looks c.is_row_there.ensures.looks
 
 pub returns-in_err-is_row_there-clause-damaged : goal.returns-in_err-is_row_there-clause-damaged
 returns-in_err-is_row_there-clause-damaged g c = λ honest agrees named generation left right has refused.
-    let from = rw refused at c.from_residual-in_err-is_row_there.ensures.1 in
-    let fault : c.in_err-is_row_there.field-0.0 ≡ Damaged = sym from in
-    let refusal : c.is_row_there.result ≡ Err Damaged = c.in_err-is_row_there.was ∙ ap Err fault in
-    let spec : Spec = spec_of c.args.file.now in
-    let listing : List ℕ = c.args.listing.now in
-    let before : List (Option Sector) =
-    (map_now c.args.pages.now (g.D.Device.state c.args.device.now).disk.present).pages in
-    let looks = c.find_duplicate_key.ensures.looks in
-    let there : List (Option Sector) =
-    (map_now c.find_duplicate_key.new.pages (g.D.Device.state c.find_duplicate_key.new.device).disk.present).pages in
-    let same_then : there ≡ before =
-    same_pages c.args.pages.now c.find_duplicate_key.new.pages (g.D.Device.state c.args.device.now)
-    (g.D.Device.state c.find_duplicate_key.new.device) looks.unchanged (looks.only.state honest) in
-    let has_then =
-    subst (λ (p : List (Option Sector)). HasTrees spec named generation p left right listing) (sym same_then) has in
-    let rows = prime_rows spec named generation there left right listing has_then c.file_tree-prime.result
-    c.file_tree-prime.ensures.layout c.file_tree-prime.ensures.root in
-    c.is_row_there.ensures.damaged (looks.only.honest.0 honest) (looks.agrees honest agrees) named.file.rows rows
-    refusal
+    let at = (goal.at.returns-in_err-is_row_there-clause-damaged g c).After-is_row_there in
+    let trees = trees_looked g at honest agrees named generation left right has in
+    c.is_row_there.ensures.damaged trees.honest trees.agrees named.file.rows (rows_looked g at trees)
+    (refused_by_call c.in_err-is_row_there.was c.from_residual-in_err-is_row_there.ensures.1 refused)
 
 pub returns-then-branch-clause-looks : goal.returns-then-branch-clause-looks
 returns-then-branch-clause-looks g c =
-    looks_then g.D.Device (c.find_duplicate_key.result ≡ Err Device) (c.is_row_there.result ≡ Err Device)
-    _ c.args.pages.now c.find_duplicate_key.new.pages c.is_row_there.new.pages c.args.device.now
-    c.find_duplicate_key.new.device c.is_row_there.new.device
-    (λ is. absurd cc) c.find_duplicate_key.ensures.looks c.is_row_there.ensures.looks
+    looks_then g.D.Device (c.find_duplicate_key.result ≡ Err Device) (c.is_row_there.result ≡ Err Device) _ _ _ _ _ _ _
+    (λ is. never_ok is) c.find_duplicate_key.ensures.looks c.is_row_there.ensures.looks
 
 pub returns-then-branch-clause-taken : goal.returns-then-branch-clause-taken
 returns-then-branch-clause-taken g c = λ honest agrees named generation left right has none.
-    let spec : Spec = spec_of c.args.file.now in
-    let listing : List ℕ = c.args.listing.now in
-    let bytes : List ℕ = c.args.bytes.now in
-    let before : List (Option Sector) =
-    (map_now c.args.pages.now (g.D.Device.state c.args.device.now).disk.present).pages in
-    let looks = c.find_duplicate_key.ensures.looks in
-    let there : List (Option Sector) =
-    (map_now c.find_duplicate_key.new.pages (g.D.Device.state c.find_duplicate_key.new.device).disk.present).pages in
-    let same_then : there ≡ before =
-    same_pages c.args.pages.now c.find_duplicate_key.new.pages (g.D.Device.state c.args.device.now)
-    (g.D.Device.state c.find_duplicate_key.new.device) looks.unchanged (looks.only.state honest) in
-    let has_then =
-    subst (λ (p : List (Option Sector)). HasTrees spec named generation p left right listing) (sym same_then) has in
-    let rows = prime_rows spec named generation there left right listing has_then c.file_tree-prime.result
-    c.file_tree-prime.ensures.layout c.file_tree-prime.ensures.root in
-    let arrival : ℕ = c.next_arrival.result in
-    let same : arrival ≡ named.file.next_arrival =
-    c.next_arrival.ensures ∙ arrival_is spec named generation there left right listing has_then in
-    let all : All IsByte bytes = all_bytes bytes c.type_inv.bytes in
-    let entries : List Entry = map (entry_under spec Prime) named.file.rows in
-    let own_is : c.number_of_new-own.result ≡ new_number spec.organization c.args.number arrival =
-    c.number_of_new-own.ensures in
-    let seen =
-    c.in_ok-is_row_there.ensures.there (looks.only.honest.0 honest) (looks.agrees honest agrees) named.file.rows rows in
-    let named_there = ap (λ (n : ℕ).
-    is_some (entry_with entries (prime_key spec.organization (named_pair spec.organization n bytes)))) own_is in
-    let prime = prime_there spec named generation there left right listing has_then c.args.number arrival bytes same
-    c.args.file.now.sound c.requires.bytes all c.requires.number in
-    let is : has_prime named.file (new_row named.file c.args.number bytes) ≡ true =
-    sym (seen ∙ named_there ∙ prime) ∙ c.if-branch.true in
-    sym (ap (λ (ch : FileChange). ch.outcome) (inserted_there c.args.number bytes named.file is))
+    let at = (goal.at.returns-then-branch-clause-taken g c).After-is_row_there in
+    let trees = trees_looked g at honest agrees named generation left right has in
+    let told = there_told trees.has (is_new g at trees) _ c.number_of_new-own.ensures
+    (c.in_ok-is_row_there.ensures.there trees.honest trees.agrees named.file.rows (rows_looked g at trees)) in
+    sym (ap (λ (ch : FileChange). ch.outcome)
+    (inserted_there c.args.number c.args.bytes.now named.file (sym told ∙ c.if-branch.true)))
 
 pub returns-clause-looks : goal.returns-clause-looks
 returns-clause-looks g c =
-    looks_then g.D.Device (c.find_duplicate_key.result ≡ Err Device) (c.is_row_there.result ≡ Err Device)
-    _ c.args.pages.now c.find_duplicate_key.new.pages c.is_row_there.new.pages c.args.device.now
-    c.find_duplicate_key.new.device c.is_row_there.new.device
-    (λ is. absurd cc) c.find_duplicate_key.ensures.looks c.is_row_there.ensures.looks
+    looks_then g.D.Device (c.find_duplicate_key.result ≡ Err Device) (c.is_row_there.result ≡ Err Device) _ _ _ _ _ _ _
+    (λ is. never_ok is) c.find_duplicate_key.ensures.looks c.is_row_there.ensures.looks
 
 pub returns-clause-told : goal.returns-clause-told
 returns-clause-told g c = λ honest agrees named generation left right has done_is.
-    let before : List (Option Sector) =
-    (map_now c.args.pages.now (g.D.Device.state c.args.device.now).disk.present).pages in
-    c.in_ok-outcome.ensures.told honest agrees named.file.rows
-    (all_pairs (spec_of c.args.file.now) named generation before left right c.args.listing.now has)
+    c.in_ok-outcome.ensures.told honest agrees named.file.rows (all_pairs _ _ _ _ _ _ _ has)
 
 pub returns-clause-free : goal.returns-clause-free
 returns-clause-free g c = λ unspent honest agrees named generation left right has done_is few.
-    let spec : Spec = spec_of c.args.file.now in
-    let listing : List ℕ = c.args.listing.now in
-    let bytes : List ℕ = c.args.bytes.now in
-    let before : List (Option Sector) =
-    (map_now c.args.pages.now (g.D.Device.state c.args.device.now).disk.present).pages in
-    let told = c.in_ok-outcome.ensures.told honest agrees named.file.rows
-    (all_pairs spec named generation before left right listing has) in
-    let looks = c.find_duplicate_key.ensures.looks in
-    let there : List (Option Sector) =
-    (map_now c.find_duplicate_key.new.pages (g.D.Device.state c.find_duplicate_key.new.device).disk.present).pages in
-    let same_then : there ≡ before =
-    same_pages c.args.pages.now c.find_duplicate_key.new.pages (g.D.Device.state c.args.device.now)
-    (g.D.Device.state c.find_duplicate_key.new.device) looks.unchanged (looks.only.state honest) in
-    let has_then =
-    subst (λ (p : List (Option Sector)). HasTrees spec named generation p left right listing) (sym same_then) has in
-    let rows = prime_rows spec named generation there left right listing has_then c.file_tree-prime.result
-    c.file_tree-prime.ensures.layout c.file_tree-prime.ensures.root in
-    let arrival : ℕ = c.next_arrival.result in
-    let same : arrival ≡ named.file.next_arrival =
-    c.next_arrival.ensures ∙ arrival_is spec named generation there left right listing has_then in
-    let all : All IsByte bytes = all_bytes bytes c.type_inv.bytes in
-    let entries : List Entry = map (entry_under spec Prime) named.file.rows in
-    let own_is : c.number_of_new-own.result ≡ new_number spec.organization c.args.number arrival =
-    c.number_of_new-own.ensures in
-    let seen =
-    c.in_ok-is_row_there.ensures.there (looks.only.honest.0 honest) (looks.agrees honest agrees) named.file.rows rows in
-    let named_there = ap (λ (n : ℕ).
-    is_some (entry_with entries (prime_key spec.organization (named_pair spec.organization n bytes)))) own_is in
-    let prime = prime_there spec named generation there left right listing has_then c.args.number arrival bytes same
-    c.args.file.now.sound c.requires.bytes all c.requires.number in
-    let is : has_prime named.file (new_row named.file c.args.number bytes) ≡ false =
-    sym (seen ∙ named_there ∙ prime) ∙ c.if-branch.false in
-    new_row_changes c.args.number bytes named.file is
-    (look_free spec named.file has.spec_is [] bytes c.in_ok-outcome.outcome told done_is)
+    let at = (goal.at.returns-clause-free g c).After-is_row_there in
+    let trees = trees_looked g at honest agrees named generation left right has in
+    let told = there_told trees.has (is_new g at trees) _ c.number_of_new-own.ensures
+    (c.in_ok-is_row_there.ensures.there trees.honest trees.agrees named.file.rows (rows_looked g at trees)) in
+    new_row_changes c.args.number c.args.bytes.now named.file (sym told ∙ c.if-branch.false)
+    (look_free (spec_of c.args.file.now) named.file has.spec_is [] c.args.bytes.now c.in_ok-outcome.outcome
+    (c.in_ok-outcome.ensures.told honest agrees named.file.rows (all_pairs _ _ _ _ _ _ _ has)) done_is)
+
+pub returns-in_err-outcome-clause-spent : goal.returns-in_err-outcome-clause-spent
+returns-in_err-outcome-clause-spent g c =
+    λ is. c.find_duplicate_key.ensures.spent (refused_by_call c.in_err-outcome.was c.from_residual.ensures.1 is)
+
+pub returns-in_err-outcome-clause-cause : goal.returns-in_err-outcome-clause-cause
+returns-in_err-outcome-clause-cause g c =
+    passed c.from_residual.result c.in_err-outcome.field-0.0 c.from_residual.ensures.1 (λ r. IfErr r IsReadFault)
+    c.in_err-outcome.ensures.cause
+
+pub is_row_there-requires-clause-sectors : goal.is_row_there-requires-clause-sectors
+is_row_there-requires-clause-sectors g c =
+    sectors_still g.D.Device _ c.args.pages.now c.find_duplicate_key.new.pages c.args.device.now
+    c.find_duplicate_key.new.device c.find_duplicate_key.ensures.looks.only
+    c.find_duplicate_key.ensures.looks.unchanged.committed c.requires.sectors
+
+pub is_row_there-requires-clause-open : goal.is_row_there-requires-clause-open
+is_row_there-requires-clause-open g c = c.find_duplicate_key.ensures.looks.is_open
+
+pub returns-in_err-is_row_there-clause-spent : goal.returns-in_err-is_row_there-clause-spent
+returns-in_err-is_row_there-clause-spent g c =
+    λ is. spent_before c.args.pages.now c.find_duplicate_key.new.pages
+    c.find_duplicate_key.ensures.looks.unchanged.committed (c.is_row_there.ensures.spent (refused_by_call
+    c.in_err-is_row_there.was c.from_residual-in_err-is_row_there.ensures.1 is))
+
+pub returns-in_err-is_row_there-clause-cause : goal.returns-in_err-is_row_there-clause-cause
+returns-in_err-is_row_there-clause-cause g c =
+    passed c.from_residual-in_err-is_row_there.result c.in_err-is_row_there.field-0.0
+    c.from_residual-in_err-is_row_there.ensures.1 (λ r. IfErr r IsReadFault) c.in_err-is_row_there.ensures.cause
+
+pub returns-then-not-is_done-clause-spent : goal.returns-then-not-is_done-clause-spent
+returns-then-not-is_done-clause-spent g c = λ is. never_ok is
+
+pub returns-then-not-is_scarce-clause-spent : goal.returns-then-not-is_scarce-clause-spent
+returns-then-not-is_scarce-clause-spent g c = λ is. never_ok is
+
+pub returns-then-branch-clause-spent : goal.returns-then-branch-clause-spent
+returns-then-branch-clause-spent g c = λ is. never_ok is
+
+pub returns-clause-spent : goal.returns-clause-spent
+returns-clause-spent g c = λ is. never_ok is

@@ -20,6 +20,8 @@ use Rattle.alternate_keys.specs.Placed.{listed_tree}
 use Rattle.alternate_keys.specs.Seen.{HasPairs}
 use Rattle.volume_format.proofs.Looks.{looks_then}
 use Rattle.alternate_keys.proofs.Walks.{any_more, any_at, all_taken, allowed, any_filtered}
+use Rattle.alternate_keys.proofs.Passing.{never_ok}
+use Rattle.alternate_keys.proofs.Faults.{refused_by_call}
 use Rattle.alternate_keys.proofs.values.find_duplicate_key.Goals as goal
 
 pub returns-in_err-repeated-clause-looks : goal.returns-in_err-repeated-clause-looks
@@ -27,8 +29,7 @@ returns-in_err-repeated-clause-looks g c =
     let loop = c.loop-key in
     looks_then g.D.Device ⊥ _ _ c.args.pages.now loop.pages c.is_repeated.new.pages c.args.device.now loop.device
     c.is_repeated.new.device
-    (λ is. inr (let from = err_from_is_err_and c.from_residual.result c.from_residual.ensures.1 in
-    let told : c.is_repeated.result ≡ Err Device = cc in told))
+    (λ is. inr (let told = refused_by_call c.in_err-repeated.was c.from_residual.ensures.1 is in told))
     loop.invariant.looks c.is_repeated.ensures.looks
 
 pub returns-in_err-repeated-clause-damaged : goal.returns-in_err-repeated-clause-damaged
@@ -43,8 +44,7 @@ returns-in_err-repeated-clause-damaged g c = λ honest agrees rows pairs is.
     (g.D.Device.state loop.device) loop.invariant.looks.unchanged (loop.invariant.looks.only.state honest) in
     let here = subst (λ (p : List (Option Sector)).
     HasPairs spec (Alternate loop.key) p rows (listed_tree spec loop.key listing)) (sym same) (pairs loop.key low) in
-    let from = err_from_is_err_and c.from_residual.result c.from_residual.ensures.1 in
-    let damaged : c.is_repeated.result ≡ Err Damaged = cc in
+    let damaged = refused_by_call c.in_err-repeated.was c.from_residual.ensures.1 is in
     c.is_repeated.ensures.damaged (loop.invariant.looks.only.honest.0 honest)
     (loop.invariant.looks.agrees honest agrees) rows here damaged
 
@@ -53,7 +53,7 @@ returns-then-is_barred-clause-looks g c =
     let loop = c.loop-key in
     looks_then g.D.Device ⊥ _ _ c.args.pages.now loop.pages c.is_repeated.new.pages c.args.device.now loop.device
     c.is_repeated.new.device
-    (λ is. absurd cc) loop.invariant.looks c.is_repeated.ensures.looks
+    (λ is. never_ok is) loop.invariant.looks c.is_repeated.ensures.looks
 
 -- what is known of a key, and of those before it
 module _ (keys : List AlternateKey) (rows : List Row) (bytes : List ℕ) (new : AlternateKey → Bool) where
