@@ -12,3 +12,7 @@ root/usr/bin/cobol run I V
 echo "the page of the manual, completions, examples, manual: $(ls -d root/usr/share/man/man1/cobol.1.gz \
     root/usr/share/bash-completion/completions/cobol root/usr/share/zsh/vendor-completions/_cobol \
     root/usr/share/doc/rendzukat/docs/LANGUAGE.md.gz | wc -l)"
+manual=root/usr/share/doc/rendzukat/docs
+for name in $(zcat "$manual"/*.gz root/usr/share/man/man1/*.gz | sed 's,[\]-,-,g' | grep -oE 'examples/[a-z]+[a-z.-]*[a-z]' | sort -u); do
+    [ -e "$manual/../$name" ] || echo "the manual names a file that the package lacks: $name"
+done

@@ -73,7 +73,7 @@ class FieldChange:
 
     def move_page(self):
         """A page is in another sector."""
-        if self.fields.root.mark != TREES or not self.fields.named["map: page"]:
+        if self.fields.root.mark != TREES or not self.fields.named.get("map: page"):
             return self.raise_generations()
         entry, sector = self.random.choice(self.fields.named["map: page"]), self.free_sector()
         old = self.volume.number(entry.at, 4)
@@ -89,7 +89,7 @@ class FieldChange:
             return self.raise_generations()
         (name, field), place = self.random.choice(named), self.random.choice(free[:3] + free[-3:])
         page = self.volume.number(field.at, 4)
-        entry = next((it for it in self.fields.named["map: page"] if self.page_of(it) == page), None)
+        entry = next((it for it in self.fields.named.get("map: page", []) if self.page_of(it) == page), None)
         if entry is None:
             return self.raise_generations()
         self.volume.write(place.at, self.volume.read(entry.at, 4))

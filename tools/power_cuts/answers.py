@@ -3,13 +3,13 @@ import re
 
 from power_cuts.product import Failure
 
-SOURCE_FAULTS = rb"1[0-8]|20|3[01]|4\d|5\d|6\d"
+SOURCE_FAULTS = rb"1[0-8]|20|3[01]|4\d|5\d|6\d|75"
 FORMS = {
     "format": {0: rb"", 4: rb"refused (8[035])\n"},
     "compile": {0: rb"", 1: rb"[1-9]\d*:[1-9]\d*: fault (%s)\n" % SOURCE_FAULTS, 4: rb"refused (83|85)\n"},
-    "run": {0: rb"", 3: rb"fault 9[012] at line [1-9]\d*\n", 4: rb"refused (7[0-4]|8[01235])\n", 5: rb"budget\n"},
+    "run": {0: rb"", 3: rb"fault 9[0123] at line [1-9]\d*\n", 4: rb"refused (7[0-4]|8[01235])\n", 5: rb"budget\n"},
     # (the line is what the image says)
-    "run of a changed image": {0: rb"", 3: rb"fault 9[012] at line \d+\n", 4: rb"refused (7[0-4]|8[01235])\n", 5: rb"budget\n"},
+    "run of a changed image": {0: rb"", 3: rb"fault 9[0123] at line \d+\n", 4: rb"refused (7[0-4]|8[01235])\n", 5: rb"budget\n"},
     "list": {0: rb"", 4: rb"refused (8[0235])\n"},
     "dump": {0: rb"", 2: rb"error: .*\n", 4: rb"refused (8[0235])\n"},
 }

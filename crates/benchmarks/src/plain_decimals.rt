@@ -1,5 +1,6 @@
 //! Plain integers of 64 bits with a scale: what a loop would do that tests for overflow and has no other path.
 
+use decimal18::short_power;
 use std::cmp::Ordering;
 
 /// A coefficient and a scale.
@@ -9,35 +10,12 @@ pub struct Number {
     pub scale: u8,
 }
 
-/// Powers of ten in the table.
-const COUNT: usize = 20;
-
-const POWERS: [u64; COUNT] = [
-    1,
-    10,
-    100,
-    1_000,
-    10_000,
-    100_000,
-    1_000_000,
-    10_000_000,
-    100_000_000,
-    1_000_000_000,
-    10_000_000_000,
-    100_000_000_000,
-    1_000_000_000_000,
-    10_000_000_000_000,
-    100_000_000_000_000,
-    1_000_000_000_000_000,
-    10_000_000_000_000_000,
-    100_000_000_000_000_000,
-    1_000_000_000_000_000_000,
-    10_000_000_000_000_000_000,
-];
-
 fn power(exponent: u8) -> u64 {
-    let index = exponent as usize;
-    if index < COUNT { POWERS[index] } else { 1 }
+    if exponent <= 19 {
+        short_power(exponent)
+    } else {
+        1
+    }
 }
 
 fn raised(coefficient: i64, shift: u8) -> Option<i64> {

@@ -1,6 +1,6 @@
 -- The rules of what an object asks of its subject.
 use Rattle.std.proofs.Common.{◌≡◌, Bool, true, false, List, [], ◌∷◌, ◌++◌, None, Some, refl, sym, ap, ◌∙◌}
-use Rattle.std.specs.Prelude.{Result, Ok, Err, map}
+use Rattle.std.specs.Prelude.{Option, Result, Ok, Err, map}
 use Rattle.std.specs.Option.{option_map}
 use Rattle.std.proofs.lemmas.List.{append-nil}
 use Rattle.lexical.specs.declared.place.Place.{Place}
@@ -19,6 +19,7 @@ use Rattle.source_tree.specs.EvaluateRules.{at_object, objects_rules}
 use Rattle.entry_rules.specs.declared.rule.BrokenRule.{BrokenRule}
 use Rattle.entry_rules.specs.Checks.{IsFirstBreach}
 use Rattle.declarations.specs.Resolved.{broken_in}
+use Rattle.declarations.proofs.Firsts.{first_front}
 use Rattle.check_rules.proofs.ConditionLayers.{name_is, relation_is, not_is, all_is, any_is}
 
 module _ (items : List LocatedItem) where
@@ -58,6 +59,14 @@ module _ (items : List LocatedItem) where
       ∙ ap (λ l. l ++ condition_rules items (Relation value LessOrEqual last))
       (relation_is items value GreaterOrEqual from)
       ∙ ap (λ l. relation_rules items value from ++ l) (relation_is items value LessOrEqual last)
+
+  -- What the first relation breaks is the first of all.
+  pub within_front : (value from : Side) (last : Option Side) (broken : RuleBreach)
+      → first (relation_rules items value from) ≡ Some broken
+      → first (condition_rules items (value_within value from last)) ≡ Some broken
+  within_front value from None broken h = ap first (one_is value from) ∙ h
+  within_front value from (Some last) broken h = ap first (range_is value from last)
+      ∙ first_front (relation_rules items value from) (relation_rules items value last) broken h
 
   -- Both stand twice.
   pub alike_is : (one other : Condition)

@@ -9,7 +9,9 @@ use Rattle.source_tree.specs.declared.phrases.FilePhrases.{FilePhrases}
 use Rattle.source_tree.specs.declared.reference.Reference.{Reference}
 use Rattle.source_tree.specs.Broken.{RuleBreach, where_so}
 use Rattle.source_tree.specs.Filing.{is_in_sequence}
-use Rattle.source_tree.specs.FilingRules.{is_sequential_file, is_random, has_at_end, has_invalid_key, keys_by, is_text_kind, begins_key}
+use Rattle.source_tree.specs.NameRules.{no_part_rules}
+use Rattle.source_tree.specs.Places.{LocatedItem}
+use Rattle.source_tree.specs.FilingRules.{record_item, is_sequential_file, is_random, has_at_end, has_invalid_key, keys_by, is_text_kind, begins_key}
 use Rattle.source_tree.specs.ProgramFiles.{ProgramFile}
 use Rattle.source_tree.specs.References.{ItemPlace}
 use Rattle.layout.specs.declared.placed.PlacedItem.{PlacedItem}
@@ -35,6 +37,10 @@ abbrev pub start_file_rules : Place → ProgramFile → List RuleBreach
 start_file_rules place file =
     where_so (is_sequential_file file.entry.spec.organization || is_random file.entry.access) 61 place
     ++ where_so (is_relative file.entry.spec.organization && is_none file.places.relative_key) 60 place
+
+-- the 01 record of an FD, without a part
+abbrev pub whole_record : {S : Type 0} → List LocatedItem → List ProgramFile → FilePhrases S → Reference → Place → LocatedItem → List RuleBreach
+whole_record items files phrases one place found = no_part_rules one ++ record_item items files phrases place found
 
 -- ---- items of keys
 

@@ -1,4 +1,5 @@
 pub mod References
+pub mod TextSizes
 pub mod Sending
 pub mod Asking
 pub mod Operations

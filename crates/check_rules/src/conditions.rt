@@ -1,4 +1,4 @@
-//! The rules of conditions: 40, 41 and 50 of condition names, besides those of what is compared, of numbers and of references
+//! The rules of conditions: 40, 41, 50 and 75 of condition names, besides those of what is compared, of numbers and of references
 //! (COBOL-85, Nucleus, "Conditional expressions").
 
 ghost use Rattle.std.specs.Prelude.{◌≡◌};
@@ -10,11 +10,12 @@ ghost use Rattle.check_rules.specs.Comparing.{condition_named_rules};
 
 use crate::asked::Asked;
 use crate::checker::Checker;
+use declarations::no_part_rules;
 use entry_rules::{BrokenRule, Rule};
 use source_tree::{Condition, Reference};
 
 impl<'a> Checker<'a> {
-    /// The name of a condition, which has as many subscripts as its item has dimensions.
+    /// The name of a condition, which has as many subscripts as its item has dimensions, and no part.
     pub(crate) fn condition_named_rules(&self, one: &Reference) -> Result<(), BrokenRule>
         requires { IsDeclared self.now.declarations.now }
         ensures { IsFirstBreach result
@@ -23,17 +24,18 @@ impl<'a> Checker<'a> {
         let place = one.item.name.place;
         let found = self.declarations.condition_named(&one.item)?;
         let wanted = found.dimensions.as_slice().len();
-        Rule::Subscripts.broken_if(one.subscripts.as_slice().len() != wanted, place)
+        Rule::Subscripts.broken_if(one.subscripts.as_slice().len() != wanted, place)?;
+        no_part_rules(one)
     }
 
-    /// A condition name, with its subscripts.
+    /// A condition name, with the numbers in its parentheses.
     pub(crate) fn condition_name_rules(&self, one: &Reference) -> Result<(), BrokenRule>
         requires { IsDeclared self.now.declarations.now }
         ensures { IsFirstBreach result
             (spec.condition_name_rules (items_in self.now.declarations.now) one.now) }
     {
         self.condition_named_rules(one)?;
-        self.subscripts_rules(one.subscripts.as_slice())
+        self.parenthesized_rules(one)
     }
 
     /// A condition, with those in it.

@@ -2,11 +2,12 @@
 //! RELATIVE KEY, 61 what organization or access doesn't permit, 62 phrases, KEY and NEXT, 63 the KEY of START (COBOL-85, Sequential,
 //! Relative and Indexed I-O).
 
-ghost use Rattle.std.specs.Prelude.{◌≡◌};
+ghost use Rattle.std.specs.Prelude.{◌≡◌, Some, slice_get};
 ghost use Rattle.entry_rules.specs.Checks.{IsFirstBreach};
 ghost use Rattle.source_tree.specs.Broken.{each};
 ghost use Rattle.source_tree.specs.FileRules.{clause_item};
 ghost use Rattle.source_tree.specs.FilingRules as spec;
+ghost use Rattle.source_tree.specs.Places.{LocatedItem};
 ghost use Rattle.file_descriptions.specs.Files.{file_in, place_at};
 ghost use Rattle.check_rules.specs.Filed as filed;
 ghost use Rattle.check_rules.specs.References.{named_rules};
@@ -18,7 +19,9 @@ use crate::file_keys::{is_key_item, is_start_item};
 use crate::file_phrases::{
     is_in_sequence, is_random, is_relative, is_sequential, phrase_kind_rules, read_phrase_rules,
 };
+use crate::references::shape_rules;
 use crate::sent::Sent;
+use declarations::no_part_rules;
 use entry_rules::{BrokenRule, Rule};
 use file_descriptions::ProgramFile;
 use layout::PlacedItem;
@@ -88,6 +91,7 @@ impl<'a> Checker<'a> {
             (spec.read_key_item (file_in (items_in self.now.declarations.now) file.now)) key.now) }
     {
         let (number, found) = self.declarations.numbered_item(&key.item)?;
+        no_part_rules(key)?;
         let is_key = is_key_item(&self.declarations.names, file, key, found, number);
         Rule::FilePhrase.broken_if(!is_key, key.item.name.place)
     }
@@ -179,7 +183,26 @@ impl<'a> Checker<'a> {
         self.read_found_rules(file, name.place, next, into, key, phrases)
     }
 
-    /// The record of WRITE and REWRITE: the 01 record of an FD.
+    /// The 01 record of an FD. It is the item of that number, which has that area.
+    fn record_item_rules(
+        &self,
+        place: Place,
+        number: usize,
+        area: u32,
+        phrases: &FilePhrases<Statement>,
+    ) -> Result<(), BrokenRule>
+        requires { IsDeclared self.now.declarations.now }
+        ensures { (one : LocatedItem)
+            → slice_get (items_in self.now.declarations.now) number ≡ Some one → area ≡ one.area
+            → IsFirstBreach result (spec.record_item (items_in self.now.declarations.now)
+            (files_in self.now.declarations.now) phrases.now place one) }
+    {
+        Rule::UnknownName.broken_if(!self.declarations.is_record(number), place)?;
+        let file = self.declarations.file_with(place, area)?;
+        phrase_kind_rules(place, file.organization, phrases)
+    }
+
+    /// The record of WRITE and REWRITE: the 01 record of an FD, without a part.
     fn record_named_rules(
         &self,
         one: &Reference,
@@ -187,16 +210,13 @@ impl<'a> Checker<'a> {
     ) -> Result<(), BrokenRule>
         requires { IsDeclared self.now.declarations.now }
         ensures { IsFirstBreach result (named_rules (items_in self.now.declarations.now)
-            (spec.record_item (items_in self.now.declarations.now)
-            (files_in self.now.declarations.now) phrases.now) one.now) }
+            (filed.whole_record (items_in self.now.declarations.now)
+            (files_in self.now.declarations.now) phrases.now one.now) one.now) }
     {
-        let place = one.item.name.place;
         let (number, found) = self.declarations.numbered_item(&one.item)?;
-        let wanted = found.dimensions.as_slice().len();
-        Rule::Subscripts.broken_if(one.subscripts.as_slice().len() != wanted, place)?;
-        Rule::UnknownName.broken_if(!self.declarations.is_record(number), place)?;
-        let file = self.declarations.file_with(place, found.area)?;
-        phrase_kind_rules(place, file.organization, phrases)
+        shape_rules(one, found)?;
+        no_part_rules(one)?;
+        self.record_item_rules(one.item.name.place, number, found.area, phrases)
     }
 
     /// FROM, which is moved to the record.
@@ -222,7 +242,7 @@ impl<'a> Checker<'a> {
             (files_in self.now.declarations.now) one.now from.now phrases.now) }
     {
         self.record_named_rules(one, phrases)?;
-        self.subscripts_rules(one.subscripts.as_slice())?;
+        self.parenthesized_rules(one)?;
         self.from_rules(one, from)
     }
 
@@ -245,6 +265,7 @@ impl<'a> Checker<'a> {
             (spec.start_key_item (file_in (items_in self.now.declarations.now) file.now)) key.now) }
     {
         let (number, found) = self.declarations.numbered_item(&key.item)?;
+        no_part_rules(key)?;
         let is_start = is_start_item(&self.declarations.names, file, key, found, number);
         Rule::StartKey.broken_if(!is_start, key.item.name.place)
     }

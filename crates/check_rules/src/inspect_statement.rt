@@ -1,22 +1,24 @@
-//! The rules of INSPECT: 64 operands of another kind and replacing texts of another size, besides those of references and literals
-//! (COBOL-85, Nucleus, "The INSPECT statement").
+//! The rules of INSPECT: 64 operands of another kind, texts of unknown size and replacing texts of another size, besides those of
+//! references and literals (COBOL-85, Nucleus, "The INSPECT statement").
 
-ghost use Rattle.std.specs.Prelude.{◌≡◌, [], length, Some};
+ghost use Rattle.std.specs.Prelude.{◌≡◌, [], length};
 ghost use Rattle.entry_rules.specs.Checks.{IsFirstBreach};
 ghost use Rattle.source_tree.specs.Broken.{each};
 ghost use Rattle.source_tree.specs.Display.{shown_literal};
 ghost use Rattle.source_tree.specs.LookUp.{items_named};
 ghost use Rattle.source_tree.specs.InspectRules as spec;
+ghost use Rattle.check_rules.specs.TextSizes.{text_size_of};
 ghost use Rattle.declarations.specs.Named.{IsDeclared, items_in};
 
 use crate::asked::Asked;
 use crate::checker::Checker;
 use crate::forms::literal_rules;
 use crate::sides::operand_place;
+use crate::text_size::TextSize;
 use entry_rules::{BrokenRule, Rule};
 use source_tree::{
-    InspectStatement, Limits, Literal, LiteralValue, Operand, QualifiedName, ReplacedText,
-    Replacing, Tallied, TalliedText, Tallying,
+    InspectStatement, Limits, Literal, LiteralValue, Operand, Reference, ReplacedText, Replacing,
+    Tallied, TalliedText, Tallying,
 };
 
 impl<'a> Checker<'a> {
@@ -32,50 +34,62 @@ impl<'a> Checker<'a> {
         }
     }
 
-    /// The bytes of the item that a name names, where it names one.
-    fn size_named(&self, name: &QualifiedName) -> Option<usize>
+    /// The size of what a reference shows; any, where its name doesn't name one item.
+    fn size_shown(&self, one: &Reference) -> TextSize
         requires { IsDeclared self.now.declarations.now }
-        ensures { result
-            ≡ spec.only_size (items_named (items_in self.now.declarations.now) name.now) }
+        ensures { text_size_of result ≡ spec.only_size one.now.part
+            (items_named (items_in self.now.declarations.now) one.now.item) }
     {
-        match self.declarations.item_named(name) {
-            Ok(found) => Some(found.item.length as usize),
-            Err(_) => None,
+        match self.declarations.item_named(&one.item) {
+            Ok(found) => TextSize::of_item(found.item.length, &one.part),
+            Err(_) => TextSize::AnySize,
         }
     }
 
     /// The characters of a text.
-    fn size_of(&self, one: &Operand) -> Option<usize>
+    fn size_of(&self, one: &Operand) -> TextSize
         requires { IsDeclared self.now.declarations.now }
         ensures { spec.inspected_rules (items_in self.now.declarations.now) one.now ≡ []
-            → result ≡ spec.size_of (items_in self.now.declarations.now) one.now }
+            → text_size_of result ≡ spec.size_of (items_in self.now.declarations.now) one.now }
     {
         match one {
-            Operand::Item(reference) => self.size_named(&reference.item),
+            Operand::Item(reference) => self.size_shown(reference),
             Operand::Literal(literal) => literal_size(literal),
         }
     }
 
     /// The characters of a replacing text.
-    fn replacing_size(&self, one: &Operand) -> Option<usize>
+    fn replacing_size(&self, one: &Operand) -> TextSize
         requires { IsDeclared self.now.declarations.now }
         ensures { spec.inspected_rules (items_in self.now.declarations.now) one.now ≡ []
-            → result ≡ spec.replacing_size (items_in self.now.declarations.now) one.now }
+            → text_size_of result
+            ≡ spec.replacing_size (items_in self.now.declarations.now) one.now }
     {
         match one {
-            Operand::Item(reference) => self.size_named(&reference.item),
+            Operand::Item(reference) => self.size_shown(reference),
             Operand::Literal(literal) => replacing_literal_size(literal),
         }
     }
 
-    /// What replaces a text of so many characters.
-    fn by_rules(&self, size: Option<usize>, by: &Operand) -> Result<(), BrokenRule>
+    /// A text that is counted or replaced, or that limits: its size is known before the run.
+    fn known_text_rules(&self, one: &Operand) -> Result<(), BrokenRule>
         requires { IsDeclared self.now.declarations.now }
         ensures { IsFirstBreach result
-            (spec.by_rules (items_in self.now.declarations.now) size by.now) }
+            (spec.known_text_rules (items_in self.now.declarations.now) one.now) }
+    {
+        self.inspected_rules(one)?;
+        let size = self.size_of(one);
+        Rule::InspectOperand.broken_if(size.is_unknown(), operand_place(one))
+    }
+
+    /// What replaces a text of that size.
+    fn by_rules(&self, size: TextSize, by: &Operand) -> Result<(), BrokenRule>
+        requires { IsDeclared self.now.declarations.now }
+        ensures { IsFirstBreach result
+            (spec.by_rules (items_in self.now.declarations.now) (text_size_of size) by.now) }
     {
         self.inspected_rules(by)?;
-        let fits = same_size(size, self.replacing_size(by));
+        let fits = size.may_be_replaced_by(self.replacing_size(by));
         Rule::InspectOperand.broken_if(!fits, operand_place(by))
     }
 
@@ -86,7 +100,7 @@ impl<'a> Checker<'a> {
     {
         match one {
             None => Ok(()),
-            Some(one) => self.inspected_rules(one),
+            Some(one) => self.known_text_rules(one),
         }
     }
 
@@ -121,7 +135,7 @@ impl<'a> Checker<'a> {
         ensures { IsFirstBreach result
             (spec.tallied_text_rules (items_in self.now.declarations.now) one.now) }
     {
-        self.inspected_rules(&one.text)?;
+        self.known_text_rules(&one.text)?;
         self.limits_rules(&one.limits)
     }
 
@@ -184,7 +198,7 @@ impl<'a> Checker<'a> {
         ensures { IsFirstBreach result
             (spec.replaced_text_rules (items_in self.now.declarations.now) one.now) }
     {
-        self.inspected_rules(&one.text)?;
+        self.known_text_rules(&one.text)?;
         self.by_rules(self.size_of(&one.text), &one.by)?;
         self.limits_rules(&one.limits)
     }
@@ -207,7 +221,7 @@ impl<'a> Checker<'a> {
     {
         match one {
             Replacing::Characters { by, limits } => {
-                self.by_rules(Some(1), by)?;
+                self.by_rules(TextSize::Exactly(1), by)?;
                 self.limits_rules(limits)
             }
             Replacing::Texts { texts, .. } => self.replaced_texts_rules(texts.as_slice()),
@@ -251,34 +265,25 @@ fn inspected_literal(one: &Literal) -> Result<(), BrokenRule>
 }
 
 /// The characters of a literal that is a text; a number is none.
-fn literal_size(one: &Literal) -> Option<usize>
+fn literal_size(one: &Literal) -> TextSize
     ensures { spec.inspected_literal one.now one.now.value ≡ []
-        → result ≡ Some (length (shown_literal one.now.value)) }
+        → text_size_of result ≡ spec.Exactly (length (shown_literal one.now.value)) }
 {
     match &one.value {
-        LiteralValue::Numeric(_) => None,
-        LiteralValue::Nonnumeric(bytes) => Some(bytes.as_slice().len()),
-        LiteralValue::Figurative(_) => Some(1),
-        LiteralValue::All(bytes) => Some(bytes.as_slice().len()),
+        LiteralValue::Numeric(_) => TextSize::AnySize,
+        LiteralValue::Nonnumeric(bytes) => TextSize::Exactly(bytes.as_slice().len()),
+        LiteralValue::Figurative(_) => TextSize::Exactly(1),
+        LiteralValue::All(bytes) => TextSize::Exactly(bytes.as_slice().len()),
     }
 }
 
 /// The characters of a literal that is a replacing text. A figurative constant has any number.
-fn replacing_literal_size(one: &Literal) -> Option<usize>
+fn replacing_literal_size(one: &Literal) -> TextSize
     ensures { spec.inspected_literal one.now one.now.value ≡ []
-        → result ≡ spec.literal_size one.now.value }
+        → text_size_of result ≡ spec.literal_size one.now.value }
 {
     match &one.value {
-        LiteralValue::Figurative(_) => None,
+        LiteralValue::Figurative(_) => TextSize::AnySize,
         _ => literal_size(one),
-    }
-}
-
-fn same_size(one: Option<usize>, other: Option<usize>) -> bool
-    ensures { result ≡ spec.same_size one other }
-{
-    match (one, other) {
-        (Some(one), Some(other)) => one == other,
-        _ => true,
     }
 }

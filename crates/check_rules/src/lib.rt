@@ -28,6 +28,7 @@ mod statement_count;
 mod statements;
 mod string_statement;
 mod text;
+mod text_size;
 mod until;
 
 pub use checker::Checker;

@@ -35,8 +35,8 @@ impl<'a> Checker<'a> {
         ensures { result
             ≡ asked_by (spec.sent_by (items_in self.now.declarations.now) (Item sender.now)) }
     {
-        match self.declarations.item_named(&sender.item) {
-            Ok(found) => Asked::Receives(Sent::by_item(found.item)),
+        match self.declarations.item_shown(sender) {
+            Ok(item) => Asked::Receives(Sent::by_item(item)),
             Err(_) => Asked::Nothing,
         }
     }

@@ -1,4 +1,4 @@
-//! The rules of references: 17, 40, 41, 50 and 51, and what is asked of their items (COBOL-85, Nucleus, "Uniqueness of reference").
+//! The rules of references: 17, 40, 41, 50, 51 and 75, and what is asked of their items (COBOL-85, Nucleus, "Uniqueness of reference").
 
 ghost use Rattle.std.specs.Prelude.{◌≡◌};
 ghost use Rattle.entry_rules.specs.Checks.{IsFirstBreach};
@@ -11,8 +11,10 @@ ghost use Rattle.check_rules.specs.Asking.{asks};
 use crate::asked::Asked;
 use crate::checker::Checker;
 use crate::forms::{adjustment_rules, integer_rules};
+use declarations::{has_part, kind_seen, may_have_parts};
 use entry_rules::{BrokenRule, Rule};
-use source_tree::{QualifiedName, Reference, Subscript};
+use layout::PlacedItem;
+use source_tree::{BoxedPart, Part, QualifiedName, Reference, Subscript};
 
 impl<'a> Checker<'a> {
     /// The item of a subscript is an integer, and has no subscripts.
@@ -43,7 +45,7 @@ impl<'a> Checker<'a> {
     }
 
     /// Subscripts, in order.
-    pub(crate) fn subscripts_rules(&self, all: &[Subscript]) -> Result<(), BrokenRule>
+    fn subscripts_rules(&self, all: &[Subscript]) -> Result<(), BrokenRule>
         requires { IsDeclared self.now.declarations.now }
         ensures { IsFirstBreach result
             (each (spec.subscript_rules (items_in self.now.declarations.now)) all.now) }
@@ -54,17 +56,58 @@ impl<'a> Checker<'a> {
         Ok(())
     }
 
-    /// The item of a reference, its number of subscripts, and what is asked of it.
+    fn length_rules(&self, length: &Option<Subscript>) -> Result<(), BrokenRule>
+        requires { IsDeclared self.now.declarations.now }
+        ensures { IsFirstBreach result
+            (spec.length_rules (items_in self.now.declarations.now) length.now) }
+    {
+        match length {
+            None => Ok(()),
+            Some(one) => self.subscript_rules(one),
+        }
+    }
+
+    /// The numbers of a part.
+    fn part_rules(&self, part: &Option<BoxedPart>) -> Result<(), BrokenRule>
+        requires { IsDeclared self.now.declarations.now }
+        ensures { IsFirstBreach result
+            (spec.part_rules (items_in self.now.declarations.now) part.now) }
+    {
+        match part {
+            None => Ok(()),
+            Some(boxed) => self.place_rules(boxed.part()),
+        }
+    }
+
+    /// The first place of a part, and its length.
+    fn place_rules(&self, one: &Part) -> Result<(), BrokenRule>
+        requires { IsDeclared self.now.declarations.now }
+        ensures { IsFirstBreach result
+            (spec.part_rules (items_in self.now.declarations.now) (Some one.now)) }
+    {
+        self.subscript_rules(&one.first)?;
+        self.length_rules(&one.length)
+    }
+
+    /// The numbers in parentheses after a name: subscripts, and then those of a part.
+    pub(crate) fn parenthesized_rules(&self, one: &Reference) -> Result<(), BrokenRule>
+        requires { IsDeclared self.now.declarations.now }
+        ensures { IsFirstBreach result
+            (spec.number_rules_of (items_in self.now.declarations.now) one.now) }
+    {
+        self.subscripts_rules(one.subscripts.as_slice())?;
+        self.part_rules(&one.part)
+    }
+
+    /// The item of a reference, its number of subscripts, whether it may have a part, and what is asked of it.
     fn named_rules(&self, asked: Asked, one: &Reference) -> Result<(), BrokenRule>
         requires { IsDeclared self.now.declarations.now }
         ensures { IsFirstBreach result
             (parts.named_rules (items_in self.now.declarations.now) (asks asked) one.now) }
     {
-        let place = one.item.name.place;
         let found = self.declarations.item_named(&one.item)?;
-        let wanted = found.dimensions.as_slice().len();
-        Rule::Subscripts.broken_if(one.subscripts.as_slice().len() != wanted, place)?;
-        asked.kind_rules(found.item.kind, place)
+        shape_rules(one, found)?;
+        asked.kind_rules(kind_seen(&one.part, found.item.kind), one.item.name.place)
     }
 
     /// A reference, and what is asked of its item.
@@ -74,6 +117,17 @@ impl<'a> Checker<'a> {
             (spec.reference_rules (items_in self.now.declarations.now) (asks asked) one.now) }
     {
         self.named_rules(asked, one)?;
-        self.subscripts_rules(one.subscripts.as_slice())
+        self.parenthesized_rules(one)
     }
+}
+
+/// A reference has as many subscripts as the item has dimensions, and a part only of an item that has parts.
+pub(crate) fn shape_rules(one: &Reference, found: &PlacedItem) -> Result<(), BrokenRule>
+    ensures { IsFirstBreach result (parts.shape_rules one.now found.now) }
+{
+    let place = one.item.name.place;
+    let wanted = found.dimensions.as_slice().len();
+    Rule::Subscripts.broken_if(one.subscripts.as_slice().len() != wanted, place)?;
+    let has_no_such = has_part(one) && !may_have_parts(found.item.kind);
+    Rule::Part.broken_if(has_no_such, place)
 }

@@ -27,7 +27,7 @@ impl<'a> Checker<'a> {
         BrokenRule { rule, place }
     }
 
-    /// The name of a condition, which has as many subscripts as its item has dimensions.
+    /// The name of a condition, which has as many subscripts as its item has dimensions, and no part.
     fn set_name_rules(&self, one: &Reference) -> Result<(), BrokenRule>
         requires { IsDeclared self.now.declarations.now }
         ensures { IsFirstBreach result (spec.set_name one.now.item.name.place
@@ -41,13 +41,13 @@ impl<'a> Checker<'a> {
         }
     }
 
-    /// The name of a condition, with its subscripts.
+    /// The name of a condition, with the numbers in its parentheses.
     fn set_one_rules(&self, one: &Reference) -> Result<(), BrokenRule>
         requires { IsDeclared self.now.declarations.now }
         ensures { IsFirstBreach result (spec.set_one (items_in self.now.declarations.now) one.now) }
     {
         self.set_name_rules(one)?;
-        self.subscripts_rules(one.subscripts.as_slice())
+        self.parenthesized_rules(one)
     }
 
     /// SET of condition names TO TRUE.

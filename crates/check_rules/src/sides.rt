@@ -79,8 +79,8 @@ impl<'a> Checker<'a> {
             ≡ spec.compared_alone (items_in self.now.declarations.now) (Some one.now) }
     {
         match one {
-            Operand::Item(reference) => match self.declarations.item_named(&reference.item) {
-                Ok(found) => SideKind::of_kind(found.item.kind),
+            Operand::Item(reference) => match self.declarations.item_shown(reference) {
+                Ok(item) => SideKind::of_kind(item.kind),
                 Err(_) => SideKind::Either,
             },
             Operand::Literal(literal) => SideKind::of_literal(&literal.value),

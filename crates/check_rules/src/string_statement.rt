@@ -4,16 +4,14 @@
 ghost use Rattle.std.specs.Prelude.{◌≡◌};
 ghost use Rattle.entry_rules.specs.Checks.{IsFirstBreach};
 ghost use Rattle.source_tree.specs.Broken.{each};
-ghost use Rattle.source_tree.specs.LookUp.{items_named};
+ghost use Rattle.source_tree.specs.Parts.{items_referred};
 ghost use Rattle.source_tree.specs.StringRules as spec;
 ghost use Rattle.declarations.specs.Named.{IsDeclared, items_in};
 
 use crate::asked::Asked;
 use crate::checker::Checker;
 use entry_rules::{BrokenRule, Rule};
-use source_tree::{
-    Literal, LiteralValue, Operand, QualifiedName, Reference, Sending, Statement, StringStatement,
-};
+use source_tree::{Literal, LiteralValue, Operand, Reference, Sending, Statement, StringStatement};
 
 impl<'a> Checker<'a> {
     /// A sender or a delimiter.
@@ -72,14 +70,14 @@ impl<'a> Checker<'a> {
         Ok(())
     }
 
-    /// The bytes of the item that a name names; 0 where it doesn't name one.
-    fn length_named(&self, name: &QualifiedName) -> u32
+    /// The bytes of what a reference shows; 0 where its name doesn't name one item.
+    fn length_shown(&self, one: &Reference) -> u32
         requires { IsDeclared self.now.declarations.now }
         ensures { result
-            ≡ spec.only_length (items_named (items_in self.now.declarations.now) name.now) }
+            ≡ spec.only_length (items_referred (items_in self.now.declarations.now) one.now) }
     {
-        match self.declarations.item_named(name) {
-            Ok(found) => found.item.length,
+        match self.declarations.item_shown(one) {
+            Ok(item) => item.length,
             Err(_) => 0,
         }
     }
@@ -104,7 +102,7 @@ impl<'a> Checker<'a> {
     {
         self.sendings_rules(one.sendings.as_slice())?;
         self.item_rules(Asked::ReceivesText, &one.receiver)?;
-        self.pointer_rules(self.length_named(&one.receiver.item), &one.pointer)
+        self.pointer_rules(self.length_shown(&one.receiver), &one.pointer)
     }
 }
 

@@ -119,6 +119,7 @@ fn reference(alloc: Global) -> Result<Reference, AllocError> {
     Ok(Reference {
         item,
         subscripts: Items::new(alloc),
+        part: None,
     })
 }
 

@@ -1,3 +1,4 @@
 pub mod Host
 pub mod Status
+pub mod Traced
 pub mod Words

@@ -82,6 +82,7 @@ AsksToRun found (Run run) =
     × ReadsBudget (option_of found (codes "budget")) (Some run.budget)
     × ReadsDate (option_of found (codes "date")) (Some run.day)
     × ReadsFlag (one_text (found_of found) (codes "today")) run.is_today
+    × ReadsFlag (one_text (found_of found) (codes "trace-files")) run.is_traced
 AsksToRun found other = ⊥
 
 abbrev pub AsksToList : ArgMatches → Request → Type 0

@@ -59,7 +59,7 @@ where
         Request::Load { volume, name } => load(rt, volume, name, console, &mut out, err),
         Request::Stat { volume } => stat(rt, volume, &mut out),
         Request::Compile { source, image } => compile_file(rt, source, image),
-        Request::Run(request) => run(rt, request, console, out),
+        Request::Run(request) => run(rt, request, console, out, err),
         Request::List { volume } => list(rt, volume, &mut out),
         Request::Dump { volume, name } => dump(rt, volume, name, out, err),
         Request::Explain { number } => explain_number(rt.alloc(), number, &mut out, err),

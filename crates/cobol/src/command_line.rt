@@ -8,13 +8,13 @@ const FILE_NAME: &str = "The file's name; write `--` before VOLUME if it begins 
 
 /// The end of the help.
 const EXIT_STATUSES: &str = "Exit status:
-  0  the command has done what it was asked
-  1  the source has a fault, which is printed with its line and column
+  0  the command has done its work
+  1  the source has a fault, or a line of `load` is refused
   2  the command was called wrongly, or the volume has no such file
   3  the program did something wrong
   4  something was refused: a file of the host, the device, the volume,
      the image or memory
-  5  the budget of statements was used up
+  5  the budget of steps was used up
 
 Example:
   cobol check stock.cob
@@ -103,7 +103,7 @@ fn run_line<'a>(alloc: Global) -> Result<Command<'a>, AllocError> {
     let budget = Arg::new(alloc, "budget")
         .long("budget")
         .value_name("N")
-        .help("How many statements may begin, in place of 1000000000");
+        .help("How many steps the run may take, in place of 1000000000");
     let date = Arg::new(alloc, "date")
         .long("date")
         .value_name("YYMMDD")
@@ -113,6 +113,10 @@ fn run_line<'a>(alloc: Global) -> Result<Command<'a>, AllocError> {
         .action(ArgAction::SetTrue)
         .help("The program receives the day of this machine")
         .conflicts_with("date")?;
+    let trace_files = Arg::new(alloc, "trace-files")
+        .long("trace-files")
+        .action(ArgAction::SetTrue)
+        .help("Print each file statement and status on standard error");
     Command::new(alloc, "run")
         .about("Runs an image over a volume")
         .after_help("Example:\n  cobol run STOCK.image SHOP --date 261127 < stock.in")
@@ -120,7 +124,8 @@ fn run_line<'a>(alloc: Global) -> Result<Command<'a>, AllocError> {
         .arg(required(alloc, "VOLUME", "A volume that `format` made"))?
         .arg(budget)?
         .arg(date)?
-        .arg(today)
+        .arg(today)?
+        .arg(trace_files)
 }
 
 fn list_line<'a>(alloc: Global) -> Result<Command<'a>, AllocError> {

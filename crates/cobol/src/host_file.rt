@@ -7,8 +7,8 @@ use std::{fs, io};
 
 /// One byte more than a source may have. A longer source is refused without reading the rest.
 const MOST_READ: u64 = 8_000_001;
-/// What an image begins with.
-const MARK: [u8; 8] = *b"COBIMG01";
+/// What an image begins with: one without and one with parts of items.
+const MARKS: [[u8; 8]; 2] = [*b"COBIMG01", *b"COBIMG02"];
 
 /// The bytes of a source file, or the first of them if it is too large.
 pub fn read_source<R: Files + AllocGlobal>(rt: &R, path: &str) -> Result<Vec<u8>, Verdict> {
@@ -20,7 +20,7 @@ pub fn read_source<R: Files + AllocGlobal>(rt: &R, path: &str) -> Result<Vec<u8>
     Ok(bytes)
 }
 
-/// The bytes of an image file, or the first eight if they aren't the mark of an image.
+/// The bytes of an image file, or the first eight if they are no mark of an image.
 pub fn read_image<R: Files + AllocGlobal>(rt: &R, path: &str) -> Result<Vec<u8>, Verdict> {
     read_marked(rt, path).map_err(Verdict::refusing_host_file)
 }
@@ -29,9 +29,9 @@ fn read_marked<R: Files + AllocGlobal>(rt: &R, path: &str) -> io::Result<Vec<u8>
     let mut bytes = Vec::new(rt.alloc());
     let mut file = fs::open(rt, path)?;
     Read::by_ref(&mut file)
-        .take(MARK.len() as u64)
+        .take(MARKS[0].len() as u64)
         .read_to_end(&mut bytes)?;
-    if bytes.as_slice() == MARK.as_slice() {
+    if MARKS.iter().any(|mark| bytes.as_slice() == mark.as_slice()) {
         file.read_to_end(&mut bytes)?;
     }
     Ok(bytes)

@@ -1,6 +1,6 @@
 //! A station on the host: console lines come from a reader, shown bytes go to a writer, and the sectors are those of a device.
 //!
-//! It counts its failures and claims nothing more.
+//! It counts its failures and claims nothing more. It may print each file statement to a third writer, whose failures don't count.
 
 ghost use Rattle.std.specs.Prelude.{◌≡◌, ◌<◌, ◌≤◌, [], length, IfOk, IfSome, OnOk};
 ghost use Rattle.std.specs.Io.Buffered.{writer_buffer, writer_contents};
@@ -9,30 +9,50 @@ ghost use Rattle.station.specs.Disk.{sector_at};
 ghost use Rattle.station.specs.Failures.{CountsFailure};
 ghost use Rattle.station.specs.State.{wrote, state_after_sync};
 ghost use Rattle.cobol.specs.Host.{nothing_known};
+ghost use Rattle.cobol.specs.Traced.{Tells, traced_line};
 
 use crate::console::take_line;
-use station::{Device, DeviceError, Note, Station};
+use crate::file_trace::trace_statement;
+use station::{Device, DeviceError, Note, Station, TracedStatement};
 use std::alloc::Global;
 use std::io;
 use std::io::{BufRead, BufWriter, Write};
 
 /// What a program shows may wait in `out` until the next console line, note, write or sync, or the end of the run.
 #[derive(Drop)]
-pub struct HostStation<C, O: Write + Drop, D> {
+pub struct HostStation<C, O: Write + Drop, E, D> {
+    alloc: Global,
     console: C,
     out: BufWriter<O>,
+    /// Where file statements are printed, if anywhere.
+    trace: Option<E>,
     failures: u64,
     volume: D,
 }
 
-impl<C: BufRead + Drop, O: Write + Drop, D: Device + Drop> HostStation<C, O, D> {
+impl<C, O, E, D> HostStation<C, O, E, D>
+where
+    C: BufRead + Drop,
+    O: Write + Drop,
+    E: Write + Drop,
+    D: Device + Drop,
+{
     /// A station over this volume, which hasn't failed yet.
-    pub fn new(alloc: Global, console: C, out: O, volume: D) -> io::Result<HostStation<C, O, D>>
-        ensures { IfOk result (λ station. station.volume ≡ volume) }
+    pub fn new(
+        alloc: Global,
+        console: C,
+        out: O,
+        trace: Option<E>,
+        volume: D,
+    ) -> io::Result<HostStation<C, O, E, D>>
+        ensures volume { IfOk result (λ station. station.volume ≡ volume) }
+        ensures trace { IfOk result (λ station. station.trace ≡ trace) }
     {
         Ok(HostStation {
+            alloc,
             console,
             out: BufWriter::new(alloc, out)?,
+            trace,
             failures: 0,
             volume,
         })
@@ -51,7 +71,7 @@ impl<C: BufRead + Drop, O: Write + Drop, D: Device + Drop> HostStation<C, O, D> 
     }
 
     /// Counts a call that failed.
-    fn count_failure<T: Drop, E: Drop>(&mut self, done: Result<T, E>) -> Result<T, DeviceError>
+    fn count_failure<T: Drop, F: Drop>(&mut self, done: Result<T, F>) -> Result<T, DeviceError>
         ensures failures { CountsFailure result self.old.failures self.new.failures }
         ensures volume { self.new.volume ≡ self.old.volume }
         ensures out { self.new.out ≡ self.old.out }
@@ -67,7 +87,13 @@ impl<C: BufRead + Drop, O: Write + Drop, D: Device + Drop> HostStation<C, O, D> 
     }
 }
 
-impl<C: BufRead + Drop, O: Write + Drop, D: Device + Drop> Device for HostStation<C, O, D> {
+impl<C, O, E, D> Device for HostStation<C, O, E, D>
+where
+    C: BufRead + Drop,
+    O: Write + Drop,
+    E: Write + Drop,
+    D: Device + Drop,
+{
     ghost is_honest = { λ _. ⊥ };
 
     ghost state = { λ _. nothing_known };
@@ -128,7 +154,13 @@ impl<C: BufRead + Drop, O: Write + Drop, D: Device + Drop> Device for HostStatio
     }
 }
 
-impl<C: BufRead + Drop, O: Write + Drop, D: Device + Drop> Station for HostStation<C, O, D> {
+impl<C, O, E, D> Station for HostStation<C, O, E, D>
+where
+    C: BufRead + Drop,
+    O: Write + Drop,
+    E: Write + Drop,
+    D: Device + Drop,
+{
     fn line(&mut self, into: &mut [u8]) -> Result<Option<usize>, DeviceError>
         ensures volume { self.new.volume ≡ self.old.volume }
         ensures failures { CountsFailure result self.old.failures self.new.failures }
@@ -156,5 +188,16 @@ impl<C: BufRead + Drop, O: Write + Drop, D: Device + Drop> Station for HostStati
         ensures shown { OnOk result (writer_buffer self.new.out ≡ []) }
     {
         self.flush() // No status overtakes what was shown before it.
+    }
+
+    fn trace(&mut self, statement: &TracedStatement)
+        ensures volume { self.new.volume ≡ self.old.volume }
+        ensures failures { self.new.failures ≡ self.old.failures }
+        ensures out { self.new.out ≡ self.old.out }
+        ensures told { Tells E.contents self.old.trace self.new.trace (traced_line statement.now) }
+    {
+        if let Some(trace) = &mut self.trace {
+            trace_statement(self.alloc, trace, statement);
+        }
     }
 }

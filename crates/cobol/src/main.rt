@@ -10,6 +10,7 @@ mod copy_command;
 mod descriptors;
 mod dump_command;
 mod explain_command;
+mod file_trace;
 mod format_command;
 mod host_file;
 mod host_station;

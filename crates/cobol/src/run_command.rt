@@ -1,4 +1,4 @@
-//! `run IMAGE VOLUME [--budget N] [--date YYMMDD | --today]`.
+//! `run IMAGE VOLUME [--budget N] [--date YYMMDD | --today] [--trace-files]`.
 
 ghost use Rattle.std.specs.Prelude.{All, IfOk};
 ghost use Rattle.machine.specs.Ends.{IsDigit};
@@ -18,12 +18,14 @@ use std::io::{BufRead, Write};
 use std::rt::Files;
 use std::time::Clock;
 
-/// Runs an image over a volume. Both host files are opened before the image is examined.
-pub fn run<R, C, O>(rt: &R, request: RunRequest, console: C, out: O) -> Verdict
+/// Runs an image over a volume. Both host files are opened before the image is examined. If it is asked for, each file statement is
+/// printed to `err`.
+pub fn run<R, C, O, E>(rt: &R, request: RunRequest, console: C, out: O, err: &mut E) -> Verdict
 where
     R: Files<File = File> + AllocGlobal + Clock + Env + Clone + Drop,
     C: BufRead + Drop,
     O: Write + Drop,
+    E: Write,
     requires { All IsDigit request.day }
 {
     let Ok(day) = day_of_run(rt, &request) else {
@@ -37,7 +39,8 @@ where
         Ok(volume) => HostDevice::new(rt.alloc(), volume),
         Err(error) => return Verdict::refusing_host_file(error),
     };
-    match HostStation::new(rt.alloc(), console, out, volume) {
+    let trace = request.is_traced.then_some(err);
+    match HostStation::new(rt.alloc(), console, out, trace, volume) {
         Ok(station) => run_on(rt.alloc(), image.as_slice(), station, day, request.budget),
         Err(_) => Verdict::memory(),
     }
@@ -57,16 +60,17 @@ where
 }
 
 /// Runs an image over a station, and flushes what it shows.
-pub fn run_on<C, O, D>(
+pub fn run_on<C, O, E, D>(
     alloc: Global,
     image: &[u8],
-    mut station: HostStation<C, O, D>,
+    mut station: HostStation<C, O, E, D>,
     day: [u8; 6],
     budget: u64,
 ) -> Verdict
 where
     C: BufRead + Drop,
     O: Write + Drop,
+    E: Write + Drop,
     D: Device + Drop,
     requires { All IsDigit day }
 {

@@ -157,20 +157,36 @@ fn budgets(rt: HostRuntime) -> Result<(), Fail> {
                 "HELLO\n",
                 "",
             ),
-            (
-                "run budgets/I budgets/V --budget 18446744073709551616",
-                2,
-                "",
-                BUDGETS,
-            ),
-            ("run budgets/I budgets/V --budget +2", 2, "", BUDGETS),
-            ("run budgets/I budgets/V --budget x", 2, "", BUDGETS),
-            ("run budgets/I budgets/V --budget -2", 2, "", WORDS),
-            ("run budgets/I budgets/V --budget", 2, "", WORDS),
         ],
     )?;
     assert!(rt; are_same(&rt, "budgets/V", "budgets/W")?);
     fs::remove_dir_all(&rt, "budgets")?;
+    Ok(())
+}
+
+#[test]
+fn budgets_that_are_refused(rt: HostRuntime) -> Result<(), Fail> {
+    prepare(&rt, "limits", HELLO)?;
+    expect(
+        &rt,
+        "",
+        &[
+            ("format limits/V 1024", 0, "", ""),
+            ("format limits/W 1024", 0, "", ""),
+            (
+                "run limits/I limits/V --budget 18446744073709551616",
+                2,
+                "",
+                BUDGETS,
+            ),
+            ("run limits/I limits/V --budget +2", 2, "", BUDGETS),
+            ("run limits/I limits/V --budget x", 2, "", BUDGETS),
+            ("run limits/I limits/V --budget -2", 2, "", WORDS),
+            ("run limits/I limits/V --budget", 2, "", WORDS),
+        ],
+    )?;
+    assert!(rt; are_same(&rt, "limits/V", "limits/W")?);
+    fs::remove_dir_all(&rt, "limits")?;
     Ok(())
 }
 
@@ -369,6 +385,45 @@ fn statuses_that_nothing_takes(rt: HostRuntime) -> Result<(), Fail> {
     fs::remove_dir_all(&rt, "on")?;
     Ok(())
 }
+
+#[test]
+fn file_statements_that_are_traced(rt: HostRuntime) -> Result<(), Fail> {
+    prepare(&rt, "traced", READS_ON)?;
+    expect(
+        &rt,
+        "",
+        &[
+            ("format traced/V 1024", 0, "", ""),
+            ("format traced/W 1024", 0, "", ""),
+            (
+                "run traced/I traced/V",
+                3,
+                "ROW1\n",
+                "fault 92 at line 18\n",
+            ),
+            ("run traced/I traced/W --trace-files", 3, "ROW1\n", TRACED),
+            ("run traced/I traced/W --trace-files=1", 2, "", WORDS),
+        ],
+    )?;
+    assert!(rt; are_same(&rt, "traced/V", "traced/W")?);
+    let mut out = Vec::new(rt.alloc());
+    let words = words_of(rt.alloc(), "run traced/I traced/W --trace-files")?;
+    let status = command(&rt, words.as_slice(), "".as_bytes(), &mut out, Full);
+    assert!(rt; status == 3 && out.as_slice() == b"ROW1\n".as_slice());
+    fs::remove_dir_all(&rt, "traced")?;
+    Ok(())
+}
+
+/// The file statements of a run that ends by a fault.
+const TRACED: &str = "\
+line 13: OPEN OUTPUT ROWS 00
+line 14: WRITE ROWS 00
+line 15: CLOSE ROWS 00
+line 16: OPEN INPUT ROWS 00
+line 17: READ ROWS 00
+line 18: READ ROWS 10
+fault 92 at line 18
+";
 
 /// What each command says of a damaged volume.
 const DAMAGED: [Row; 3] = [

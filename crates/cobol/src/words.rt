@@ -77,6 +77,8 @@ pub struct RunRequest<'a> {
     pub day: [u8; 6],
     /// Whether it receives the host's day in place of that date.
     pub is_today: bool,
+    /// Whether each file statement is printed.
+    pub is_traced: bool,
 }
 
 /// The message for a word that is no size of a volume.
@@ -186,7 +188,7 @@ fn read_compile<'a>(matches: &ArgMatches<'a>) -> Request<'a>
     }
 }
 
-/// The words of `run IMAGE VOLUME [--budget N] [--date YYMMDD | --today]`.
+/// The words of `run IMAGE VOLUME [--budget N] [--date YYMMDD | --today] [--trace-files]`.
 fn read_run<'a>(matches: &ArgMatches<'a>) -> Result<Request<'a>, Fault>
     ensures asks { IfOk result (AsksToRun matches.now) }
     ensures bounds { IfOk result IsWithinBounds }
@@ -205,6 +207,7 @@ fn read_run<'a>(matches: &ArgMatches<'a>) -> Result<Request<'a>, Fault>
         budget,
         day,
         is_today: matches.get_flag("today"),
+        is_traced: matches.get_flag("trace-files"),
     }))
 }
 

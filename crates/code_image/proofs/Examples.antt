@@ -1,7 +1,7 @@
 -- Worked examples: the code of a program that shows HELLO and stops, two loops, code that works on data, ways on, a way
 -- back, code paragraphs, console lines, and images.
-use Rattle.std.proofs.Common.{◌≡◌, ◌≤◌, ℕ, ◌+◌, true, false, List, [], ◌∷◌, ◌++◌, zero, suc, length, take, Option, Some}
-use Rattle.std.proofs.Common.{None, Ok, Err, map, refl, sym, subst, inl, inr, ℤ, pos, negsuc, arith}
+use Rattle.std.proofs.Common.{◌≡◌, ◌≤◌, ℕ, ◌+◌, true, false, List, [], ◌∷◌, ◌++◌, zero, suc, length, take, drop, Option}
+use Rattle.std.proofs.Common.{Some, None, Ok, Err, map, refl, sym, subst, inl, inr, ℤ, pos, negsuc, arith}
 use Rattle.std.specs.Prelude.{◌<◌, All, codes, slice_get, slice_index, slice_index_or}
 use Rattle.std.proofs.lemmas.List.Elements.{All-nil, All-cons}
 use Rattle.items.specs.declared.item.Kind.TheVariants as kind
@@ -26,6 +26,7 @@ use Rattle.source_tree.specs.Meaning.{Run}
 use Rattle.data_instructions.specs.declared.tables.DataItem.{DataItem}
 use Rattle.data_instructions.specs.declared.tables.DataTables.{DataTables}
 use Rattle.data_instructions.specs.declared.calculation.Calculation.TheVariants as c
+use Rattle.data_instructions.specs.declared.part.Part.TheVariants as part
 use Rattle.data_instructions.specs.declared.instruction.DataInstruction.TheVariants as i
 use Rattle.data_instructions.specs.declared.test.Test.TheVariants as t
 use Rattle.data_instructions.specs.Shapes.{empty}
@@ -52,7 +53,7 @@ use Rattle.code_image.specs.declared.instruction.Instruction.TheVariants.{Tick, 
 use Rattle.code_image.specs.declared.instruction.Instruction.TheVariants.{Accept, Date, Branch, Jump, Join, Perform}
 use Rattle.code_image.specs.declared.instruction.Instruction.TheVariants.{Back, File, TestStatus, Unheard, Data}
 use Rattle.code_image.specs.Spelling.{mark, instruction_bytes, code_bytes}
-use Rattle.code_image.specs.Reading.{after_mark, instruction_at, code_at}
+use Rattle.code_image.specs.Reading.{mark_at, instruction_at, code_at}
 use Rattle.code_image.specs.Known.{known_along}
 use Rattle.code_image.specs.Demands.{NamesData, NamesCounter, NamesParagraph, NamesFile, SuitsFile, HasValidTargets}
 use Rattle.code_image.specs.Demands.{AllLead, StartsAt, AllStart, HasOrder, HasFiles, IsVerified}
@@ -851,23 +852,23 @@ cut_instruction = refl
 -- ---- images
 
 -- seven bytes are no mark
-cut_mark : code_at (take 7 mark) ≡ Err faults.Mark
-unfolding code_at after_mark
+cut_mark : code_at (take 7 (mark false)) ≡ Err faults.Mark
+unfolding code_at mark_at
 cut_mark = refl
 
 -- a mark alone is too short
-mark_alone : code_at mark ≡ Err faults.Length
-unfolding code_at after_mark tables_at table_at count_at
+mark_alone : code_at (mark false) ≡ Err faults.Length
+unfolding code_at mark_at tables_at table_at count_at
 mark_alone = refl
 
 -- no area, and one item, of a kind that there isn't
-no_kind : code_at (mark ++ count_bytes 0 ++ count_bytes 1 ++ 10 ∷ []) ≡ Err faults.Value
-unfolding code_at after_mark tables_at table_at entries_at data_item_at items.item_at kind_at plain_kind_of byte_at
+no_kind : code_at (mark false ++ count_bytes 0 ++ count_bytes 1 ++ 10 ∷ []) ≡ Err faults.Value
+unfolding code_at mark_at tables_at table_at entries_at data_item_at items.item_at kind_at plain_kind_of byte_at
     count_at count_bytes
 no_kind = refl
 
 reading : Unit {0}
-unfolding code_at after_mark tables_at table_at entries_at text_at instruction_at data_instruction_at
+unfolding code_at mark_at tables_at table_at entries_at text_at instruction_at data_instruction_at
     plain_instruction_of byte_at count_at short_at count_bytes short_bytes
 reading = tt
 
@@ -885,6 +886,31 @@ cut_short = refl
 byte_after : code_at (code_bytes code ++ 0 ∷ []) ≡ Err faults.Length
 unfolding reading
 byte_after = refl
+
+-- code with a part has the mark of the second version
+abbrev with_part : Code
+with_part = record { tables = with_texts []; files = []; starts = []; instructions = Data (i.Part part.Rest) ∷ [] }
+
+second_mark : take 8 (code_bytes with_part) ≡ codes "COBIMG02"
+second_mark = refl
+
+part_again : code_at (code_bytes with_part) ≡ Ok with_part
+unfolding reading
+part_again = refl
+
+-- not under the first mark, and code without one not under the second
+part_of_the_first : code_at (mark false ++ drop 8 (code_bytes with_part)) ≡ Err faults.Value
+unfolding reading
+part_of_the_first = refl
+
+no_part_of_the_second : code_at (mark true ++ drop 8 (code_bytes code)) ≡ Err faults.Value
+unfolding reading
+no_part_of_the_second = refl
+
+-- a byte after the code is found before a mark that doesn't fit
+byte_before_the_mark : code_at (mark true ++ drop 8 (code_bytes code) ++ 0 ∷ []) ≡ Err faults.Length
+unfolding reading
+byte_before_the_mark = refl
 
 -- code with a file is read again too
 abbrev one_file : Code

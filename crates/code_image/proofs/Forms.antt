@@ -2,12 +2,13 @@
 use Rattle.std.proofs.Common.{◌≡◌, ℕ, suc, eqb, true, false, List, [], ◌∷◌, ◌++◌, take, drop, Ok, refl, sym, ap, subst}
 use Rattle.std.proofs.Common.{◌∙◌, append_assoc, inl, inr}
 use Rattle.std.specs.List.{starts_with}
-use Rattle.std.specs.Prelude.{nat_eq, ◌==◌, if◌then◌else◌}
+use Rattle.std.specs.Prelude.{Bool, nat_eq, ◌==◌, if◌then◌else◌}
 use Rattle.std.specs.Cmp.Lexicographic.{same_text}
 use Rattle.std.proofs.lemmas.List.{take-append-drop}
 use Rattle.data_instructions.specs.declared.calculation.Calculation.TheVariants as c
 use Rattle.data_instructions.specs.declared.test.Test.TheVariants as t
 use Rattle.data_instructions.specs.declared.gather.Gather.TheVariants as g
+use Rattle.data_instructions.specs.declared.part.Part.TheVariants as p
 use Rattle.data_instructions.specs.declared.instruction.DataInstruction.{DataInstruction}
 use Rattle.data_instructions.specs.declared.instruction.DataInstruction.TheVariants as i
 use Rattle.data_image.specs.declared.fault.ImageFault.TheVariants as faults
@@ -27,26 +28,44 @@ use Rattle.code_image.specs.declared.instruction.Instruction.TheVariants.{Tick, 
 use Rattle.code_image.specs.declared.instruction.Instruction.TheVariants.{Accept, Date, Branch, Jump, Join, Perform}
 use Rattle.code_image.specs.declared.instruction.Instruction.TheVariants.{Back, File, TestStatus, Unheard, Data}
 use Rattle.code_image.specs.Spelling.{mark, instruction_bytes, HasNumbers}
-use Rattle.code_image.specs.Reading.{after_mark, alone_at, count_instruction_at, turn_at, branch_at, jump_at}
+use Rattle.code_image.specs.Reading.{mark_at, alone_at, count_instruction_at, turn_at, branch_at, jump_at}
 use Rattle.code_image.specs.Reading.{perform_at, back_at, count_number_at, file_instruction_at, test_status_at, data_at}
 use Rattle.code_image.specs.Reading.{instruction_at}
 
 -- ---- the mark
 
-pub mark_takes : (bytes rest : List ℕ) → IsBytes bytes → after_mark bytes ≡ Ok rest → Takes bytes mark rest
-unfolding after_mark
-mark_takes bytes rest fits e =
-    let g = guard_passed (starts_with nat_eq bytes mark) faults.Mark (drop 8 bytes) rest e in
-    let front : mark ≡ take 8 bytes = same_text mark (take 8 bytes) (sym g.0) in
+-- one of the marks in front
+mark_in_front : (second : Bool) (bytes : List ℕ) → IsBytes bytes → starts_with nat_eq bytes (mark second) ≡ true
+    → Takes bytes (mark second) (drop 8 bytes)
+mark_in_front false bytes fits e =
+    let front : mark false ≡ take 8 bytes = same_text (mark false) (take 8 bytes) (sym e) in
     record {
-      parts = sym (take-append-drop 8 bytes) ∙ ap (λ (t : List ℕ). t ++ drop 8 bytes) (sym front)
-          ∙ ap (λ (t : List ℕ). mark ++ t) g.1;
-      rest_fits = subst IsBytes g.1 (IsBytes-drop 8 bytes fits);
+      parts = sym (take-append-drop 8 bytes) ∙ ap (λ (t : List ℕ). t ++ drop 8 bytes) (sym front);
+      rest_fits = IsBytes-drop 8 bytes fits;
+    }
+mark_in_front true bytes fits e =
+    let front : mark true ≡ take 8 bytes = same_text (mark true) (take 8 bytes) (sym e) in
+    record {
+      parts = sym (take-append-drop 8 bytes) ∙ ap (λ (t : List ℕ). t ++ drop 8 bytes) (sym front);
+      rest_fits = IsBytes-drop 8 bytes fits;
     }
 
-pub mark_again : (rest : List ℕ) → after_mark (mark ++ rest) ≡ Ok rest
-unfolding after_mark
-mark_again rest = refl
+pub mark_takes : (bytes : List ℕ) (x : Bool × List ℕ) → IsBytes bytes → mark_at bytes ≡ Ok x
+    → Takes bytes (mark x.0) x.1
+unfolding mark_at
+mark_takes bytes x fits e =
+    elim (chosen (starts_with nat_eq bytes (mark false)) _ _ _ e) [
+      | inl p ↦ subst (λ (y : Bool × List ℕ). Takes bytes (mark y.0) y.1) (ok_is (false, drop 8 bytes) x p.1)
+          (mark_in_front false bytes fits p.0)
+      | inr q ↦
+          let g = guard_passed (starts_with nat_eq bytes (mark true)) faults.Mark (true, drop 8 bytes) x q.1 in
+          subst (λ (y : Bool × List ℕ). Takes bytes (mark y.0) y.1) g.1 (mark_in_front true bytes fits g.0)
+    ]
+
+pub mark_again : (second : Bool) (rest : List ℕ) → mark_at (mark second ++ rest) ≡ Ok (second, rest)
+unfolding mark_at
+mark_again false rest = refl
+mark_again true rest = refl
 
 -- ---- instructions
 
@@ -296,6 +315,9 @@ begins_data (i.Gather (g.TextUpToPlace text)) rest = refl
 begins_data (i.Gather g.Sized) rest = refl
 begins_data (i.String false) rest = refl
 begins_data (i.String true) rest = refl
+begins_data (i.Part (p.Fixed size)) rest = refl
+begins_data (i.Part p.Counted) rest = refl
+begins_data (i.Part p.Rest) rest = refl
 begins_data (i.Inspect inspection) rest = refl
 
 data_again : (one : DataInstruction) (rest : List ℕ) → HasShorts one

@@ -1,5 +1,6 @@
 -- The parts of an image, one after the other.
 use Rattle.std.proofs.Common.{ℕ, eqb, cond, List, length, Result, Ok, Err}
+use Rattle.std.specs.Prelude.{Bool}
 use Rattle.data_instructions.specs.declared.tables.DataTables.{DataTables}
 use Rattle.data_image.specs.declared.fault.ImageFault.{ImageFault}
 use Rattle.data_image.specs.declared.fault.ImageFault.TheVariants as faults
@@ -15,26 +16,26 @@ use Rattle.file_image.proofs.FileForms.{file_form}
 use Rattle.code_image.specs.declared.code.Code.{Code}
 use Rattle.code_image.specs.declared.instruction.Instruction.{Instruction}
 use Rattle.code_image.specs.Spelling.{instruction_bytes, HasNumbers}
-use Rattle.code_image.specs.Reading.{instruction_at}
+use Rattle.code_image.specs.Reading.{instruction_at, with_version}
 use Rattle.code_image.proofs.Forms.{instruction_form}
 
 -- reading from each part on
-abbrev pub end_from : DataTables → List CodeFile → List ℕ → List Instruction × List ℕ → Result Code ImageFault
-end_from tables files starts x =
-    cond (eqb (length x.1) 0) (Ok (record { tables = tables; files = files; starts = starts; instructions = x.0 }))
+abbrev pub end_from : Bool → DataTables → List CodeFile → List ℕ → List Instruction × List ℕ → Result Code ImageFault
+end_from second tables files starts x = cond (eqb (length x.1) 0)
+    (with_version second (record { tables = tables; files = files; starts = starts; instructions = x.0 }))
     (Err faults.Length)
 
-abbrev pub instructions_from : DataTables → List CodeFile → List ℕ × List ℕ → Result Code ImageFault
-instructions_from tables files x = table_at instruction_at x.1 >>= end_from tables files x.0
+abbrev pub instructions_from : Bool → DataTables → List CodeFile → List ℕ × List ℕ → Result Code ImageFault
+instructions_from second tables files x = table_at instruction_at x.1 >>= end_from second tables files x.0
 
-abbrev pub starts_from : DataTables → List CodeFile × List ℕ → Result Code ImageFault
-starts_from tables x = table_at count_at x.1 >>= instructions_from tables x.0
+abbrev pub starts_from : Bool → DataTables → List CodeFile × List ℕ → Result Code ImageFault
+starts_from second tables x = table_at count_at x.1 >>= instructions_from second tables x.0
 
-abbrev pub files_from : DataTables × List ℕ → Result Code ImageFault
-files_from x = table_at file_at x.1 >>= starts_from x.0
+abbrev pub files_from : Bool → DataTables × List ℕ → Result Code ImageFault
+files_from second x = table_at file_at x.1 >>= starts_from second x.0
 
-abbrev pub tables_from : List ℕ → Result Code ImageFault
-tables_from bytes = tables_at bytes >>= files_from
+abbrev pub tables_from : Bool × List ℕ → Result Code ImageFault
+tables_from x = tables_at x.1 >>= files_from x.0
 
 pub file_table : IsForm (table_at file_at) (table_bytes file_bytes) (AreSpelled IsFileSpelled)
 file_table = table_form file_at file_bytes IsFileSpelled file_form

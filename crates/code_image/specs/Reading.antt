@@ -1,5 +1,5 @@
 -- Reading an image from its first byte on, up to the first fault.
-use Rattle.std.specs.Prelude.{ℕ, List, [], ◌∷◌, length, drop, Result, Ok, Err, nat_eq, ◌==◌, if◌then◌else◌}
+use Rattle.std.specs.Prelude.{ℕ, Bool, true, false, not, List, [], ◌∷◌, length, drop, Result, Ok, Err, nat_eq, ◌==◌, if◌then◌else◌}
 use Rattle.std.specs.List.{starts_with}
 use Rattle.data_image.specs.declared.fault.ImageFault.{ImageFault}
 use Rattle.data_image.specs.declared.fault.ImageFault.TheVariants as faults
@@ -10,11 +10,14 @@ use Rattle.file_image.specs.Spelling.{class_at, verb_at, file_at}
 use Rattle.code_image.specs.declared.code.Code.{Code}
 use Rattle.code_image.specs.declared.instruction.Instruction.{Instruction}
 use Rattle.code_image.specs.declared.instruction.Instruction.TheVariants.{Tick, Show, Stop, Count, CountNumber, Turn, Accept, Date, Branch, Jump, Join, Perform, Back, File, TestStatus, Unheard, Data}
-use Rattle.code_image.specs.Spelling.{mark}
+use Rattle.code_image.specs.Spelling.{mark, is_second}
 
--- the bytes after the mark
-unfoldable pub after_mark : List ℕ → Result (List ℕ) ImageFault
-after_mark bytes = if starts_with nat_eq bytes mark then Ok (drop 8 bytes) else Err faults.Mark
+-- whether the mark is that of the second version, and the bytes after it
+unfoldable pub mark_at : List ℕ → ReadResult Bool
+mark_at bytes =
+    if starts_with nat_eq bytes (mark false) then Ok (false, drop 8 bytes)
+    else if starts_with nat_eq bytes (mark true) then Ok (true, drop 8 bytes)
+    else Err faults.Mark
 
 abbrev pub tick_at : List ℕ → ReadResult Instruction
 tick_at bytes = do
@@ -101,12 +104,21 @@ instruction_at (byte ∷ bytes) =
     else if byte == 47 then alone_at Unheard bytes
     else data_at (byte ∷ bytes)
 
+-- the version that a mark says is this
+abbrev pub is_version : Bool → Bool → Bool
+is_version true second = second
+is_version false second = not second
+
+-- The mark is that of the code's version.
+abbrev pub with_version : Bool → Code → Result Code ImageFault
+with_version second code = if is_version second (is_second code) then Ok code else Err faults.Value
+
 -- all of the bytes
 unfoldable pub code_at : List ℕ → Result Code ImageFault
 code_at bytes = do
-  first ← after_mark bytes
-  tables ← tables_at first
+  first ← mark_at bytes
+  tables ← tables_at first.1
   files ← table_at file_at tables.1
   starts ← table_at count_at files.1
   instructions ← table_at instruction_at starts.1
-  if length instructions.1 == 0 then Ok (record { tables = tables.0; files = files.0; starts = starts.0; instructions = instructions.0 }) else Err faults.Length
+  if length instructions.1 == 0 then with_version first.0 (record { tables = tables.0; files = files.0; starts = starts.0; instructions = instructions.0 }) else Err faults.Length

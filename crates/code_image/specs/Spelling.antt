@@ -1,5 +1,7 @@
 -- The one spelling of code (own choice).
-use Rattle.std.specs.Prelude.{ℕ, List, [], ◌∷◌, ◌++◌}
+use Rattle.std.specs.Prelude.{ℕ, Bool, true, false, List, [], ◌∷◌, ◌++◌}
+use Rattle.std.specs.List.{list_any}
+use Rattle.data_instructions.specs.declared.instruction.DataInstruction.TheVariants.{Part}
 use Rattle.data_image.specs.Spelling.{count_bytes, short_bytes, table_bytes, IsByte, IsCount, FitsFourBytes, AreSpelled}
 use Rattle.data_image.specs.Tables.{tables_bytes, HasTables}
 use Rattle.data_image.specs.Instructions.{data_instruction_bytes, HasShorts}
@@ -8,9 +10,23 @@ use Rattle.code_image.specs.declared.code.Code.{Code}
 use Rattle.code_image.specs.declared.instruction.Instruction.{Instruction}
 use Rattle.code_image.specs.declared.instruction.Instruction.TheVariants.{Tick, Show, Stop, Count, CountNumber, Turn, Accept, Date, Branch, Jump, Join, Perform, Back, File, TestStatus, Unheard, Data}
 
--- COBIMG01
-abbrev pub mark : List ℕ
-mark = 67 ∷ 79 ∷ 66 ∷ 73 ∷ 77 ∷ 71 ∷ 48 ∷ 49 ∷ []
+-- the second version of images or the first
+abbrev pub version_byte : Bool → ℕ
+version_byte false = 49
+version_byte true = 50
+
+-- COBIMG01, COBIMG02
+abbrev pub mark : Bool → List ℕ
+mark second = 67 ∷ 79 ∷ 66 ∷ 73 ∷ 77 ∷ 71 ∷ 48 ∷ version_byte second ∷ []
+
+-- Images of the first version have no parts.
+abbrev pub needs_second : Instruction → Bool
+needs_second (Data (Part one)) = true
+needs_second _ = false
+
+-- The version is the first that has each of the instructions.
+abbrev pub is_second : Code → Bool
+is_second code = list_any needs_second code.instructions
 
 -- Instructions on data have other first bytes, from 16 on.
 abbrev pub instruction_bytes : Instruction → List ℕ
@@ -34,7 +50,7 @@ instruction_bytes (Data one) = data_instruction_bytes one
 
 -- The mark; the tables of data; the files; the starts of code paragraphs; the instructions.
 abbrev pub code_bytes : Code → List ℕ
-code_bytes code = mark ++ tables_bytes code.tables ++ table_bytes file_bytes code.files ++ table_bytes count_bytes code.starts ++ table_bytes instruction_bytes code.instructions
+code_bytes code = mark (is_second code) ++ tables_bytes code.tables ++ table_bytes file_bytes code.files ++ table_bytes count_bytes code.starts ++ table_bytes instruction_bytes code.instructions
 
 abbrev pub HasNumbers : Instruction → Type 0
 HasNumbers (Tick line) = FitsFourBytes line

@@ -6,7 +6,7 @@ ghost use Rattle.data_image.specs.Faults.{fault_of};
 ghost use Rattle.data_image.specs.Spelling.{count_bytes, short_bytes, IsByte, IsCount, FitsFourBytes};
 ghost use Rattle.code_image.specs.Demands.{NamesData, NamesCounter, NamesParagraph, NamesFile};
 ghost use Rattle.file_image.specs.Spelling.{class_byte, verb_bytes, IsVerbSpelled};
-ghost use Rattle.code_image.specs.Spelling.{instruction_bytes, HasNumbers};
+ghost use Rattle.code_image.specs.Spelling.{instruction_bytes, needs_second, HasNumbers};
 ghost use Rattle.code_image.specs.Reading.{tick_at, count_instruction_at, turn_at, branch_at, jump_at, perform_at, back_at, count_number_at, file_instruction_at, test_status_at, instruction_at};
 
 use crate::counter::CounterIndex;
@@ -88,6 +88,13 @@ pub enum Instruction {
 }
 
 impl Instruction {
+    /// Images of the first version don't have it.
+    pub(crate) fn needs_second(self) -> bool
+        ensures { result ≡ needs_second self }
+    {
+        matches!(self, Instruction::Data(DataInstruction::Part(_)))
+    }
+
     /// Each entry of the tables of data that it names is there.
     pub(crate) fn names_data(self, tables: &DataTables) -> bool
         ensures { IsTrue result ↔ NamesData tables.now self }

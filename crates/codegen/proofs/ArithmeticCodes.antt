@@ -8,6 +8,7 @@ use Rattle.items.specs.declared.item.Kind.{Kind}
 use Rattle.items.specs.declared.item.Kind.TheVariants as kind
 use Rattle.edited_move.specs.Moves.{needs_number, IsPlainKind}
 use Rattle.lexical.specs.declared.place.Place.{Place}
+use Rattle.source_tree.specs.declared.reference.Part.{Part}
 use Rattle.source_tree.specs.declared.reference.Reference.{Reference}
 use Rattle.source_tree.specs.declared.expression.Operand.{Operand}
 use Rattle.source_tree.specs.declared.expression.Operator.{Operator}
@@ -27,6 +28,7 @@ use Rattle.source_tree.specs.Broken.{RuleBreach, each}
 use Rattle.source_tree.specs.Computed.{expression_value}
 use Rattle.source_tree.specs.LookUp.{first}
 use Rattle.source_tree.specs.NameRules.{reference_rules}
+use Rattle.source_tree.specs.Parts.{part_kind, seen_by, seen_through}
 use Rattle.source_tree.specs.Places.{LocatedItem}
 use Rattle.data_instructions.specs.declared.calculation.Calculation.TheVariants as c
 use Rattle.data_instructions.specs.declared.instruction.DataInstruction.{DataInstruction}
@@ -221,17 +223,36 @@ module _ (items : List LocatedItem) (whole : Code) (entries : (n : ℕ) (one : L
   -- ---- remainders
 
   module _ (order : IsTables whole.tables) where
+    no_number : (one : Kind) → needs_number (part_kind one) ≡ true → ⊥
+    no_number kind.Group e = cc
+    no_number (kind.Alphabetic justified) e = cc
+    no_number (kind.Alphanumeric justified) e = cc
+    no_number kind.AlphanumericEdited e = cc
+    no_number (kind.NumericEdited blank) e = cc
+    no_number (kind.Numeric numeric) e = cc
+
+    -- A part takes no number.
+    whole_receives : (found : LocatedItem) (part : Option Part) → needs_number (seen_by part found).item.kind ≡ true
+        → IsEditing found.item found.editing
+        → (to : NumberReceiver)
+        × (receiver_of (seen_by part found).item.kind (seen_by part found).editing ≡ Some to)
+        × (receiver_of found.item.kind found.editing ≡ Some to)
+    whole_receives found None wants editing =
+        let to = receives_number found.item found.editing wants editing in (to.0, to.1, to.1)
+    whole_receives found (Some part) wants editing = absurd (no_number found.item.kind wants)
+
     has_scale : (one : Reference) → reference_rules items number_receiver one ≡ []
         → HasScale items whole.tables one (quotient_scale items one)
     has_scale one e =
         let k = keeps items whole entries number_receiver one e in
         let n = item_number items one.item in
         let there : slice_get items n ≡ Some k.found = item_there items one.item k.found k.named in
-        let wants = not_false (needs_number k.found.item.kind)
-        (kept (not (needs_number k.found.item.kind)) 51 one.item.name.place k.asks) in
-        let to = receives_number k.found.item k.found.editing wants
+        let shown = seen_through one k.found in
+        let wants = not_false (needs_number shown.item.kind)
+        (kept (not (needs_number shown.item.kind)) 51 one.item.name.place k.asks) in
+        let to = whole_receives k.found one.part wants
         (order.items n (data_item k.found) (entries n k.found there)).editing in
-        (k.found, ap first k.named, to.0, to.1, sym (ap scale_of_item there ∙ ap receiver_scale to.1))
+        (k.found, ap first k.named, to.0, to.1, sym (ap scale_of_item there ∙ ap receiver_scale to.2))
 
     -- the remainder, without the quotient's store
     abbrev IsRemainderEnd : Bool → ℕ → Reference → List DataInstruction → Type 0

@@ -1,6 +1,6 @@
 -- No piece depends on the instructions before it, but on how many there are.
 use Rattle.std.proofs.Common.{◌≡◌, ℕ, pos, Bool, true, false, List, [], ◌∷◌, length, map, refl, ap, ◌∙◌, arith}
-use Rattle.std.proofs.Common.{length-append}
+use Rattle.std.proofs.Common.{Option, Some, None, length-append}
 use Rattle.std.specs.Prelude.{slice_get}
 use Rattle.decimal18.specs.Fraction.{Fraction}
 use Rattle.source_tree.specs.declared.literal.LiteralValue.{LiteralValue}
@@ -8,6 +8,7 @@ use Rattle.source_tree.specs.declared.reference.Adjustment.{Adjustment}
 use Rattle.source_tree.specs.declared.reference.Adjustment.TheVariants as adjustment
 use Rattle.source_tree.specs.declared.reference.Subscript as written
 use Rattle.source_tree.specs.declared.reference.Subscript.TheVariants as subscript
+use Rattle.source_tree.specs.declared.reference.Part.{Part}
 use Rattle.source_tree.specs.declared.reference.Reference.{Reference}
 use Rattle.source_tree.specs.declared.expression.Operand.{Operand}
 use Rattle.source_tree.specs.declared.expression.Operand.TheVariants as operand
@@ -20,14 +21,17 @@ use Rattle.source_tree.specs.declared.text_statement.TextStatement.TheVariants.{
 use Rattle.source_tree.specs.Display.{shown_literal, line_end}
 use Rattle.source_tree.specs.Initializing.{Pattern}
 use Rattle.source_tree.specs.InspectLayout as layout
-use Rattle.source_tree.specs.InspectLayout.{InspectArgument, takings}
+use Rattle.source_tree.specs.InspectLayout.{InspectArgument, found_size, takings}
 use Rattle.source_tree.specs.Integers.{number_of}
 use Rattle.source_tree.specs.Literals.{literal_sender}
 use Rattle.source_tree.specs.LookUp.{all_conditions}
 use Rattle.source_tree.specs.Places.{LocatedItem}
 use Rattle.data_instructions.specs.declared.calculation.Calculation.TheVariants as c
 use Rattle.data_instructions.specs.declared.gather.Gather.TheVariants as g
+use Rattle.data_instructions.specs.declared.part.Part.TheVariants as made
+use Rattle.data_instructions.specs.declared.tables.DataItem.{DataItem}
 use Rattle.data_instructions.specs.declared.tables.Inspection.{Inspection}
+use Rattle.data_instructions.specs.PartForms.{PartForm, Whole, Settled, OfLength, Counted, Rest, part_form, part_entry}
 use Rattle.data_instructions.specs.declared.tables.DataTables.{DataTables}
 use Rattle.data_instructions.specs.declared.instruction.DataInstruction.{DataInstruction}
 use Rattle.data_instructions.specs.declared.instruction.DataInstruction.TheVariants as i
@@ -41,7 +45,8 @@ use Rattle.codegen.specs.DataCode.{item_number, item_index, dimensions_of, work_
 use Rattle.codegen.specs.DataCode.{number_fragment, integer_fragment, adjustment_fragment, text_fragment, literal_entry}
 use Rattle.codegen.specs.DataCode.{literal_fragment, line_end_fragment, show_fragment, subscript_fragment}
 use Rattle.codegen.specs.DataCode.{subscripts_fragment, reference_fragment, take_fragment, sender_fragment}
-use Rattle.codegen.specs.DataCode.{receivers_fragment, operand_fragment, operands_fragment}
+use Rattle.codegen.specs.DataCode.{receivers_fragment, operand_fragment, operands_fragment, entry_fragment}
+use Rattle.codegen.specs.DataCode.{place_fragment, unknown_fragment, making_fragment}
 use Rattle.codegen.specs.ConditionCode.{condition_number, condition_item}
 use Rattle.codegen.specs.PatternCode.{overlay_fragment, pattern_fragment, pattern_of, set_of, initialize_fragment}
 use Rattle.codegen.specs.PatternCode.{set_fragment}
@@ -138,6 +143,15 @@ overlay_blind bytes marks = tables_blind (λ (t : DataTables). record {
 pattern_blind : (pattern : Pattern) → Blind (pattern_fragment pattern)
 pattern_blind pattern = overlay_blind (map new_byte pattern) (map new_mark pattern)
 
+-- an entry for a part
+entry_blind : (one : DataItem) → Blind (entry_fragment one)
+entry_blind one = tables_blind (λ (t : DataTables). record {
+  tables = record no_tables { items = one ∷ [] };
+  files = [];
+  starts = [];
+  instructions = instruction.Data (i.Place (record { number = length t.items })) ∷ [];
+})
+
 inspection_blind : (one : Inspection) → Blind (inspection_fragment one)
 inspection_blind one = tables_blind (λ (t : DataTables). record {
   tables = record no_tables { inspections = one ∷ [] };
@@ -188,12 +202,41 @@ module _ (items : List LocatedItem) where
       (both_blind (subscript_fragment items written) (work_fragment (index_code one)) (subscript_blind written)
       (work_blind (index_code one))) (subscripts_blind more others)
 
+  place_blind : (found : Option LocatedItem) (one : Reference) (part : Option Part)
+      → Blind (place_fragment items found one part)
+  place_blind found one None = work_blind (i.Place (item_index items one.item))
+  place_blind None one (Some part) = constant_blind empty_code
+  place_blind (Some found) one (Some part) = entry_blind (part_entry found (Some part))
+
+  unknown_blind : (length : Option written.Subscript) → Blind (unknown_fragment items length)
+  unknown_blind None = work_blind (i.Part made.Rest)
+  unknown_blind (Some length) =
+      both_blind (subscript_fragment items length) (work_fragment (i.Part made.Counted)) (subscript_blind length)
+      (work_blind (i.Part made.Counted))
+
+  making_blind : (size : ℕ) (form : PartForm) → Blind (making_fragment items size form)
+  making_blind size Whole = constant_blind empty_code
+  making_blind size (Settled bytes) = constant_blind empty_code
+  making_blind size (OfLength first) =
+      both_blind (subscript_fragment items first) (work_fragment (i.Part (made.Fixed size))) (subscript_blind first)
+      (work_blind (i.Part (made.Fixed size)))
+  making_blind size (Counted first length) =
+      both_blind (subscript_fragment items first) (unknown_fragment items (Some length)) (subscript_blind first)
+      (unknown_blind (Some length))
+  making_blind size (Rest first) =
+      both_blind (subscript_fragment items first) (unknown_fragment items None) (subscript_blind first)
+      (unknown_blind None)
+
   pub reference_blind : (one : Reference) → Blind (reference_fragment items one)
   reference_blind one =
-      let dimensions = dimensions_of (slice_get items (item_number items one.item)) in
-      both_blind (work_fragment (i.Place (item_index items one.item)))
-      (subscripts_fragment items dimensions one.subscripts) (work_blind (i.Place (item_index items one.item)))
-      (subscripts_blind dimensions one.subscripts)
+      let found = slice_get items (item_number items one.item) in
+      let form = part_form (found_size found) one.part in
+      let place = place_fragment items found one one.part in
+      let subscripts = subscripts_fragment items (dimensions_of found) one.subscripts in
+      let making = making_fragment items (found_size found) form in
+      both_blind place (sequence subscripts making) (place_blind found one one.part)
+      (both_blind subscripts making (subscripts_blind (dimensions_of found) one.subscripts)
+      (making_blind (found_size found) form))
 
   pub taking_blind : (taking : DataInstruction) (one : Reference) → Blind (take_fragment items taking one)
   taking_blind taking one =
@@ -209,7 +252,7 @@ module _ (items : List LocatedItem) where
 
   initialize_blind : (one : Reference) → Blind (initialize_fragment items one)
   initialize_blind one =
-      let pattern = pattern_of (slice_get items (item_number items one.item)) in
+      let pattern = pattern_of one (slice_get items (item_number items one.item)) in
       both_blind (reference_fragment items one) (pattern_fragment pattern) (reference_blind one) (pattern_blind pattern)
 
   set_blind : (one : Reference) → Blind (set_fragment items one)

@@ -1,6 +1,7 @@
 -- The code of references, MOVE, DISPLAY and ACCEPT is what the laws of instructions on data speak of, where the rules
 -- are kept.
-use Rattle.std.proofs.Common.{◌≡◌, ℕ, Bool, true, false, List, [], ◌∷◌, ◌++◌, length, map, Some, refl, sym, ap, subst}
+use Rattle.std.proofs.Common.{◌≡◌, ℕ, Bool, true, false, List, [], ◌∷◌, ◌++◌, length, map, Some, None, Option, refl}
+use Rattle.std.proofs.Common.{sym, ap, subst}
 use Rattle.std.proofs.Common.{◌∙◌, arith, append_assoc}
 use Rattle.std.specs.Prelude.{slice_get, not, ◌==◌}
 use Rattle.std.proofs.lemmas.Bool.Decides.{nat_tests}
@@ -20,13 +21,21 @@ use Rattle.source_tree.specs.Integers.{number_of}
 use Rattle.source_tree.specs.LookUp.{items_named, first}
 use Rattle.source_tree.specs.MoveRules.{sent_by, receives, move_rules}
 use Rattle.source_tree.specs.NameRules.{unique_name_rules, is_integer_kind, subscript_item, subscript_rules}
-use Rattle.source_tree.specs.NameRules.{adjustment_rules, reference_rules, any_item, operand_rules}
+use Rattle.source_tree.specs.NameRules.{adjustment_rules, reference_rules, any_item, operand_rules, part_item_rules}
+use Rattle.source_tree.specs.NameRules.{length_rules, part_rules, number_rules_of}
+use Rattle.source_tree.specs.Parts.{known_length, seen_through}
+use Rattle.source_tree.specs.declared.reference.Part.{Part}
 use Rattle.source_tree.specs.Places.{LocatedItem}
 use Rattle.source_tree.specs.TextRules.{shown_rules, display_rules, accept_line_rules, accept_date_rules}
 use Rattle.source_tree.specs.Accepting.{date_sender}
 use Rattle.data_instructions.specs.declared.calculation.Calculation.TheVariants as calculation
 use Rattle.data_instructions.specs.declared.instruction.DataInstruction.{DataInstruction}
 use Rattle.data_instructions.specs.declared.instruction.DataInstruction.TheVariants as i
+use Rattle.data_instructions.specs.declared.index.ItemIndex.{ItemIndex}
+use Rattle.data_instructions.specs.declared.part.Part.TheVariants as made
+use Rattle.data_instructions.specs.PartForms.{PartForm, Whole, Settled, OfLength, Counted, Rest, known_begin, form_by}
+use Rattle.data_instructions.specs.PartForms.{part_form, part_entry}
+use Rattle.data_instructions.specs.Codes.{IsPartCode}
 use Rattle.data_instructions.specs.Codes.{data_item, index_code, HasItem, IsAdjustmentCode, IsSubscriptCode}
 use Rattle.data_instructions.specs.Codes.{AreSubscriptsCode, IsReferenceCode, IsTakingCode, IsSenderCode}
 use Rattle.data_instructions.specs.Codes.{AreReceiversCode, IsMoveCode, IsTextCode, IsOperandCode, AreOperandsCode}
@@ -37,15 +46,17 @@ use Rattle.name_table.specs.Items.{called_item, IsNamed}
 use Rattle.name_table.specs.Positions.{look_up}
 use Rattle.name_table.proofs.Picked.{named_items}
 use Rattle.code_image.specs.declared.code.Code.{Code}
+use Rattle.code_image.specs.declared.instruction.Instruction.{Instruction}
 use Rattle.code_image.specs.declared.instruction.Instruction.TheVariants.{Data, Accept, Date}
 use Rattle.codegen.specs.Fragments.{append, sequence, plain_code}
 use Rattle.codegen.specs.DataCode.{found_number, item_number, item_index, dimensions_of, work_fragment}
 use Rattle.codegen.specs.DataCode.{integer_fragment, adjustment_fragment, text_fragment, literal_fragment}
 use Rattle.codegen.specs.DataCode.{line_end_fragment, subscript_fragment, subscripts_fragment, reference_fragment}
+use Rattle.codegen.specs.DataCode.{entry_fragment, place_fragment, making_fragment, referred_fragment}
 use Rattle.codegen.specs.DataCode.{take_fragment, sender_fragment, receivers_fragment, move_fragment, operand_fragment}
 use Rattle.codegen.specs.DataCode.{operands_fragment, accept_fragment, date_fragment}
 use Rattle.codegen.proofs.Integers.{kept, not_false, small_integer}
-use Rattle.codegen.proofs.Standing.{Stands, front, back, number_stands, sender_stands, text_stands}
+use Rattle.codegen.proofs.Standing.{Stands, front, back, number_stands, item_stands, sender_stands, text_stands}
 
 -- ---- rules that are kept
 
@@ -88,6 +99,15 @@ item_there items name one e = found_one items name one (look_up name (map called
 pub map_both : {A B : Type 0} (f : A → B) (xs ys : List A) → map f (xs ++ ys) ≡ map f xs ++ map f ys
 map_both f [] ys = refl
 map_both f (x ∷ xs) ys = ap (λ l. f x ∷ l) (map_both f xs ys)
+
+-- an instruction on data, and others in two pieces
+all_data : (one : DataInstruction) (first last : List DataInstruction) (a b c : List Instruction) → a ≡ Data one ∷ []
+    → b ≡ map Data first
+    → c ≡ map Data last
+    → a ++ (b ++ c) ≡ map Data (one ∷ (first ++ last))
+all_data one first last a b c e f g =
+    ap (λ l. l ++ (b ++ c)) e ∙ ap (λ l. Data one ∷ (l ++ c)) f ∙ ap (λ l. Data one ∷ (map Data first ++ l)) g
+    ∙ ap (λ l. Data one ∷ l) (sym (map_both Data first last))
 
 -- The instructions of a part are these on data, and of them something holds.
 pub record Coded (P : List DataInstruction → Type 0) (part : Code) : Type 0 where
@@ -222,33 +242,33 @@ module _ (items : List LocatedItem) (whole : Code) (entries : (n : ℕ) (one : L
       → dimensions_of (slice_get items (item_number items name)) ≡ one.dimensions
   dimensions_there name one e = ap dimensions_of (item_there items name one e)
 
-  -- the item of a reference that keeps its rules, the number of its subscripts, and what is asked of it
+  -- the item of a reference that keeps its rules, the number of its subscripts, and what is asked of what it shows
   pub record Keeps (asked : Place → LocatedItem → List RuleBreach) (one : Reference) : Type 0 where
     pub found : LocatedItem
     pub named : items_named items one.item ≡ found ∷ []
     pub count : length one.subscripts ≡ length found.dimensions
-    pub asks : asked one.item.name.place found ≡ []
-    pub subscripts : each (subscript_rules items) one.subscripts ≡ []
+    pub asks : asked one.item.name.place (seen_through one found) ≡ []
+    pub numbers : number_rules_of items one ≡ []
 
   pub keeps : (asked : Place → LocatedItem → List RuleBreach) (one : Reference) → reference_rules items asked one ≡ []
       → Keeps asked one
   keeps asked one e =
       let place = one.item.name.place in
-      let rules = λ (found : LocatedItem).
-      where_so (not (length one.subscripts == length found.dimensions)) 50 place ++ asked place found in
+      let test = λ (found : LocatedItem). length one.subscripts == length found.dimensions in
+      let counts = λ (found : LocatedItem). where_so (not (test found)) 50 place in
+      let rules =
+      λ (found : LocatedItem). counts found ++ part_item_rules one found ++ asked place (seen_through one found) in
       let only = only_named place rules (items_named items one.item) (left_none
-      (unique_name_rules place rules (items_named items one.item)) (each (subscript_rules items) one.subscripts) e) in
-      let count = not_false (length one.subscripts == length only.0.dimensions)
-      (kept (not (length one.subscripts == length only.0.dimensions)) 50 place (left_none
-      (where_so (not (length one.subscripts == length only.0.dimensions)) 50 place) (asked place only.0) only.2)) in
+      (unique_name_rules place rules (items_named items one.item)) (number_rules_of items one) e) in
+      let front =
+      left_none (counts only.0 ++ part_item_rules one only.0) (asked place (seen_through one only.0)) only.2 in
       record {
         found = only.0;
         named = only.1;
-        count = same (length one.subscripts) (length only.0.dimensions) count;
-        asks = right_none (where_so (not (length one.subscripts == length only.0.dimensions)) 50 place)
-            (asked place only.0) only.2;
-        subscripts = right_none (unique_name_rules place rules (items_named items one.item))
-            (each (subscript_rules items) one.subscripts) e;
+        count = same (length one.subscripts) (length only.0.dimensions) (not_false (test only.0)
+            (kept (not (test only.0)) 50 place (left_none (counts only.0) (part_item_rules one only.0) front)));
+        asks = right_none (counts only.0 ++ part_item_rules one only.0) (asked place (seen_through one only.0)) only.2;
+        numbers = right_none (unique_name_rules place rules (items_named items one.item)) (number_rules_of items one) e;
       }
     where
       same : (n m : ℕ) → (n == m) ≡ true → n ≡ m
@@ -264,30 +284,147 @@ module _ (items : List LocatedItem) (whole : Code) (entries : (n : ℕ) (one : L
     holds = h front.code back.code front.holds back.holds;
   }
 
+  -- ---- parts
+
+  -- the numbers that make a part keep their rules
+  abbrev KeepsNumbers : PartForm → Type 0
+  KeepsNumbers Whole = Unit {0}
+  KeepsNumbers (Settled bytes) = Unit {0}
+  KeepsNumbers (OfLength first) = subscript_rules items first ≡ []
+  KeepsNumbers (Counted first length) = (subscript_rules items first ≡ []) × (subscript_rules items length ≡ [])
+  KeepsNumbers (Rest first) = subscript_rules items first ≡ []
+
+  numbers_kept : (size : ℕ) (part : Option Part) → part_rules items part ≡ [] → KeepsNumbers (part_form size part)
+  numbers_kept size None e = tt
+  numbers_kept size (Some part) e =
+      let known = known_length size part.first part.length in
+      let first = left_none (subscript_rules items part.first) (length_rules items part.length) e in
+      let second = right_none (subscript_rules items part.first) (length_rules items part.length) e in
+      by_form part.first part.length known (known_begin size part.first known) first second
+    where
+      by_form : (first : written.Subscript) (length : Option written.Subscript) (known begin : Option ℕ)
+          → subscript_rules items first ≡ [] → length_rules items length ≡ []
+          → KeepsNumbers (form_by first length known begin)
+      by_form first length known (Some bytes) e f = tt
+      by_form first length (Some n) None e f = e
+      by_form first (Some length) None None e f = (e, f)
+      by_form first None None None e f = e
+
+  -- a number, and an instruction
+  number_coded : (P : List DataInstruction → Type 0) (first : written.Subscript) (one : DataInstruction) (before : Code)
+      → subscript_rules items first ≡ []
+      → Stands whole before (sequence (subscript_fragment items first) (work_fragment one) before)
+      → ((front : List DataInstruction) → IsSubscriptCode items whole.tables first front → P (front ++ (one ∷ [])))
+      → Coded P (sequence (subscript_fragment items first) (work_fragment one) before)
+  number_coded P first one before e st holds =
+      let a = subscript_fragment items first before in
+      let b = work_fragment one (append before a) in
+      both_coded (IsSubscriptCode items whole.tables first) (λ code. code ≡ one ∷ []) P a b
+      (subscript_coded first before e (front whole before a b st)) (record { code = one ∷ []; is = refl; holds = refl })
+      (λ front last is only. subst (λ l. P (front ++ l)) (sym only) (holds front is))
+
+  making_coded : (size : ℕ) (form : PartForm) (before : Code) → KeepsNumbers form
+      → Stands whole before (making_fragment items size form before)
+      → Coded (IsPartCode items whole.tables size form) (making_fragment items size form before)
+  making_coded size Whole before e st = record { code = []; is = refl; holds = refl }
+  making_coded size (Settled bytes) before e st = record { code = []; is = refl; holds = refl }
+  making_coded size (OfLength first) before e st =
+      number_coded (IsPartCode items whole.tables size (OfLength first)) first (i.Part (made.Fixed size)) before e st
+      (λ front is. (front, is, refl))
+  making_coded size (Counted first length) before e st =
+      let a = subscript_fragment items first before in
+      let b = sequence (subscript_fragment items length) (work_fragment (i.Part made.Counted)) (append before a) in
+      let IsLast : List DataInstruction → Type 0 = λ code.
+      (back : List DataInstruction) × IsSubscriptCode items whole.tables length back
+      × (code ≡ back ++ (i.Part made.Counted ∷ [])) in
+      both_coded (IsSubscriptCode items whole.tables first) IsLast
+      (IsPartCode items whole.tables size (Counted first length)) a b
+      (subscript_coded first before e.0 (front whole before a b st))
+      (number_coded IsLast length (i.Part made.Counted) (append before a) e.1 (back whole before a b st)
+      (λ back is. (back, is, refl)))
+      (λ first last is more. (first, is, more.0, more.1, ap (λ l. first ++ l) more.2))
+  making_coded size (Rest first) before e st =
+      number_coded (IsPartCode items whole.tables size (Rest first)) first (i.Part made.Rest) before e st
+      (λ front is. (front, is, refl))
+
+  -- The place of an item, or of a part, whose entry stands in the whole.
+  record PlaceCoded (found : LocatedItem) (part : Option Part) (code : Code) : Type 0 where
+    index : ItemIndex
+    is : code.instructions ≡ Data (i.Place index) ∷ []
+    entry : slice_get whole.tables.items index.number ≡ Some (part_entry found part)
+
+  place_coded : (one : Reference) (found : LocatedItem) → items_named items one.item ≡ found ∷ []
+      → (part : Option Part) (before : Code) → Stands whole before (place_fragment items (Some found) one part before)
+      → PlaceCoded found part (place_fragment items (Some found) one part before)
+  place_coded one found named None before st = record {
+    index = item_index items one.item;
+    is = refl;
+    entry = entries (item_number items one.item) found (item_there items one.item found named);
+  }
+  place_coded one found named (Some part) before st = record {
+    index = record { number = length before.tables.items };
+    is = refl;
+    entry = item_stands whole before (entry_fragment (part_entry found (Some part)) before) _ [] refl st;
+  }
+
+  -- a reference whose place, subscripts and part have these codes
+  made_reference :
+      (one : Reference) (found : LocatedItem) (index : ItemIndex) (subscripts making : List DataInstruction)
+      (part : Code)
+      → first (items_named items one.item) ≡ Some found
+      → slice_get whole.tables.items index.number ≡ Some (part_entry found one.part)
+      → AreSubscriptsCode items whole.tables found.dimensions one.subscripts subscripts
+      → IsPartCode items whole.tables found.item.length (part_form found.item.length one.part) making
+      → part.instructions ≡ map Data (i.Place index ∷ (subscripts ++ making))
+      → Coded (IsReferenceCode items whole.tables one) part
+  made_reference one found index subscripts making part named entry each makes is = record {
+    code = i.Place index ∷ (subscripts ++ making);
+    is = is;
+    holds = record {
+      index = index;
+      found = found;
+      named = named;
+      entry = entry;
+      subscripts = subscripts;
+      each = each;
+      making = making;
+      makes = makes;
+      is = refl;
+    };
+  }
+
+  referred_coded : (one : Reference) (found : LocatedItem) (before : Code) → items_named items one.item ≡ found ∷ []
+      → length one.subscripts ≡ length found.dimensions → number_rules_of items one ≡ []
+      → Stands whole before (referred_fragment items (Some found) one before)
+      → Coded (IsReferenceCode items whole.tables one) (referred_fragment items (Some found) one before)
+  referred_coded one found before named count e st =
+      let form = part_form found.item.length one.part in
+      let a = place_fragment items (Some found) one one.part before in
+      let b = subscripts_fragment items found.dimensions one.subscripts (append before a) in
+      let c = making_fragment items found.item.length form (append (append before a) b) in
+      let behind = back whole before a (append b c) st in
+      let place = place_coded one found named one.part before (front whole before a (append b c) st) in
+      let more = subscripts_coded found.dimensions one.subscripts (append before a) count
+      (left_none (each (subscript_rules items) one.subscripts) (part_rules items one.part) e)
+      (front whole (append before a) b c behind) in
+      let last = making_coded found.item.length form (append (append before a) b)
+      (numbers_kept found.item.length one.part
+      (right_none (each (subscript_rules items) one.subscripts) (part_rules items one.part) e))
+      (back whole (append before a) b c behind) in
+      made_reference one found place.index more.code last.code (append a (append b c)) (ap first named) place.entry
+      more.holds last.holds
+      (all_data (i.Place place.index) more.code last.code a.instructions b.instructions c.instructions place.is more.is
+      last.is)
+
   pub reference_coded : (asked : Place → LocatedItem → List RuleBreach) (one : Reference) (before : Code)
       → reference_rules items asked one ≡ [] → Stands whole before (reference_fragment items one before)
       → Coded (IsReferenceCode items whole.tables one) (reference_fragment items one before)
   reference_coded asked one before e st =
       let k = keeps asked one e in
-      let place = i.Place (item_index items one.item) in
-      let a = work_fragment place before in
-      let dimensions = dimensions_of (slice_get items (item_number items one.item)) in
-      let same : dimensions ≡ k.found.dimensions = dimensions_there one.item k.found k.named in
-      let b = subscripts_fragment items dimensions one.subscripts (append before a) in
-      let more = subscripts_coded dimensions one.subscripts (append before a) (k.count ∙ ap length (sym same))
-      k.subscripts (back whole before a b st) in
-      record {
-        code = place ∷ more.code;
-        is = ap (λ l. Data place ∷ l) more.is;
-        holds = record {
-          index = item_index items one.item;
-          found = k.found;
-          has = has_item one.item k.found k.named;
-          subscripts = more.code;
-          each = subst (λ ds. AreSubscriptsCode items whole.tables ds one.subscripts more.code) same more.holds;
-          is = refl;
-        };
-      }
+      let there = item_there items one.item k.found k.named in
+      subst (λ o. Coded (IsReferenceCode items whole.tables one) (referred_fragment items o one before)) (sym there)
+      (referred_coded one k.found before k.named k.count k.numbers
+      (subst (λ o. Stands whole before (referred_fragment items o one before)) there st))
 
   pub taking_coded :
       (taking : DataInstruction) (asked : Place → LocatedItem → List RuleBreach) (one : Reference) (before : Code)

@@ -1,6 +1,7 @@
 -- The code of conditions without AND and OR is what the laws of instructions on data speak of, where the rules are
 -- kept: it decides their truth, and finds what it needs.
-use Rattle.std.proofs.Common.{◌≡◌, ℕ, ◌+◌, Bool, true, false, List, [], ◌∷◌, ◌++◌, length, Option, Some, None, refl}
+use Rattle.std.proofs.Common.{◌≡◌, ℕ, ◌+◌, Bool, true, false, List, [], ◌∷◌, ◌++◌, length, map, Option, Some, None}
+use Rattle.std.proofs.Common.{refl}
 use Rattle.std.proofs.Common.{sym, ap, subst, ◌∙◌, arith, append_assoc, length-append}
 use Rattle.std.specs.Prelude.{slice_get, not, ◌&&◌, ◌||◌, ◌==◌}
 use Rattle.std.proofs.lemmas.Bool.Decides.{nat_tests}
@@ -38,6 +39,9 @@ use Rattle.source_tree.specs.Conditions.{name_holds}
 use Rattle.source_tree.specs.Evaluated.{◌>>=◌}
 use Rattle.source_tree.specs.Literals.{literal_sender}
 use Rattle.source_tree.specs.LookUp.{NamedCondition, items_named, conditions_named, first}
+use Rattle.source_tree.specs.NameRules as name_rules
+use Rattle.source_tree.specs.NameRules.{part_item_rules, no_part_rules, part_rules}
+use Rattle.source_tree.specs.Parts.{seen_through}
 use Rattle.source_tree.specs.NameRules.{unique_name_rules, subscript_rules, literal_rules, reference_rules, any_item}
 use Rattle.source_tree.specs.NameRules.{operand_rules}
 use Rattle.source_tree.specs.Places.{LocatedItem}
@@ -105,14 +109,16 @@ number_kind kind.AlphanumericEdited h = absurd (h refl)
 number_kind (kind.NumericEdited blank) h = absurd (h refl)
 
 -- the only item that is named
-number_only : (place : Place) (rules : LocatedItem → List RuleBreach) (found : List LocatedItem)
-    (rest : List RuleBreach) → unique_name_rules place (λ one. rules one ++ any_item place one) found ++ rest ≡ []
-    → (compared_only found ≡ Characters → ⊥)
-    → unique_name_rules place (λ one. rules one ++ numeric_item place one) found ++ rest ≡ []
-number_only place rules [] rest e h = absurd cc
-number_only place rules (one ∷ []) rest e h =
-    ap (λ b. (rules one ++ where_so (not b) 51 place) ++ rest) (number_kind one.item.kind h) ∙ e
-number_only place rules (one ∷ other ∷ more) rest e h = absurd cc
+number_only : (place : Place) (rules : LocatedItem → List RuleBreach) (shown : LocatedItem → LocatedItem)
+    (found : List LocatedItem)
+    (rest : List RuleBreach)
+    → unique_name_rules place (λ one. rules one ++ any_item place (shown one)) found ++ rest ≡ []
+    → (compared_only (map shown found) ≡ Characters → ⊥)
+    → unique_name_rules place (λ one. rules one ++ numeric_item place (shown one)) found ++ rest ≡ []
+number_only place rules shown [] rest e h = absurd cc
+number_only place rules shown (one ∷ []) rest e h =
+    ap (λ b. (rules one ++ where_so (not b) 51 place) ++ rest) (number_kind (shown one).item.kind h) ∙ e
+number_only place rules shown (one ∷ other ∷ more) rest e h = absurd cc
 
 -- A number stands beside numbers alone.
 beside_left : (x : SideKind) → may_compare x (Number false) ≡ true → x ≡ Characters → ⊥
@@ -135,8 +141,8 @@ module _ (items : List LocatedItem) where
       → number_rules items one ≡ []
   number_operand (operand.Item one) e h =
       number_only one.item.name.place (λ found. where_so (not (length one.subscripts == length found.dimensions)) 50
-      one.item.name.place) (items_named items one.item)
-      (each (subscript_rules items) one.subscripts) e h
+      one.item.name.place ++ part_item_rules one found) (seen_through one) (items_named items one.item)
+      (name_rules.number_rules_of items one) e h
   number_operand (operand.Literal one) e h =
       ap (λ b. where_so (not b) 51 one.place ++ literal_rules one) (number_literal one.value h) ∙ e
 
@@ -317,7 +323,7 @@ module _ (items : List LocatedItem) (whole : Code) (entries : (n : ℕ) (one : L
       let place = one.item.name.place in
       let all = unique_name_rules place (condition_subscripts one) (conditions_named items one.item) in
       let only = only_condition place (condition_subscripts one) (conditions_named items one.item)
-      (left_none all (each (subscript_rules items) one.subscripts) e) in
+      (left_none all (name_rules.number_rules_of items one) e) in
       let there = condition_there items one.item only.0 only.1 in
       let test = length one.subscripts == length only.0.item.dimensions in
       record {
@@ -326,8 +332,10 @@ module _ (items : List LocatedItem) (whole : Code) (entries : (n : ℕ) (one : L
         item = condition_item_there items (condition_number items one.item) only.0 there;
         values = ap values_of there;
         count = same_count (length one.subscripts) (length only.0.item.dimensions)
-            (not_false test (kept (not test) 50 place only.2));
-        subscripts = right_none all (each (subscript_rules items) one.subscripts) e;
+            (not_false test (kept (not test) 50 place
+            (left_none (where_so (not test) 50 place) (no_part_rules one) only.2)));
+        subscripts = left_none (each (subscript_rules items) one.subscripts) (part_rules items one.part)
+            (right_none all (name_rules.number_rules_of items one) e);
       }
 
   -- what stands behind the place of a condition name's item

@@ -7,7 +7,6 @@ use Rattle.source_tree.specs.Broken.{RuleBreach, each}
 use Rattle.source_tree.specs.ConditionRules.{broken_already, condition_layer_rules, condition_rules}
 use Rattle.source_tree.specs.Conditions.{sign_relation}
 use Rattle.source_tree.specs.Places.{LocatedItem}
-use Rattle.source_tree.specs.Procedures.{Range}
 use Rattle.data_instructions.specs.declared.test.Test.TheVariants as t
 use Rattle.data_instructions.specs.declared.instruction.DataInstruction.TheVariants as i
 use Rattle.code_image.specs.declared.code.Code.{Code}
@@ -28,7 +27,7 @@ use Rattle.codegen.proofs.Straight.{AlwaysStraight, works_straight, work_straigh
 abbrev AlwaysMeets : Asks → Fragment → Type 0
 AlwaysMeets Q piece = (before : Code) → Meets Q before (piece before)
 
-straight_always : (Q : Asks) (piece : Fragment) → AlwaysStraight piece → AlwaysMeets Q piece
+straight_always : (Q : Asks) (piece : Fragment) → AlwaysStraight Q.items piece → AlwaysMeets Q piece
 straight_always Q piece straight before = straight_meets Q before (piece before) (straight before)
 
 both_always : (Q : Asks) (first second : Fragment) → AlwaysMeets Q first → AlwaysMeets Q second
@@ -37,7 +36,10 @@ both_always Q first second f g before =
     both_meet Q before (first before) (second (append before (first before))) (f before)
     (g (append before (first before)))
 
-module _ (Q : Asks) (items : List LocatedItem) (formed : AreFormed items) where
+module _ (Q : Asks) (formed : AreFormed Q.items) where
+  abbrev items : List LocatedItem
+  items = Q.items
+
   record IsMet (one : Condition) : Type 0 where
     by : condition_rules items one ≡ [] → AlwaysMeets Q (condition_fragment items one)
 

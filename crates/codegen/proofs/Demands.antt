@@ -184,8 +184,8 @@ pub record IsPerformed (count : ℕ) (wanted : Range → Type 0) (range : Range)
   pub asked : wanted range
 
 -- what is asked of ranges and of verbs
-abbrev pub asks_of : List ProgramFile → ℕ → (Range → Type 0) → Asks
-asks_of files count asked = record { ranges = IsPerformed count asked; verbs = IsSuited files }
+abbrev pub asks_of : List LocatedItem → List ProgramFile → ℕ → (Range → Type 0) → Asks
+asks_of items files count asked = record { items = items; ranges = IsPerformed count asked; verbs = IsSuited files }
 
 module _ (Q : Asks) where
   -- a piece, behind whatever code
@@ -329,52 +329,56 @@ module _ (Q : Asks) where
     until_from_meets After = until_after_meets
 
   -- `formed`: the literals of condition names have their form.
-  module _ (items : List LocatedItem) (formed : AreFormed items) where
-    vary_begin_meets : (one : Option Varying) → varying_rules items one ≡ []
-        → AlwaysMeets (vary_begin_fragment items one)
+  module _ (formed : AreFormed Q.items) where
+    abbrev asked_items : List LocatedItem
+    asked_items = Q.items
+
+    vary_begin_meets : (one : Option Varying) → varying_rules asked_items one ≡ []
+        → AlwaysMeets (vary_begin_fragment asked_items one)
     vary_begin_meets None e before = nothing_meets Q before
     vary_begin_meets (Some one) e before =
-        let moves = move_rules items one.from (one.item ∷ []) in
-        let numbers = number_rules items one.from in
+        let moves = move_rules asked_items one.from (one.item ∷ []) in
+        let numbers = number_rules asked_items one.from in
         let moving =
-        left_none moves numbers (left_none (moves ++ numbers) (operation_rules items (vary_operation one)) e) in
-        straight_meets Q before (vary_begin_fragment items (Some one) before)
-        (moving_straight items (Move one.from (one.item ∷ [])) moving before)
+        left_none moves numbers (left_none (moves ++ numbers) (operation_rules asked_items (vary_operation one)) e) in
+        straight_meets Q before (vary_begin_fragment asked_items (Some one) before)
+        (moving_straight asked_items (Move one.from (one.item ∷ [])) moving before)
 
-    vary_on_meets : (one : Option Varying) → AlwaysMeets (vary_on_fragment items one)
+    vary_on_meets : (one : Option Varying) → AlwaysMeets (vary_on_fragment asked_items one)
     vary_on_meets None before = nothing_meets Q before
     vary_on_meets (Some one) before =
-        straight_meets Q before (vary_on_fragment items (Some one) before)
-        (arithmetic_straight items false (vary_operation one) before)
+        straight_meets Q before (vary_on_fragment asked_items (Some one) before)
+        (arithmetic_straight asked_items false (vary_operation one) before)
 
-    until_meets : (one : until.Until) (turn : Fragment) → Blind turn → until_rules items one ≡ [] → Begins turn
+    until_meets : (one : until.Until) (turn : Fragment) → Blind turn → until_rules asked_items one ≡ [] → Begins turn
         → AlwaysMeets turn
-        → AlwaysMeets (until_fragment items one turn)
+        → AlwaysMeets (until_fragment asked_items one turn)
     until_meets one turn blind e begins met =
-        let test = condition_fragment items one.condition in
-        let onward = vary_on_fragment items one.varying in
-        let varies = left_none (varying_rules items one.varying) (condition_rules items one.condition) e in
-        let tests = right_none (varying_rules items one.varying) (condition_rules items one.condition) e in
-        pieces_meet (vary_begin_fragment items one.varying) (until_from_fragment one.test test onward turn)
+        let test = condition_fragment asked_items one.condition in
+        let onward = vary_on_fragment asked_items one.varying in
+        let varies = left_none (varying_rules asked_items one.varying) (condition_rules asked_items one.condition) e in
+        let tests = right_none (varying_rules asked_items one.varying) (condition_rules asked_items one.condition) e in
+        pieces_meet (vary_begin_fragment asked_items one.varying) (until_from_fragment one.test test onward turn)
         (vary_begin_meets one.varying varies)
-        (until_from_meets test onward turn (condition_blind items one.condition) (vary_on_blind items one.varying) blind
-        (condition_meets Q items formed one.condition tests) (vary_on_meets one.varying) begins met one.test)
+        (until_from_meets test onward turn (condition_blind asked_items one.condition)
+        (vary_on_blind asked_items one.varying) blind
+        (condition_meets Q formed one.condition tests) (vary_on_meets one.varying) begins met one.test)
 
-    turns_meet : (line : ℕ) (often : Repetition) (turn : Fragment) → Blind turn → turns_rules items often ≡ []
+    turns_meet : (line : ℕ) (often : Repetition) (turn : Fragment) → Blind turn → turns_rules asked_items often ≡ []
         → Begins turn → AlwaysMeets turn
-        → AlwaysMeets (turns_fragment items line often turn)
+        → AlwaysMeets (turns_fragment asked_items line often turn)
     turns_meet line Once turn blind e begins met = met
     turns_meet line (Times count) turn blind e begins met =
         pieces_meet (tick_fragment line) (times_fragment (turns_of count) turn) (tick_meets line)
         (times_meets (turns_of count) turn begins met)
     turns_meet line (CountedBy one) turn blind e begins met =
-        let number = take_fragment items i.Push one in
+        let number = take_fragment asked_items i.Push one in
         pieces_meet (tick_fragment line) (sequence number (counted_fragment turn)) (tick_meets line)
         (pieces_meet number (counted_fragment turn)
-        (λ before. straight_meets Q before (number before) (taking_straight items i.Push one before))
+        (λ before. straight_meets Q before (number before) (taking_straight asked_items i.Push one before))
         (counted_meets turn blind begins met))
     turns_meet line (Until one) turn blind e begins met =
-        pieces_meet (tick_fragment line) (until_fragment items one turn) (tick_meets line)
+        pieces_meet (tick_fragment line) (until_fragment asked_items one turn) (tick_meets line)
         (until_meets one turn blind e begins met)
 
 -- ---- statements
@@ -389,7 +393,7 @@ module _ (scope : Scope) (permits : Range → Bool) (formed : AreFormed scope.it
   items = scope.items
 
   abbrev Q : Asks
-  Q = asks_of scope.files count asked
+  Q = asks_of scope.items scope.files count asked
 
   -- parts that keep rules and perform such ranges
   pub record AllMeet {A : Type 0} (rules : A → List RuleBreach) (performs : A → List Performance) (piece : A → Fragment)
@@ -470,7 +474,7 @@ module _ (scope : Scope) (permits : Range → Bool) (formed : AreFormed scope.it
     -- the phrases of a file statement
     file_phrases_meet : (all : FilePhrases S) → file_phrases_rules rules all ≡ []
         → Asked asked (file_phrases_performs performs all)
-        → PhrasesMeet Q scope numbered (λ number on_file is. is) inside (phrase_blind scope inside blind) all
+        → PhrasesMeet Q scope refl numbered (λ number on_file is. is) inside (phrase_blind scope inside blind) all
     file_phrases_meet file_phrases.Absent e q = tt
     file_phrases_meet (file_phrases.AtEnd pair) e q = pair_meets pair.arose pair.did_not e q
     file_phrases_meet (file_phrases.InvalidKey pair) e q = pair_meets pair.arose pair.did_not e q
@@ -482,7 +486,7 @@ module _ (scope : Scope) (permits : Range → Bool) (formed : AreFormed scope.it
         → AlwaysMeets Q (sequence (condition_fragment items condition) (either_fragment first second))
     tested_meets condition first second e f g one two =
         pieces_meet Q (condition_fragment items condition) (either_fragment first second)
-        (condition_meets Q items formed condition e)
+        (condition_meets Q formed condition e)
         (either_meets Q first second f g one two)
 
     selecting_meets : (subjects : List Subject) (selected : List (Selected S)) (other : Option (List S))
@@ -507,7 +511,7 @@ module _ (scope : Scope) (permits : Range → Bool) (formed : AreFormed scope.it
 
     look_meets : (one : Option Condition) → look_rules items one ≡ [] → AlwaysMeets Q (look_fragment items one)
     look_meets None e before = nothing_meets Q before
-    look_meets (Some one) e before = condition_meets Q items formed one e before
+    look_meets (Some one) e before = condition_meets Q formed one e before
 
     each_subject_meets : (subjects : List Subject) → each (subject_rules items) subjects ≡ []
         → AlwaysMeets Q (each_subject_fragment items subjects)
@@ -558,7 +562,8 @@ module _ (scope : Scope) (permits : Range → Bool) (formed : AreFormed scope.it
         (all_front P groups others q) (all_back P groups others q)))
 
     -- straight code behind what uses one of the budget
-    ticked : (line : ℕ) (piece : Fragment) → AlwaysStraight piece → AlwaysMeets Q (sequence (tick_fragment line) piece)
+    ticked : (line : ℕ) (piece : Fragment) → AlwaysStraight items piece
+        → AlwaysMeets Q (sequence (tick_fragment line) piece)
     ticked line piece straight =
         pieces_meet Q (tick_fragment line) piece (tick_meets Q line)
         (λ before. straight_meets Q before (piece before) (straight before))
@@ -583,7 +588,7 @@ module _ (scope : Scope) (permits : Range → Bool) (formed : AreFormed scope.it
         left_none (turns_rules items one.turns) (performed_rules scope.procedures permits rules one.performed) e in
         let performed =
         right_none (turns_rules items one.turns) (performed_rules scope.procedures permits rules one.performed) e in
-        turns_meet Q items formed line one.turns turn (turn_blind scope inside blind line one.performed) often
+        turns_meet Q formed line one.turns turn (turn_blind scope inside blind line one.performed) often
         (turn_begins scope inside line one.performed) (turn_meets line one.performed performed q)
     verb_meets line (verb.TextStatement one) e q =
         ticked line (texts_fragment items one) (texts_straight items sized one e)
@@ -597,7 +602,7 @@ module _ (scope : Scope) (permits : Range → Bool) (formed : AreFormed scope.it
         (right_none (string_rules items one) (phrases_rules rules one.phrases) e) q))
     verb_meets line (verb.FileStatement one) e q =
         pieces_meet Q (tick_fragment line) (file_statement_fragment scope inside one) (tick_meets Q line)
-        (filing_meets Q scope numbered (λ number on_file is. is) inside (phrase_blind scope inside blind) one
+        (filing_meets Q scope refl numbered (λ number on_file is. is) inside (phrase_blind scope inside blind) one
         (file_phrases_meet (phrases_of one)
         (right_none (filing_rules scope.items scope.files one) (file_phrases_rules rules (phrases_of one)) e) q))
     verb_meets line (verb.ControlStatement ending.StopRun) e q = stop_meets Q line

@@ -1,5 +1,5 @@
 -- The code of file statements meets the demands on ways, files and ranges.
-use Rattle.std.proofs.Common.{◌≡◌, ℕ, List, [], ◌∷◌, Option, Some, None, refl}
+use Rattle.std.proofs.Common.{◌≡◌, ℕ, List, [], ◌∷◌, Option, Some, None, refl, subst}
 use Rattle.std.specs.Prelude.{◌==◌}
 use Rattle.std.specs.List.{AllByRecursion}
 use Rattle.records.specs.declared.verb.Verb as on_files
@@ -28,7 +28,7 @@ use Rattle.code_image.specs.declared.code.Code.{Code}
 use Rattle.code_image.specs.declared.instruction.Instruction.TheVariants.{File, TestStatus, Unheard}
 use Rattle.codegen.specs.Fragments.{Fragment, append, sequence, in_order}
 use Rattle.codegen.specs.Meeting.{either_fragment, nothing_fragment}
-use Rattle.codegen.specs.DataCode.{works_fragment, sender_fragment, take_fragment, receivers_fragment}
+use Rattle.codegen.specs.DataCode.{works_fragment, take_fragment, receivers_fragment}
 use Rattle.codegen.specs.FileCode.{sent_index, file_fragment, test_fragment, unheard_fragment, on_file_fragment}
 use Rattle.codegen.specs.FileCode.{into_fragment, from_fragment, on_record_fragment}
 use Rattle.codegen.specs.Layout.{phrase_fragment, taken_fragment, success_fragment, class_fragment, failure_fragment}
@@ -43,17 +43,17 @@ use Rattle.codegen.proofs.Straight.{AlwaysStraight, both_straight, nothing_strai
 use Rattle.codegen.proofs.Straight.{taking_straight}
 
 module _ (items : List LocatedItem) where
-  receivers_straight : (all : List Reference) → AlwaysStraight (receivers_fragment items all)
+  receivers_straight : (all : List Reference) → AlwaysStraight items (receivers_fragment items all)
   receivers_straight = in_order_straight (take_fragment items i.Move) (taking_straight items i.Move)
 
-  into_straight : (into : Option Reference) (file : ProgramFile) → AlwaysStraight (into_fragment items into file)
+  into_straight : (into : Option Reference) (file : ProgramFile) → AlwaysStraight items (into_fragment items into file)
   into_straight None file before = nothing_straight
   into_straight (Some into) file before =
       let taking = i.Place (sent_index items file) ∷ i.Take ∷ [] in
       both_straight (works_fragment taking) (receivers_fragment items (into ∷ [])) (works_straight taking)
       (receivers_straight (into ∷ [])) before
 
-  from_straight : (to : Reference) (from : Option Reference) → AlwaysStraight (from_fragment items to from)
+  from_straight : (to : Reference) (from : Option Reference) → AlwaysStraight items (from_fragment items to from)
   from_straight to None before = nothing_straight
   from_straight to (Some from) before =
       both_straight (take_fragment items i.Take from) (receivers_fragment items (to ∷ []))
@@ -68,7 +68,7 @@ module _ (Q : Asks) where
   pieces_meet one two f s before =
       both_meet Q before (one before) (two (append before (one before))) (f before) (s (append before (one before)))
 
-  straight_so : (piece : Fragment) → AlwaysStraight piece → AlwaysMeets piece
+  straight_so : (piece : Fragment) → AlwaysStraight Q.items piece → AlwaysMeets piece
   straight_so piece straight before = straight_meets Q before (piece before) (straight before)
 
   test_meets : (one : StatusClass) → AlwaysMeets (test_fragment one)
@@ -100,8 +100,12 @@ module _ (Q : Asks) where
       (in_order_meets piece f more (append before (piece one before)))
 
   -- `numbered`: each file has its number; `gives`: what is asked of a verb is so where it suits its file.
-  module _ (scope : Scope) (numbered : AllByRecursion (IsNumbered scope.files) scope.files)
+  module _ (scope : Scope) (alike : scope.items ≡ Q.items)
+      (numbered : AllByRecursion (IsNumbered scope.files) scope.files)
       (gives : (number : ℕ) (verb : on_files.Verb) → IsSuited scope.files number verb → Q.verbs number verb) where
+    scope_straight : (piece : Fragment) → AlwaysStraight scope.items piece → AlwaysMeets piece
+    scope_straight piece straight = straight_so piece (subst (λ l. AlwaysStraight l piece) alike straight)
+
     file_meets : (one : on_files.Verb) (file : ProgramFile) → IsNumbered scope.files file → Suits file.entry one
         → AlwaysMeets (file_fragment one file)
     file_meets one file is suits before = record {
@@ -222,7 +226,7 @@ module _ (Q : Asks) where
           let found = first (items_named scope.items to.item) in
           let statement = alone_fragment scope inside phrases (λ file. one) in
           pieces_meet (from_fragment scope.items to from) (on_record_fragment scope.items scope.files to statement)
-          (straight_so (from_fragment scope.items to from) (from_straight scope.items to from))
+          (scope_straight (from_fragment scope.items to from) (from_straight scope.items to from))
           (found_meets (file_with_record scope.files found) statement (λ file is.
           statement_meets phrases (λ file. nothing_fragment) (λ file. one) h (λ file. nothing_first) suits file
           (with_record found file is)))
@@ -241,7 +245,7 @@ module _ (Q : Asks) where
           named_meets file phrases (into_fragment scope.items into) (λ file. read_verb scope.items file next key) h
           (λ file. record {
             blind = into_blind scope into file;
-            meets = straight_so (into_fragment scope.items into file) (into_straight scope.items into file);
+            meets = scope_straight (into_fragment scope.items into file) (into_straight scope.items into file);
           }) (λ file. read_suits scope.items file next key)
       filing_meets (Write one from phrases) h = record_meets verb.Write (λ file. tt) one from phrases h
       filing_meets (Rewrite one from phrases) h = record_meets verb.Rewrite (λ file. tt) one from phrases h

@@ -1,15 +1,12 @@
 -- The files of a program by their places among the SELECTs, and where the items of their clauses stand.
-use Rattle.std.proofs.Common.{◌≡◌, ℕ, zero, suc, ◌+◌, Bool, true, false, List, [], ◌∷◌, ◌++◌, length, map, Option, Some}
+use Rattle.std.proofs.Common.{◌≡◌, ℕ, zero, suc, ◌+◌, List, [], ◌∷◌, ◌++◌, map, Option, Some}
 use Rattle.std.proofs.Common.{None, refl, sym, ap, subst, ◌∙◌, arith}
 use Rattle.std.specs.Prelude.{not, drop, IfSome, slice_get}
-use Rattle.std.specs.List.{AllByRecursion}
 use Rattle.std.specs.Option.{option_map}
 use Rattle.std.proofs.lemmas.Option.{same_Some, slice_get_within}
-use Rattle.lexical.specs.declared.place.Place.{Place}
 use Rattle.records.specs.Connector.{Connector, closed_connector}
 use Rattle.records.specs.Spec.{is_name}
 use Rattle.records.specs.Tests.{is_sequential}
-use Rattle.source_tree.specs.declared.name.Name.{Name}
 use Rattle.source_tree.specs.declared.reference.QualifiedName.{QualifiedName}
 use Rattle.source_tree.specs.declared.reference.Reference.{Reference}
 use Rattle.source_tree.specs.declared.select.Select.{Select}
@@ -22,12 +19,10 @@ use Rattle.source_tree.specs.FileRules.{relative_rules, indexed_rules, organizat
 use Rattle.source_tree.specs.FileRules.{most_alternate_keys, select_rules}
 use Rattle.source_tree.specs.LookUp.{items_named, first}
 use Rattle.source_tree.specs.Meaning.{closed_connectors}
-use Rattle.source_tree.specs.NameRules.{unique_name_rules}
+use Rattle.source_tree.specs.NameRules.{no_part_rules}
 use Rattle.source_tree.specs.Places.{LocatedItem}
 use Rattle.source_tree.specs.ProgramFiles.{DescribedFile, described_file, ProgramFile, plain_place, item_place, file_by}
 use Rattle.source_tree.specs.ProgramFiles.{files_from}
-use Rattle.source_tree.specs.References.{ItemPlace, place_after}
-use Rattle.data_instructions.specs.declared.tables.DataItem.{DataItem}
 use Rattle.data_instructions.specs.declared.tables.DataTables.{DataTables}
 use Rattle.data_instructions.specs.Codes.{data_item}
 use Rattle.file_image.specs.declared.file.CodeFile.{CodeFile}
@@ -93,7 +88,10 @@ module _ (items : List LocatedItem) where
   item_asked : (asked : Reference → LocatedItem → List RuleBreach) (one : Reference) → clause_item items asked one ≡ []
       → NamesOne (Some one)
   item_asked asked one e = let only =
-      only_named one.item.name.place (asked one) (items_named items one.item) e in (only.0, only.1)
+      only_named one.item.name.place (λ found. no_part_rules one ++ asked one found) (items_named items one.item) e in (
+        only.0,
+        only.1,
+      )
 
   none_written : (one : Option Reference) → in_clause another_clause one ≡ [] → NamesOne one
   none_written None e = tt

@@ -1,9 +1,8 @@
 -- The machine follows the meaning of file statements, where the rules are kept.
-use Rattle.std.proofs.Common.{◌≡◌, ℕ, ◌+◌, ◌<◌, ◌≤◌, Bool, true, false, List, [], ◌∷◌, ◌++◌, Option, Some, None, refl}
-use Rattle.std.proofs.Common.{sym, ap, ◌∙◌, subst, arith}
+use Rattle.std.proofs.Common.{◌≡◌, ℕ, ◌<◌, Bool, true, false, List, [], ◌∷◌, ◌++◌, Option, Some, None, refl}
+use Rattle.std.proofs.Common.{subst, arith}
 use Rattle.std.specs.Prelude.{◌==◌, ◌&&◌, slice_get}
 use Rattle.lexical.specs.declared.place.Place.{Place}
-use Rattle.records.specs.declared.status.Status.{Status}
 use Rattle.records.specs.declared.verb.Verb.{Verb}
 use Rattle.records.specs.declared.verb.Verb.TheVariants as verb
 use Rattle.source_tree.specs.declared.name.Name.{Name}
@@ -16,13 +15,14 @@ use Rattle.source_tree.specs.declared.file_statement.FileStatement.{FileStatemen
 use Rattle.source_tree.specs.declared.file_statement.FileStatement.TheVariants.{Open, Close, Read, Write, Rewrite}
 use Rattle.source_tree.specs.declared.file_statement.FileStatement.TheVariants.{Delete, Start}
 use Rattle.source_tree.specs.Arithmetic.{in_phrase}
-use Rattle.source_tree.specs.Broken.{RuleBreach, where_so, each}
+use Rattle.source_tree.specs.Broken.{RuleBreach, where_so}
 use Rattle.source_tree.specs.Filing as meaning
 use Rattle.source_tree.specs.Filing.{Class, class_of, unheard_outcome, taken_phrase, by_class, by_status, into_item}
 use Rattle.source_tree.specs.Filing.{from_item, on_file, file_with_record, is_in_sequence, read_verb, start_verb}
 use Rattle.source_tree.specs.Filing.{statement_on, on_name, open_one, close_one, phrases_of, file_outcome}
-use Rattle.source_tree.specs.FilingRules.{any_file, file_named_rules, open_rules, close_rules, read_rules}
-use Rattle.source_tree.specs.FilingRules.{read_phrase_rules, read_key_rules, into_rules, record_item, from_rules}
+use Rattle.source_tree.specs.FilingRules.{open_rules, close_rules, read_rules}
+use Rattle.source_tree.specs.FilingRules.{read_phrase_rules, read_key_rules, into_rules, from_rules}
+use Rattle.codegen.proofs.FilingKept.{whole_record}
 use Rattle.source_tree.specs.FilingRules.{record_rules, delete_rules, start_rules, filing_rules, is_random}
 use Rattle.source_tree.specs.LookUp.{items_named, first}
 use Rattle.source_tree.specs.NameRules.{unique_name_rules, reference_rules}
@@ -43,7 +43,7 @@ use Rattle.code_image.specs.Points.{Own}
 use Rattle.codegen.specs.Fragments.{Fragment, append, sequence}
 use Rattle.codegen.specs.Meeting.{either_fragment, nothing_fragment}
 use Rattle.codegen.specs.FileCode.{file_fragment, test_fragment, unheard_fragment, on_file_fragment, into_fragment}
-use Rattle.codegen.specs.FileCode.{from_fragment, on_name_fragment, on_record_fragment}
+use Rattle.codegen.specs.FileCode.{from_fragment}
 use Rattle.codegen.specs.Layout.{phrase_fragment, taken_fragment, success_fragment, class_fragment, failure_fragment}
 use Rattle.codegen.specs.Layout.{status_fragment, statement_on_fragment, alone_fragment, open_fragment, close_fragment}
 use Rattle.codegen.specs.Layout.{record_fragment, file_statement_fragment}
@@ -53,7 +53,7 @@ use Rattle.codegen.proofs.ConditionBlind.{nothing_blind}
 use Rattle.codegen.proofs.Codes.{left_none, right_none}
 use Rattle.codegen.proofs.Standing.{Stands}
 use Rattle.codegen.proofs.Branching.{either_at, either_does}
-use Rattle.codegen.proofs.Doing.{end_of, PartDoes, Sits, front_sits, back_sits, IsRoom, parts_do, nothing_does, Follows}
+use Rattle.codegen.proofs.Doing.{PartDoes, Sits, front_sits, back_sits, IsRoom, parts_do, nothing_does}
 use Rattle.codegen.proofs.Doing.{in_order_does, Repeats}
 use Rattle.codegen.proofs.FileDoing.{ended, tested, test_then, unheard_does, file_then}
 use Rattle.codegen.proofs.HasFiles.{IsFiled, HasFiles, first_so}
@@ -347,7 +347,7 @@ module _ (whole : Code) (kept : ℕ → Type 0) (scope : Scope)
         let go = statement_on scope.items scope.files run all Done verb in
         let rest = found_does found go statement (λ file is.
         alone_does all inner (λ file. verb) file (with_record (first (items_named scope.items one.item)) file is)) in
-        let asked = reference_rules scope.items (record_item scope.items scope.files all) one in
+        let asked = reference_rules scope.items (whole_record scope.items scope.files one all) one in
         record {
           by = λ before cs s below room sits.
               let a = from_fragment scope.items one from before in

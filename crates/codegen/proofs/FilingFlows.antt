@@ -1,6 +1,6 @@
 -- The code of file statements finds what it needs, where the rules are kept: each part begins and ends at rest.
-use Rattle.std.proofs.Common.{◌≡◌, ℕ, List, [], ◌∷◌, ◌++◌, map, Option, Some, None, refl, sym, ap, subst, ◌∙◌}
-use Rattle.std.specs.Prelude.{◌==◌, slice_get, if◌then◌else◌}
+use Rattle.std.proofs.Common.{◌≡◌, ℕ, List, [], ◌∷◌, ◌++◌, Option, Some, None, refl, ap, ◌∙◌}
+use Rattle.std.specs.Prelude.{slice_get, if◌then◌else◌}
 use Rattle.items.specs.declared.taken.Taken.{Taken}
 use Rattle.items.specs.declared.taken.Taken.TheVariants as taken
 use Rattle.records.specs.declared.verb.Verb as on_files
@@ -15,14 +15,14 @@ use Rattle.source_tree.specs.declared.file_statement.Opening.{Opening}
 use Rattle.source_tree.specs.declared.file_statement.FileStatement.{FileStatement}
 use Rattle.source_tree.specs.declared.file_statement.FileStatement.TheVariants.{Open, Close, Read, Write, Rewrite}
 use Rattle.source_tree.specs.declared.file_statement.FileStatement.TheVariants.{Delete, Start}
-use Rattle.source_tree.specs.Broken.{RuleBreach, each}
+use Rattle.source_tree.specs.Broken.{RuleBreach}
 use Rattle.source_tree.specs.Filing.{file_with_record, read_verb, start_verb, phrases_of}
-use Rattle.source_tree.specs.FilingRules.{file_named_rules, open_rules, close_rules, read_rules, into_rules}
-use Rattle.source_tree.specs.FilingRules.{record_item, from_rules, record_rules, delete_rules, start_rules}
+use Rattle.source_tree.specs.FilingRules.{read_rules, into_rules}
+use Rattle.source_tree.specs.FilingRules.{from_rules, record_rules}
 use Rattle.source_tree.specs.FilingRules.{filing_rules}
 use Rattle.source_tree.specs.LookUp.{items_named, first}
-use Rattle.source_tree.specs.MoveRules.{receives, move_rules}
-use Rattle.source_tree.specs.NameRules.{unique_name_rules, reference_rules}
+use Rattle.source_tree.specs.MoveRules.{move_rules}
+use Rattle.source_tree.specs.NameRules.{reference_rules}
 use Rattle.source_tree.specs.Names.{same}
 use Rattle.source_tree.specs.Places.{LocatedItem}
 use Rattle.source_tree.specs.ProgramFiles.{ProgramFile, files_named}
@@ -56,9 +56,10 @@ use Rattle.codegen.proofs.ConditionBlind.{nothing_blind}
 use Rattle.codegen.proofs.Codes.{left_none, right_none}
 use Rattle.codegen.proofs.Doing.{any}
 use Rattle.codegen.proofs.FilingDoes.{first_asked, into_kept}
-use Rattle.codegen.proofs.Flowing.{rest, along_data, Flows, both_flow, nothing_flows, in_order_flows, BodyFlows}
+use Rattle.codegen.proofs.Flowing.{rest, along_data, Flows, both_flow, nothing_flows, BodyFlows}
 use Rattle.codegen.proofs.Flowing.{either_flows}
 use Rattle.codegen.proofs.HasFiles.{IsFiled, HasFiles, first_so}
+use Rattle.codegen.proofs.FilingKept.{whole_record}
 use Rattle.codegen.proofs.Lying.{receive_each}
 use Rattle.codegen.proofs.MoveDoing.{into_coded}
 use Rattle.codegen.proofs.Standing.{Stands, front, back}
@@ -85,10 +86,10 @@ module _ (scope : Scope) (whole : Code) (has : HasFiles whole scope)
       ∙ ap (λ o. and_then o (effects tables others)) (
       taking_known scope.items tables i.Move one first is_first may.0.0 t
       ∙ ap (λ o. and_then (shape_with (Some s.stacks) (Some s.line) (and_then o (moving_to sent))) (effects tables []))
-      is_first.1.has.entry
+      is_first.1.entry
       ∙ ap (λ b.
       and_then (shape_with (Some s.stacks) (Some s.line) (if b then Some (Some sent) else None)) (effects tables []))
-      (may.0.1 is_first.1.found is_first.1.has.named))
+      (may.0.1 is_first.1.found is_first.1.named))
       ∙ receivers_known more others are_others sent may.1 s
 
   -- the record is taken, from rest
@@ -249,7 +250,7 @@ module _ (scope : Scope) (whole : Code) (has : HasFiles whole scope)
         → BodyFlows whole (record_fragment scope inside one to from phrases)
     record_flows one to from phrases e inner =
         let statement = alone_fragment scope inside phrases (λ file. one) in
-        let asked = reference_rules scope.items (record_item scope.items scope.files phrases) to in
+        let asked = reference_rules scope.items (whole_record scope.items scope.files to phrases) to in
         pair_flows (from_fragment scope.items to from) (on_record_fragment scope.items scope.files to statement)
         (from_flows to from (right_none asked (from_rules scope.items scope.files to from) e))
         (found_flows (file_with_record scope.files (first (items_named scope.items to.item))) statement

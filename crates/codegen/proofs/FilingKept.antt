@@ -7,7 +7,7 @@ use Rattle.records.specs.Steps.{is_relative}
 use Rattle.source_tree.specs.declared.reference.Reference.{Reference}
 use Rattle.source_tree.specs.declared.file_statement.StartKey.{StartKey}
 use Rattle.source_tree.specs.declared.phrases.FilePhrases.{FilePhrases}
-use Rattle.source_tree.specs.Broken.{RuleBreach, where_so, each}
+use Rattle.source_tree.specs.Broken.{RuleBreach, where_so}
 use Rattle.source_tree.specs.FileRules.{clause_item}
 use Rattle.source_tree.specs.Filing.{is_in_sequence}
 use Rattle.source_tree.specs.FilingRules.{is_sequential_file, is_random, is_start_operator, read_key_item}
@@ -15,7 +15,9 @@ use Rattle.source_tree.specs.FilingRules.{start_key_item, phrase_kind_rules, rea
 use Rattle.source_tree.specs.FilingRules.{into_rules, read_rules, record_item, from_rules, record_rules}
 use Rattle.source_tree.specs.FilingRules.{start_key_rules, start_rules}
 use Rattle.source_tree.specs.LookUp.{first, items_named}
-use Rattle.source_tree.specs.NameRules.{unique_name_rules, subscript_rules, reference_rules}
+use Rattle.source_tree.specs.NameRules.{unique_name_rules, no_part_rules, part_item_rules, number_rules_of}
+use Rattle.source_tree.specs.NameRules.{reference_rules}
+use Rattle.source_tree.specs.Parts.{seen_through}
 use Rattle.source_tree.specs.Places.{LocatedItem}
 use Rattle.source_tree.specs.ProgramFiles.{ProgramFile}
 use Rattle.file_descriptions.specs.Clauses.{NamesOne}
@@ -36,7 +38,8 @@ module _ (items : List LocatedItem) where
   pub clause_names_one : (asked : Reference → LocatedItem → List RuleBreach) (one : Reference)
       → clause_item items asked one ≡ [] → NamesOne items one
   clause_names_one asked one e =
-      let only = only_named one.item.name.place (asked one) (items_named items one.item) e in
+      let only = only_named one.item.name.place (λ found. no_part_rules one ++ asked one found)
+      (items_named items one.item) e in
       record { one = only.0; named = only.1 }
 
   -- the item of a reference
@@ -45,10 +48,11 @@ module _ (items : List LocatedItem) where
   item_names_one asked one e =
       let place = one.item.name.place in
       let rules = λ (found : LocatedItem).
-      where_so (not (length one.subscripts == length found.dimensions)) 50 place ++ asked place found in
+      where_so (not (length one.subscripts == length found.dimensions)) 50 place ++ part_item_rules one found
+      ++ asked place (seen_through one found) in
       let found = items_named items one.item in
       let only = only_named place rules found
-      (left_none (unique_name_rules place rules found) (each (subscript_rules items) one.subscripts) e) in
+      (left_none (unique_name_rules place rules found) (number_rules_of items one) e) in
       record { one = only.0; named = only.1 }
 
   module _ (files : List ProgramFile) where
@@ -102,13 +106,17 @@ module _ (items : List LocatedItem) where
 
     -- ---- WRITE and REWRITE
 
+    -- the record, without a part
+    abbrev pub whole_record : {S : Type 0} → Reference → FilePhrases S → Place → LocatedItem → List RuleBreach
+    whole_record one phrases place found = no_part_rules one ++ record_item items files phrases place found
+
     pub record_names_one : {S : Type 0} (one : Reference) (from : Option Reference) (phrases : FilePhrases S)
         → record_rules items files one from phrases ≡ [] → NamesOne items one
     record_names_one one from phrases e =
-        item_names_one (record_item items files phrases) one
-        (left_none (reference_rules items (record_item items files phrases) one) (from_rules items files one from) e)
+        item_names_one (whole_record one phrases) one
+        (left_none (reference_rules items (whole_record one phrases) one) (from_rules items files one from) e)
 
     pub record_from_kept : {S : Type 0} (one : Reference) (from : Option Reference) (phrases : FilePhrases S)
         → record_rules items files one from phrases ≡ [] → from_rules items files one from ≡ []
     record_from_kept one from phrases e =
-        right_none (reference_rules items (record_item items files phrases) one) (from_rules items files one from) e
+        right_none (reference_rules items (whole_record one phrases) one) (from_rules items files one from) e

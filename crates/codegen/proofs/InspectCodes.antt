@@ -22,7 +22,7 @@ use Rattle.data_instructions.specs.InspectCodes.{IsTakenCode, AreTakenCode, HasI
 use Rattle.data_instructions.specs.InspectCodes.{LieTakings, LiesInspect}
 use Rattle.code_image.specs.declared.code.Code.{Code}
 use Rattle.codegen.specs.Fragments.{sequence}
-use Rattle.codegen.specs.DataCode.{reference_fragment, text_fragment}
+use Rattle.codegen.specs.DataCode.{reference_fragment}
 use Rattle.codegen.specs.InspectCode.{inspection_fragment, taken_fragment, takings_fragment, inspection_entry}
 use Rattle.codegen.specs.InspectCode.{inspect_fragment}
 use Rattle.codegen.proofs.Codes.{reference_coded, text_coded}
@@ -41,7 +41,7 @@ module _ (items : List LocatedItem) where
   all_may : (one : InspectStatement) → inspect_rules items one ≡ []
       → AllByRecursion (KeepsTaking items MayBeTaken) (takings items one)
   all_may one e =
-      takings_keep items MayBeTaken (λ one e. e) (λ one e. tt) (λ constant. tt) (λ text h constant. tt) one
+      takings_keep items MayBeTaken (λ one e known. e) (λ one e. tt) (λ constant. tt) (λ text h constant. tt) one
       (keeps_inspect items one e)
 
   module _ (whole : Code) (entries : (n : ℕ) (one : LocatedItem) → slice_get items n ≡ Some one

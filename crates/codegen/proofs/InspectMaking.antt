@@ -18,18 +18,19 @@ use Rattle.source_tree.specs.InspectRules.{inspected_item}
 use Rattle.source_tree.specs.NameRules.{reference_rules}
 use Rattle.source_tree.specs.Places.{LocatedItem}
 use Rattle.source_tree.specs.InspectLayout.{Source, Bytes, Characters, InspectArgument, Counter, Text, InspectEntry}
-use Rattle.source_tree.specs.InspectLayout.{source, found_size, text_size, text_sizes, replacing_text, replaced_text}
+use Rattle.source_tree.specs.InspectLayout.{source, text_size, text_sizes, replacing_text, replaced_text}
 use Rattle.source_tree.specs.InspectLayout.{fit_of, span_at, what_texts, by_texts, limit_text, limit_texts, entry_texts}
 use Rattle.source_tree.specs.InspectLayout.{entries_texts, limit_span, before_at, after_at, what_fit, by_span, by_at}
 use Rattle.source_tree.specs.InspectLayout.{limits_at, entry_at, entries_at, counter_entries, tallying_takings}
 use Rattle.source_tree.specs.InspectLayout.{all_inspected, entry_counts, all_replaced, tallied_size, takings}
 use Rattle.data_instructions.specs.declared.tables.Inspection.{Inspection}
 use Rattle.code_image.specs.declared.code.Code.{Code}
-use Rattle.codegen.specs.Fragments.{append, sequence, in_order}
+use Rattle.codegen.specs.Fragments.{append, sequence}
 use Rattle.codegen.specs.DataCode.{item_number, text_fragment, reference_fragment}
 use Rattle.codegen.specs.InspectCode.{inspection_fragment, taken_fragment, takings_fragment, inspection_entry}
 use Rattle.codegen.specs.InspectCode.{inspect_fragment, Takes, TakesTexts, TextMade, LimitMade, LimitsMade, Puts}
 use Rattle.codegen.specs.InspectCode.{Counts}
+use Rattle.codegen.specs.ItemParts.{length_shown}
 use Rattle.codegen.proofs.Codes.{map_both}
 use Rattle.codegen.proofs.InspectKept.{named_length}
 use Rattle.codegen.proofs.Fragments.{joined_assoc, joined_nothing, in_order-append}
@@ -79,7 +80,7 @@ module _ (items : List LocatedItem) where
 
   pub bytes_made : (one : Reference) (old new : Code) (at size : ℕ) → reference_rules items inspected_item one ≡ []
       → new ≡ append old (taken_fragment items (Text (Bytes one)) old)
-      → size ≡ found_size (slice_get items (item_number items one.item))
+      → size ≡ length_shown one (slice_get items (item_number items one.item))
       → TextMade items (Bytes one) old new at (record { start = at; length = size })
   bytes_made one old new at size keep e is = record {
     code = takes_one (Text (Bytes one)) old new e;

@@ -9,7 +9,8 @@ use Rattle.source_tree.specs.declared.literal.Integer.{Integer}
 use Rattle.source_tree.specs.declared.reference.Reference.{Reference}
 use Rattle.source_tree.specs.declared.arithmetic.Receiver.{Receiver}
 use Rattle.source_tree.specs.Broken.{RuleBreach, where_so, each}
-use Rattle.source_tree.specs.NameRules.{is_integer, integer_rules, subscript_rules, reference_rules}
+use Rattle.source_tree.specs.NameRules.{is_integer, integer_rules, subscript_rules, part_rules, number_rules_of}
+use Rattle.source_tree.specs.NameRules.{reference_rules}
 use Rattle.source_tree.specs.Places.{LocatedItem}
 
 pub front_kept : (xs ys : List RuleBreach) → xs ++ ys ≡ [] → xs ≡ []
@@ -31,28 +32,35 @@ one_kept rules (one ∷ more) zero d lt e = front_kept (rules one) (each rules m
 one_kept rules (one ∷ more) (suc i) d lt e =
     one_kept rules more i d (omega arith) (back_kept (rules one) (each rules more) e)
 
--- the subscripts of references whose items keep their rules
-pub subscripts_kept : (items : List LocatedItem) (asked : Place → LocatedItem → List RuleBreach) (all : List Reference)
-    → each (reference_rules items asked) all ≡ []
-    → each (λ (one : Reference). each (subscript_rules items) one.subscripts) all ≡ []
-subscripts_kept items asked [] e = refl
-subscripts_kept items asked (one ∷ more) e =
-    both_kept (each (subscript_rules items) one.subscripts)
-    (each (λ (r : Reference). each (subscript_rules items) r.subscripts) more)
+-- the numbers of references whose items keep their rules
+pub numbers_kept : (items : List LocatedItem) (asked : Place → LocatedItem → List RuleBreach) (all : List Reference)
+    → each (reference_rules items asked) all ≡ [] → each (number_rules_of items) all ≡ []
+numbers_kept items asked [] e = refl
+numbers_kept items asked (one ∷ more) e =
+    both_kept (number_rules_of items one) (each (number_rules_of items) more)
     (back_kept _ _ (front_kept (reference_rules items asked one) (each (reference_rules items asked) more) e))
-    (subscripts_kept items asked more
+    (numbers_kept items asked more
     (back_kept (reference_rules items asked one) (each (reference_rules items asked) more) e))
 
--- the subscripts of a reference whose item keeps its rules
+-- the numbers of a reference whose item keeps its rules
 pub item_kept : (items : List LocatedItem) (asked : Place → LocatedItem → List RuleBreach) (one : Reference)
-    → reference_rules items asked one ≡ [] → each (subscript_rules items) one.subscripts ≡ []
+    → reference_rules items asked one ≡ [] → number_rules_of items one ≡ []
 item_kept items asked one e = back_kept _ _ e
+
+-- the subscripts of a reference, and those of its part
+pub subscripts_kept : (items : List LocatedItem) (one : Reference) → number_rules_of items one ≡ []
+    → each (subscript_rules items) one.subscripts ≡ []
+subscripts_kept items one e = front_kept (each (subscript_rules items) one.subscripts) (part_rules items one.part) e
+
+pub part_kept : (items : List LocatedItem) (one : Reference) → number_rules_of items one ≡ []
+    → part_rules items one.part ≡ []
+part_kept items one e = back_kept (each (subscript_rules items) one.subscripts) (part_rules items one.part) e
 
 -- those of one of the receivers of an arithmetic statement
 pub receiver_kept : (items : List LocatedItem) (asked : Place → LocatedItem → List RuleBreach) (all : List Receiver)
     (i : ℕ) (d : Receiver) → i < length all
     → each (λ (one : Receiver). reference_rules items asked one.item) all ≡ []
-    → each (subscript_rules items) (get_or all i d).item.subscripts ≡ []
+    → number_rules_of items (get_or all i d).item ≡ []
 receiver_kept items asked all i d lt e = item_kept items asked (get_or all i d).item
     (one_kept (λ (one : Receiver). reference_rules items asked one.item) all i d lt e)
 

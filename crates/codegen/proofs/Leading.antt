@@ -4,6 +4,7 @@ use Rattle.std.proofs.Common.{sym, ap, ◌∙◌, subst, inl, inr, ⊎_elim, ari
 use Rattle.std.specs.Prelude.{◌⊎◌, slice_get, take}
 use Rattle.std.specs.List.{AllByRecursion}
 use Rattle.records.specs.declared.verb.Verb.{Verb}
+use Rattle.source_tree.specs.Places.{LocatedItem}
 use Rattle.source_tree.specs.Procedures.{Range}
 use Rattle.code_image.specs.declared.code.Code.{Code}
 use Rattle.code_image.specs.declared.instruction.Instruction.{Instruction}
@@ -18,7 +19,7 @@ use Rattle.codegen.proofs.Standing.{at_seam}
 use Rattle.codegen.proofs.Blind.{Blind}
 use Rattle.codegen.proofs.Either.{either_laid}
 use Rattle.data_instructions.specs.Tables.{IsInspection}
-use Rattle.codegen.proofs.Straight.{all_both, IsSent, IsStraight, Straight}
+use Rattle.codegen.proofs.Straight.{all_both, IsSent, IsStraight, IsPartOf, Straight}
 
 pub all_weaker : {A : Type 0} (P Q : A → Type 0) → ((x : A) → P x → Q x) → (xs : List A) → AllByRecursion P xs
     → AllByRecursion Q xs
@@ -202,18 +203,19 @@ all_lead whole h =
 
 -- ---- parts
 
--- A part names counters that stand before it or in it. It adds no area, no item and no file, senders that have their
--- bytes, and inspections that have their texts.
-pub record Names (before part : Code) : Type 0 where
+-- A part names counters that stand before it or in it. It adds no area and no file, parts of these items, senders that
+-- have their bytes, and inspections that have their texts.
+pub record Names (items : List LocatedItem) (before part : Code) : Type 0 where
   pub counters : AllByRecursion (NamesCounter (length before.instructions + length part.instructions)) part.instructions
   pub areas : part.tables.areas ≡ []
-  pub items : part.tables.items ≡ []
+  pub entries : AllByRecursion (IsPartOf items) part.tables.items
   pub files : part.files ≡ []
   pub senders : AllByRecursion IsSent part.tables.senders
   pub inspections : AllByRecursion IsInspection part.tables.inspections
 
-pub both_name : (before a b : Code) → Names before a → Names (append before a) b → Names before (append a b)
-both_name before a b f s =
+pub both_name : {items : List LocatedItem} (before a b : Code) → Names items before a
+    → Names items (append before a) b → Names items before (append a b)
+both_name {items} before a b f s =
     let i1 = length-append before.instructions a.instructions in
     let i2 = length-append a.instructions b.instructions in
     record {
@@ -226,21 +228,23 @@ both_name before a b f s =
           (NamesCounter (length before.instructions + length (a.instructions ++ b.instructions)))
           (λ one h. more_counters _ _ one (omega (arith, i1, i2)) h) b.instructions s.counters);
       areas = ap (λ l. l ++ b.tables.areas) f.areas ∙ s.areas;
-      items = ap (λ l. l ++ b.tables.items) f.items ∙ s.items;
+      entries = all_both (IsPartOf items) a.tables.items b.tables.items f.entries s.entries;
       files = ap (λ l. l ++ b.files) f.files ∙ s.files;
       senders = all_both IsSent a.tables.senders b.tables.senders f.senders s.senders;
       inspections = all_both IsInspection a.tables.inspections b.tables.inspections f.inspections s.inspections;
     }
 
 -- instructions that name nothing new
-pub plain_names : (before : Code) (all : List Instruction)
+pub plain_names : {items : List LocatedItem} (before : Code) (all : List Instruction)
     → AllByRecursion (NamesCounter (length before.instructions + length all)) all
-    → Names before (plain_code all)
+    → Names items before (plain_code all)
 plain_names before all counters =
-    record { counters = counters; areas = refl; items = refl; files = refl; senders = tt; inspections = tt }
+    record { counters = counters; areas = refl; entries = tt; files = refl; senders = tt; inspections = tt }
 
--- What is asked of ranges that are performed, and of the verbs of file statements, by the numbers of their files.
+-- What is asked of ranges that are performed, and of the verbs of file statements, by the numbers of their files; and
+-- the items that code names.
 pub record Asks : Type 1 where
+  pub items : List LocatedItem
   pub ranges : Range → Type 0
   pub verbs : ℕ → Verb → Type 0
 
@@ -266,7 +270,7 @@ PerformsOnly Q (Data one) = Unit {0}
 
 -- Its ways lead where they may. No code paragraph starts or ends in it, and what it performs and does to files is `Q`.
 pub record Meets (Q : Asks) (before part : Code) : Type 0 where
-  pub names : Names before part
+  pub names : Names Q.items before part
   pub leads : LeadsFrom (before.instructions ++ part.instructions) (length before.instructions) part.instructions
   pub starts : part.starts ≡ []
   pub none : ends_in part.instructions ≡ 0
@@ -395,14 +399,14 @@ module _ (Q : Asks) where
   nothing_meets before =
       record { names = plain_names before [] tt; leads = tt; starts = refl; none = refl; performs = tt }
 
-  pub straight_meets : (before part : Code) → Straight part → Meets Q before part
+  pub straight_meets : (before part : Code) → Straight Q.items part → Meets Q before part
   straight_meets before part s = record {
     names = record {
       counters = all_weaker IsStraight (NamesCounter (length before.instructions + length part.instructions))
           (λ one h. names_none (length before.instructions + length part.instructions) one h) part.instructions
           s.instructions;
       areas = s.areas;
-      items = s.items;
+      entries = s.entries;
       files = s.files;
       senders = s.senders;
       inspections = s.inspections;

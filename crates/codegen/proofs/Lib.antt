@@ -25,7 +25,9 @@ pub mod FileParts
 pub mod OnFiles
 pub mod Operations
 pub mod NewBytes
+pub mod PartBytes
 pub mod Subscripts
+pub mod ItemParts
 pub mod StorageItems
 pub mod ConditionItems
 pub mod ConditionValues

@@ -1,6 +1,6 @@
 -- Where the rules are kept, each occurrence of an item that is named lies in its area, and moves are permitted.
 use Rattle.std.proofs.Common.{◌≡◌, ℕ, List, [], ◌∷◌, ◌++◌, Some, true, refl, sym, ap, subst, ◌∙◌}
-use Rattle.std.specs.Prelude.{slice_get, not}
+use Rattle.std.specs.Prelude.{slice_get, not, map}
 use Rattle.lexical.specs.declared.place.Place.{Place}
 use Rattle.items.specs.declared.taken.Taken.{Taken}
 use Rattle.items.specs.declared.taken.Taken.TheVariants as t
@@ -19,6 +19,7 @@ use Rattle.source_tree.specs.Literals.{literal_sender}
 use Rattle.source_tree.specs.LookUp.{items_named, first}
 use Rattle.source_tree.specs.MoveRules.{may_move, only_item, sent_by, receives}
 use Rattle.source_tree.specs.NameRules.{reference_rules, any_item, operand_rules}
+use Rattle.source_tree.specs.Parts.{seen_through}
 use Rattle.source_tree.specs.Places.{LocatedItem}
 use Rattle.source_tree.specs.TextRules.{shown_rules, display_rules}
 use Rattle.data_instructions.specs.Codes.{data_item}
@@ -66,11 +67,12 @@ module _ (items : List LocatedItem) (whole : Code) (entries : (n : ℕ) (one : L
   sends (operand.Item one) e =
       let k = keeps items whole entries any_item one e in
       record {
-        sent = t.Item k.found.item;
-        is = ap only_item k.named;
+        sent = t.Item (seen_through one k.found).item;
+        is = ap (λ all. only_item (map (seen_through one) all)) k.named;
         sends_as = (
           lies_all any_item one e,
-          λ found is. ap (λ (p : LocatedItem). t.Item p.item) (sym (the_only one k.found found k.named is)),
+          λ found is.
+              ap (λ (p : LocatedItem). t.Item (seen_through one p).item) (sym (the_only one k.found found k.named is)),
         );
       }
   sends (operand.Literal one) e = record { sent = (literal_sender one.value).taken; is = refl; sends_as = refl }
@@ -81,9 +83,10 @@ module _ (items : List LocatedItem) (whole : Code) (entries : (n : ℕ) (one : L
       let k = keeps items whole entries (receives (Some sent)) one e in (
         lies_all (receives (Some sent)) one e,
         λ found is.
-            subst (λ (p : LocatedItem). may_move sent p.item ≡ true) (the_only one k.found found k.named is)
-            (not_false (may_move sent k.found.item)
-            (kept (not (may_move sent k.found.item)) 49 one.item.name.place k.asks)),
+            subst (λ (p : LocatedItem). may_move sent (seen_through one p).item ≡ true)
+            (the_only one k.found found k.named is)
+            (not_false (may_move sent (seen_through one k.found).item)
+            (kept (not (may_move sent (seen_through one k.found).item)) 49 one.item.name.place k.asks)),
       )
 
   pub receive_each : (sent : Taken) (all : List Reference)

@@ -1,5 +1,5 @@
 -- What SET puts into items, as bytes and marks.
-use Rattle.std.proofs.Common.{◌≡◌, ℕ, List, [], ◌∷◌, ◌++◌, length, map, Option, Some, None, refl, sym, ap, subst, ◌∙◌}
+use Rattle.std.proofs.Common.{◌≡◌, ℕ, List, [], ◌∷◌, length, map, Some, None, refl, sym, ap, subst, ◌∙◌}
 use Rattle.std.specs.Prelude.{slice_get, replicate}
 use Rattle.std.specs.List.{All}
 use Rattle.std.specs.Option.{option_map}
@@ -7,12 +7,11 @@ use Rattle.std.proofs.lemmas.Option.{same_Some, slice_get-map, get_or_from_slice
 use Rattle.items.specs.declared.item.Item.{Item}
 use Rattle.source_tree.specs.declared.entry.ValueRange.{ValueRange}
 use Rattle.source_tree.specs.declared.reference.Reference.{Reference}
-use Rattle.source_tree.specs.Broken.{each}
 use Rattle.source_tree.specs.ConditionRules.{condition_subscripts}
 use Rattle.source_tree.specs.Initializing.{whole_pattern, first_value}
 use Rattle.source_tree.specs.Literals.{literal_sender}
 use Rattle.source_tree.specs.LookUp.{NamedCondition, all_conditions, conditions_named}
-use Rattle.source_tree.specs.NameRules.{unique_name_rules, subscript_rules}
+use Rattle.source_tree.specs.NameRules.{unique_name_rules, number_rules_of}
 use Rattle.source_tree.specs.Places.{LocatedItem}
 use Rattle.source_tree.specs.SettingRules.{set_one}
 use Rattle.source_tree.specs.Starts.{with_value}
@@ -83,7 +82,7 @@ is_set items one e =
     let place = one.item.name.place in
     let all = unique_name_rules place (condition_subscripts one) (conditions_named items one.item) in
     let only = only_condition place (condition_subscripts one) (conditions_named items one.item)
-    (left_none all (each (subscript_rules items) one.subscripts) (set_kept items one e)) in
+    (left_none all (number_rules_of items one) (set_kept items one e)) in
     let there = condition_there items one.item only.0 only.1 in
     record {
       found = only.0;

@@ -3,7 +3,8 @@
 -- compared as numbers, or the left one is compared with ZERO before.
 use Rattle.std.proofs.Common.{◌≡◌, ℕ, Bool, true, false, not, ◌&&◌, ◌==◌, List, [], ◌∷◌, ◌++◌, length, Option, Some}
 use Rattle.std.proofs.Common.{None, Ok, Err, refl, sym, ap, subst, ◌∙◌, arith}
-use Rattle.std.specs.Prelude.{slice_get}
+use Rattle.std.proofs.Common.{ℤ, pos, negsuc, zero, suc, ◌+◌, ◌-◌, map}
+use Rattle.std.specs.Prelude.{slice_get, nat_le, if◌then◌else◌}
 use Rattle.std.proofs.lemmas.Bool.Decides.{nat_tests}
 use Rattle.decimal18.specs.Fraction.{Fraction}
 use Rattle.decimal18.specs.Order.{order}
@@ -22,7 +23,7 @@ use Rattle.source_tree.specs.declared.condition.Relation.{Relation}
 use Rattle.source_tree.specs.declared.condition.Relation.TheVariants.{Equal}
 use Rattle.source_tree.specs.declared.condition.Side.{Side}
 use Rattle.source_tree.specs.ArithmeticRules.{is_numeric_kind}
-use Rattle.source_tree.specs.Broken.{RuleBreach, where_so, each}
+use Rattle.source_tree.specs.Broken.{where_so}
 use Rattle.source_tree.specs.Computed.{ArithmeticValue, number_at, operand_value}
 use Rattle.source_tree.specs.ConditionRules.{Characters, compared_kind, compared_only, compared_alone}
 use Rattle.source_tree.specs.Conditions.{satisfies, senders_satisfy, without_value, take_bytes, take_item, take_operand}
@@ -31,7 +32,13 @@ use Rattle.source_tree.specs.Evaluated.{Fault, Evaluation, ◌>>=◌, evaluation
 use Rattle.source_tree.specs.Literals.{Sender, item_sender}
 use Rattle.source_tree.specs.Moving.{taken_of}
 use Rattle.source_tree.specs.LookUp.{items_named, first}
-use Rattle.source_tree.specs.NameRules.{unique_name_rules, subscript_rules, reference_rules, any_item, operand_rules}
+use Rattle.source_tree.specs.NameRules.{unique_name_rules, part_item_rules, number_rules_of, reference_rules}
+use Rattle.source_tree.specs.NameRules.{any_item, operand_rules}
+use Rattle.source_tree.specs.declared.reference.Part.{Part}
+use Rattle.source_tree.specs.Evaluated as broken
+use Rattle.source_tree.specs.Parts.{part_kind, seen_by, seen_through, has_part}
+use Rattle.source_tree.specs.References.{part_after, part_of_length, part_from, length_value, part_in}
+use Rattle.source_tree.specs.References.{referred_place, subscript_value}
 use Rattle.source_tree.specs.Places.{LocatedItem}
 use Rattle.source_tree.specs.References.{ItemPlace, part_of, place_after, bytes_before, occurrence, place_of}
 use Rattle.source_tree.specs.Storage.{Storage}
@@ -91,15 +98,57 @@ sent_from storage place = place >>= (λ one. Ok (item_sender one.item (part_of s
 abbrev value_from : Storage → Evaluation ItemPlace → Evaluation ArithmeticValue
 value_from storage place = (place >>= number_at storage) >>= (λ x. Ok (Some x))
 
-text_behind : (one : LocatedItem) (behind : Evaluation ℕ) (storage : Storage) (fault : Fault)
-    (go : Sender → Evaluation Bool) → is_numeric_kind one.item.kind ≡ false
-    → (found_behind one behind >>= take_item storage) ≡ Err fault
-    → (sent_from storage (found_behind one behind) >>= go) ≡ Err fault
-text_behind one (Ok n) storage fault go text e =
+-- a place of characters, or none
+abbrev IsText : Evaluation ItemPlace → Type 0
+IsText (Ok place) = is_numeric_kind place.item.kind ≡ false
+IsText (Err fault) = Unit {0}
+
+text_place : (place : Evaluation ItemPlace) (storage : Storage) (fault : Fault)
+    (go : Sender → Evaluation Bool) → IsText place
+    → (place >>= take_item storage) ≡ Err fault → (sent_from storage place >>= go) ≡ Err fault
+text_place (Ok place) storage fault go text e =
     let taken : ◌≡◌ {A = Evaluation (Unit {0})} (Ok tt) (Err fault) =
-    sym (text_taken one.item.kind (part_of storage (place_after one n)) text) ∙ e in absurd cc
-text_behind one (Err other) storage fault go text e = let is : ◌≡◌ {A = Evaluation (Unit {0})} (Err other) (Err fault) =
+    sym (text_taken place.item.kind (part_of storage place) text) ∙ e in absurd cc
+text_place (Err other) storage fault go text e = let is : ◌≡◌ {A = Evaluation (Unit {0})} (Err other) (Err fault) =
     e in cc
+
+-- ---- parts, which are no numbers
+
+part_text : (one : Kind) → is_numeric_kind (part_kind one) ≡ false
+part_text kind.Group = refl
+part_text (kind.Alphabetic justified) = refl
+part_text (kind.Alphanumeric justified) = refl
+part_text kind.AlphanumericEdited = refl
+part_text (kind.NumericEdited blank) = refl
+part_text (kind.Numeric form) = refl
+
+text_bound : {A : Type 0} (r : Evaluation A) (f : A → Evaluation ItemPlace) → ((x : A) → IsText (f x))
+    → IsText (r >>= f)
+text_bound (Ok x) f text = text x
+text_bound (Err fault) f text = tt
+
+text_length : (whole : ItemPlace) (before : ℕ) (z : ℤ) → IsText (part_of_length whole before z)
+text_length whole before (negsuc n) = tt
+text_length whole before (pos n) = by_test (nat_le 1 n && nat_le (before + n) whole.item.length)
+  where
+    by_test : (b : Bool) → IsText (if b then Ok (part_after whole before n) else Err broken.Part)
+    by_test true = part_text whole.item.kind
+    by_test false = tt
+
+text_made : (whole : ItemPlace) (z : ℤ) (length : Option ℤ) → IsText (part_from whole z length)
+text_made whole (pos zero) length = tt
+text_made whole (negsuc n) length = tt
+text_made whole (pos (suc before)) None = text_length whole before (pos (whole.item.length - before))
+text_made whole (pos (suc before)) (Some z) = text_length whole before z
+
+-- a reference without a part, of which something holds
+without_part : (one : Reference) (x : Bool) → (not (has_part one) && x) ≡ true → (one.part ≡ None) × (x ≡ true)
+without_part one x e = by_part one.part e
+  where
+    by_part : (part : Option Part) → (not (has_part (record one { part = part })) && x) ≡ true
+        → (part ≡ None) × (x ≡ true)
+    by_part None e = (refl, e)
+    by_part (Some part) e = absurd cc
 
 -- ---- two numbers
 
@@ -183,31 +232,53 @@ module _ (items : List LocatedItem) where
   only_item one e =
       let place = one.item.name.place in
       let rules = λ (found : LocatedItem).
-      where_so (not (length one.subscripts == length found.dimensions)) 50 place ++ any_item place found in
+      where_so (not (length one.subscripts == length found.dimensions)) 50 place ++ part_item_rules one found
+      ++ any_item place (seen_through one found) in
       let all = items_named items one.item in
-      let only = only_named place rules all
-      (left_none (unique_name_rules place rules all) (each (subscript_rules items) one.subscripts) e) in
+      let only =
+      only_named place rules all (left_none (unique_name_rules place rules all) (number_rules_of items one) e) in
       (only.0, only.1)
 
   -- its place
   placed : (one : Reference) (storage : Storage) (found : LocatedItem) → items_named items one.item ≡ found ∷ []
-      → place_of items one storage ≡ found_behind found (bytes_before items found.dimensions one.subscripts storage)
+      → place_of items one storage ≡ referred_place items one found storage
   placed one storage found named = ap (λ (l : List LocatedItem).
-      evaluation_of (first l) >>= (λ item. occurrence items one.subscripts item storage)) named
+      evaluation_of (first l) >>= (λ item. referred_place items one item storage)) named
 
-  -- its place, if it has no dimensions
+  -- A part is characters, and so is an item that is no number.
+  text_found : (one : Reference) (found : LocatedItem) (storage : Storage)
+      → (not (has_part one) && is_numeric_kind found.item.kind) ≡ false
+      → IsText (referred_place items one found storage)
+  text_found one found storage e =
+      by_part one.part (bytes_before items found.dimensions one.subscripts storage) e
+    where
+      by_part : (part : Option Part) (behind : Evaluation ℕ)
+          → (not (has_part (record one { part = part })) && is_numeric_kind found.item.kind) ≡ false
+          → IsText (found_behind found behind >>= part_in items part storage)
+      by_part part (Err fault) e = tt
+      by_part None (Ok n) e = e
+      by_part (Some part) (Ok n) e =
+          text_bound (subscript_value items part.first storage)
+          (λ z. length_value items part.length storage >>= (λ l. part_from (place_after found n) z l))
+          (λ z. text_bound (length_value items part.length storage) (λ l. part_from (place_after found n) z l)
+          (λ l. text_made (place_after found n) z l))
+
+  -- its place, if it has no part and no dimensions
   pub single_place : (one : Reference) (storage : Storage) → reference_rules items any_item one ≡ []
-      → is_single (slice_get items (item_number items one.item)) ≡ true
+      → (not (has_part one) && is_single (slice_get items (item_number items one.item))) ≡ true
       → (found : LocatedItem) × (slice_get items (item_number items one.item) ≡ Some found)
       × (place_of items one storage ≡ Ok (place_after found 0))
   single_place one storage e single =
       let only = only_item one e in
+      let whole = without_part one (is_single (slice_get items (item_number items one.item))) single in
       let there = item_there items one.item only.0 only.1 in
-      let none : (length only.0.dimensions == 0) ≡ true = sym (ap is_single there) ∙ single in (
+      let none : (length only.0.dimensions == 0) ≡ true = sym (ap is_single there) ∙ whole.1 in (
         only.0,
         there,
         placed one storage only.0 only.1
-            ∙ ap (found_behind only.0) (no_dimensions items only.0.dimensions one.subscripts storage none),
+            ∙ ap (λ part. occurrence items one.subscripts only.0 storage >>= part_in items part storage) whole.0
+            ∙ ap (λ behind. found_behind only.0 behind >>= part_in items None storage)
+            (no_dimensions items only.0.dimensions one.subscripts storage none),
       )
 
   pub at_hand : (one : Operand) (storage : Storage) → is_operand_at_hand items one ≡ true → operand_rules items one ≡ []
@@ -224,12 +295,12 @@ module _ (items : List LocatedItem) where
   text_fault one b by storage fault e text taken =
       let only = only_item one e in
       let is = placed one storage only.0 only.1 in
-      let behind = bytes_before items only.0.dimensions one.subscripts storage in
-      let no_number : is_numeric_kind only.0.item.kind ≡ false =
-      sym (ap is_numeric_item (item_there items one.item only.0 only.1)) ∙ text in
+      let no_number : (not (has_part one) && is_numeric_kind only.0.item.kind) ≡ false =
+      sym (ap (λ o. not (has_part one) && is_numeric_item o) (item_there items one.item only.0 only.1)) ∙ text in
       let go : Sender → Evaluation Bool = λ x. taken_of items b storage >>= senders_satisfy by x in
       ap (λ (p : Evaluation ItemPlace). sent_from storage p >>= go) is
-      ∙ text_behind only.0 behind storage fault go no_number
+      ∙ text_place (referred_place items one only.0 storage) storage fault go
+      (text_found one only.0 storage no_number)
       (sym (ap (λ (p : Evaluation ItemPlace). p >>= take_item storage) is) ∙ taken)
 
   same_fault : (a b : Operand) (by : Relation) (storage : Storage) (fault : Fault) (numeric hand : Bool)
@@ -266,13 +337,20 @@ module _ (items : List LocatedItem) where
       (item_beside items storage (place_of items one storage))
   looked_first (operand.Literal one) b left by right storage e = absurd cc
 
+  all_of_it : (storage : Storage) (place : Evaluation ItemPlace) → (place >>= part_in items None storage) ≡ place
+  all_of_it storage (Ok place) = refl
+  all_of_it storage (Err fault) = refl
+
   numeric_place : (one : Reference) (storage : Storage) → reference_rules items any_item one ≡ []
       → is_numeric_operand items (operand.Item one) ≡ true → IsNumeric (place_of items one storage)
   numeric_place one storage e numeric =
       let only = only_item one e in
+      let whole = without_part one (is_numeric_item (slice_get items (item_number items one.item))) numeric in
       let number : is_numeric_kind only.0.item.kind ≡ true =
-      sym (ap is_numeric_item (item_there items one.item only.0 only.1)) ∙ numeric in
-      subst IsNumeric (sym (placed one storage only.0 only.1))
+      sym (ap is_numeric_item (item_there items one.item only.0 only.1)) ∙ whole.1 in
+      subst IsNumeric (sym (placed one storage only.0 only.1
+      ∙ ap (λ part. occurrence items one.subscripts only.0 storage >>= part_in items part storage) whole.0
+      ∙ all_of_it storage (occurrence items one.subscripts only.0 storage)))
       (numeric_behind only.0 (bytes_before items only.0.dimensions one.subscripts storage) number)
 
   -- Two numbers are compared as numbers.
@@ -305,6 +383,8 @@ module _ (items : List LocatedItem) where
       → compared_alone items (Some one) ≡ Characters → ⊥
   compared_as_number (operand.Item one) e numeric is =
       let only = only_item one e in
-      no_characters only.0.item.kind (sym (ap is_numeric_item (item_there items one.item only.0 only.1)) ∙ numeric)
-      (sym (ap compared_only only.1) ∙ is)
+      let whole = without_part one (is_numeric_item (slice_get items (item_number items one.item))) numeric in
+      no_characters only.0.item.kind (sym (ap is_numeric_item (item_there items one.item only.0 only.1)) ∙ whole.1)
+      (sym (ap (λ l. compared_only (map (seen_through one) l)) only.1
+      ∙ ap (λ part. compared_only (seen_by part only.0 ∷ [])) whole.0) ∙ is)
   compared_as_number (operand.Literal one) e numeric is = absurd cc

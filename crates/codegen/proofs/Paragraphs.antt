@@ -9,6 +9,7 @@ use Rattle.perform_graph.specs.declared.performed.PerformedRange.{PerformedRange
 use Rattle.perform_graph.specs.Order.{IsRange}
 use Rattle.source_tree.specs.declared.program.Paragraph.{Paragraph}
 use Rattle.source_tree.specs.Broken.{each}
+use Rattle.source_tree.specs.Places.{LocatedItem}
 use Rattle.source_tree.specs.Procedures.{Range}
 use Rattle.source_tree.specs.ProgramFiles.{ProgramFile}
 use Rattle.source_tree.specs.Recursion.{Performance, paragraph_performs, by_paragraph, performs_from}
@@ -83,8 +84,8 @@ abbrev pub IsSuitedAt : List ProgramFile → Instruction → Type 0
 IsSuitedAt files (File file verb) = IsSuited files file.number verb
 IsSuitedAt files _ = Unit {0}
 
-module _ (files : List ProgramFile) (count : ℕ) (asked : Range → Type 0) where
-  suited_at : (one : Instruction) → PerformsOnly (asks_of files count asked) one → IsSuitedAt files one
+module _ (items : List LocatedItem) (files : List ProgramFile) (count : ℕ) (asked : Range → Type 0) where
+  suited_at : (one : Instruction) → PerformsOnly (asks_of items files count asked) one → IsSuitedAt files one
   suited_at (File file verb) h = h
   suited_at (Perform line first last) h = tt
   suited_at (Tick line) h = tt
@@ -103,7 +104,7 @@ module _ (files : List ProgramFile) (count : ℕ) (asked : Range → Type 0) whe
   suited_at Unheard h = tt
   suited_at (Data one) h = tt
 
-  names_paragraph : (one : Instruction) → back_count one ≡ 0 → PerformsOnly (asks_of files count asked) one
+  names_paragraph : (one : Instruction) → back_count one ≡ 0 → PerformsOnly (asks_of items files count asked) one
       → NamesParagraph count one
   names_paragraph (Perform line first last) none h = let le = h.within.first in let lt =
       h.within.last in (omega (arith, le, lt), lt)
@@ -125,7 +126,7 @@ module _ (files : List ProgramFile) (count : ℕ) (asked : Range → Type 0) whe
   names_paragraph (Data one) none h = tt
 
   name_paragraphs : (all : List Instruction) → ends_in all ≡ 0
-      → AllByRecursion (PerformsOnly (asks_of files count asked)) all
+      → AllByRecursion (PerformsOnly (asks_of items files count asked)) all
       → AllByRecursion (NamesParagraph count) all
   name_paragraphs [] none h = tt
   name_paragraphs (one ∷ more) none h =
@@ -187,9 +188,10 @@ pub record IsReady (before : Code) : Type 0 where
   pub front : IsFront before.instructions (length before.instructions)
 
 -- So many code paragraphs of `count` in all; what they perform is `P`, and what they do to files suits these.
-pub record AreParagraphs (files : List ProgramFile) (count : ℕ) (P : PerformedRange → Type 0) (many : ℕ)
+pub record AreParagraphs (items : List LocatedItem) (files : List ProgramFile) (count : ℕ) (P : PerformedRange → Type 0)
+    (many : ℕ)
     (before part : Code) : Type 0 where
-  pub names : Names before part
+  pub names : Names items before part
   pub leads : LeadsFrom (before.instructions ++ part.instructions) (length before.instructions) part.instructions
   pub many_are : length part.starts ≡ many
   pub ends : ends_in part.instructions ≡ many
@@ -200,8 +202,8 @@ pub record AreParagraphs (files : List ProgramFile) (count : ℕ) (P : Performed
   pub ranges : AllByRecursion (IsRange count) (performed_from (length before.starts) part.instructions)
   pub performed : AllByRecursion P (performed_from (length before.starts) part.instructions)
 
-module _ (files : List ProgramFile) (count : ℕ) (P : PerformedRange → Type 0) where
-  no_paragraphs : (before : Code) → IsReady before → AreParagraphs files count P 0 before empty_code
+module _ (items : List LocatedItem) (files : List ProgramFile) (count : ℕ) (P : PerformedRange → Type 0) where
+  no_paragraphs : (before : Code) → IsReady before → AreParagraphs items files count P 0 before empty_code
   no_paragraphs before is = record {
     names = plain_names before [] tt;
     leads = tt;
@@ -216,7 +218,7 @@ module _ (files : List ProgramFile) (count : ℕ) (P : PerformedRange → Type 0
   }
 
   -- code behind which another code paragraph may start
-  ready_behind : (many : ℕ) (before part : Code) → IsReady before → AreParagraphs files count P many before part
+  ready_behind : (many : ℕ) (before part : Code) → IsReady before → AreParagraphs items files count P many before part
       → IsReady (append before part)
   ready_behind many before part is h =
       let n = length-append before.starts part.starts in
@@ -226,9 +228,9 @@ module _ (files : List ProgramFile) (count : ℕ) (P : PerformedRange → Type 0
       let c = h.many_are in
       record { ends = omega (arith, n, m, a, b, c); front = h.ready }
 
-  both_paragraphs : (m n : ℕ) (before a b : Code) → AreParagraphs files count P m before a
-      → AreParagraphs files count P n (append before a) b
-      → AreParagraphs files count P (m + n) before (append a b)
+  both_paragraphs : (m n : ℕ) (before a b : Code) → AreParagraphs items files count P m before a
+      → AreParagraphs items files count P n (append before a) b
+      → AreParagraphs items files count P (m + n) before (append a b)
   both_paragraphs m n before a b f s =
       let is = append_assoc before.instructions a.instructions b.instructions in
       let so_many = length-append a.starts b.starts in
@@ -272,12 +274,12 @@ module _ (files : List ProgramFile) (count : ℕ) (P : PerformedRange → Type 0
 
   -- A code paragraph starts, statements stand in it, and it ends.
   one_paragraph : (before body : Code) → IsReady before → length before.starts < count
-      → Meets (asks_of files count (asked_of (length before.starts))) (append before (start_fragment before)) body
-      → AreParagraphs files count P 1 before
+      → Meets (asks_of items files count (asked_of (length before.starts))) (append before (start_fragment before)) body
+      → AreParagraphs items files count P 1 before
       (append (start_fragment before) (append body (back_fragment (length before.starts) before)))
   one_paragraph before body is lt met =
       let number : ℕ = length before.starts in
-      let Q = asks_of files count (asked_of number) in
+      let Q = asks_of items files count (asked_of number) in
       let start = start_fragment before in
       let front = append before start in
       let last = back_fragment number before in
@@ -324,7 +326,7 @@ module _ (files : List ProgramFile) (count : ℕ) (P : PerformedRange → Type 0
       all_performed number Q P (λ range h. h.asked) body.instructions none given in
       record {
         names = both_name before start (append body last)
-            (record { counters = tt; areas = refl; items = refl; files = refl; senders = tt; inspections = tt })
+            (record { counters = tt; areas = refl; entries = tt; files = refl; senders = tt; inspections = tt })
             (both_name front body last met.names (plain_names middle last.instructions (tt, tt)));
         leads = both_ways before start (append body last) tt (both_ways front body last met.leads back_leads);
         many_are = ap length starts_is;
@@ -342,9 +344,10 @@ module _ (files : List ProgramFile) (count : ℕ) (P : PerformedRange → Type 0
         );
         ready = inr (subst IsBack (sym (ap (slice_get whole) at_end ∙ seam)) tt);
         paragraphs = all_both (NamesParagraph count) body.instructions last.instructions
-            (name_paragraphs files count (asked_of number) body.instructions none given) (lt, tt);
+            (name_paragraphs items files count (asked_of number) body.instructions none given) (lt, tt);
         suited = all_both (IsSuitedAt files) body.instructions last.instructions
-            (all_weaker (PerformsOnly Q) (IsSuitedAt files) (suited_at files count (asked_of number)) body.instructions
+            (all_weaker (PerformsOnly Q) (IsSuitedAt files) (suited_at items files count (asked_of number))
+            body.instructions
             given) (tt, tt);
         ranges = subst (AllByRecursion (IsRange count)) (sym performs_is)
             (all_both (IsRange count) (performed_from number body.instructions)
@@ -371,30 +374,35 @@ module _ (scope : Scope) (count : ℕ) (P : PerformedRange → Type 0) where
         → length before.starts + length all ≤ count
         → each (paragraph_rules scope permits) all ≡ []
         → AllByRecursion P (map (λ one. one.1) (performs_from scope.procedures (length before.starts) all))
-        → AreParagraphs scope.files count P (length all) before (in_order (paragraph_fragment scope) all before)
-    paragraphs_lie [] before is le e q = no_paragraphs scope.files count P before is
+        → AreParagraphs scope.items scope.files count P (length all) before
+        (in_order (paragraph_fragment scope) all before)
+    paragraphs_lie [] before is le e q = no_paragraphs scope.items scope.files count P before is
     paragraphs_lie (one ∷ more) before is le e q =
         let number : ℕ = length before.starts in
         let start = start_fragment before in
         let body = in_order (sentence_fragment scope) one.sentences (append before start) in
         let part = paragraph_fragment scope one before in
         let next = append before part in
-        let split = first_asked scope.files count P number (paragraph_performs scope.procedures one)
+        let split = first_asked scope.items scope.files count P number (paragraph_performs scope.procedures one)
         (performs_from scope.procedures (number + 1) more) q in
-        let met = paragraph_meets scope permits formed sized count within numbered (asked_of scope.files count P number)
+        let met = paragraph_meets scope permits formed sized count within numbered
+        (asked_of scope.items scope.files count P number)
         one.sentences
         (left_none (paragraph_rules scope permits one) (each (paragraph_rules scope permits) more) e) split.0
         (append before start) in
-        let first = one_paragraph scope.files count P before body is (omega (arith, le)) met in
+        let first = one_paragraph scope.items scope.files count P before body is (omega (arith, le)) met in
         let in_all = length-append before.starts part.starts in
         let many = first.many_are in
         let so_far : number + 1 ≡ length next.starts = omega (arith, in_all, many) in
         let rest =
-        paragraphs_lie more next (ready_behind scope.files count P 1 before part is first) (omega (arith, le, so_far))
+        paragraphs_lie more next (ready_behind scope.items scope.files count P 1 before part is first)
+        (omega (arith, le, so_far))
         (right_none (paragraph_rules scope permits one) (each (paragraph_rules scope permits) more) e)
         (subst (λ n. AllByRecursion P (map (λ one. one.1) (performs_from scope.procedures n more))) so_far split.1) in
         let sum : 1 + length more ≡ length (one ∷ more) = omega arith in
         subst (λ n.
-        AreParagraphs scope.files count P n before (append part (in_order (paragraph_fragment scope) more next))) sum
-        (both_paragraphs scope.files count P 1 (length more) before part (in_order (paragraph_fragment scope) more next)
+        AreParagraphs scope.items scope.files count P n before
+        (append part (in_order (paragraph_fragment scope) more next))) sum
+        (both_paragraphs scope.items scope.files count P 1 (length more) before part
+        (in_order (paragraph_fragment scope) more next)
         first rest)

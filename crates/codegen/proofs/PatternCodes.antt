@@ -10,7 +10,8 @@ use Rattle.source_tree.specs.Broken.{RuleBreach, each}
 use Rattle.source_tree.specs.ConditionRules.{condition_subscripts, condition_name_rules}
 use Rattle.source_tree.specs.Initializing.{Pattern, named_pattern, set_pattern}
 use Rattle.source_tree.specs.LookUp.{NamedCondition, items_named, conditions_named, all_conditions, first}
-use Rattle.source_tree.specs.NameRules.{unique_name_rules, subscript_rules, reference_rules, any_item}
+use Rattle.source_tree.specs.NameRules.{unique_name_rules, number_rules_of, reference_rules, any_item}
+use Rattle.source_tree.specs.Parts.{seen_through}
 use Rattle.source_tree.specs.Places.{LocatedItem}
 use Rattle.source_tree.specs.SettingRules.{set_name, set_one, set_rules, initialize_rules}
 use Rattle.data_instructions.specs.declared.index.TextIndex.{TextIndex}
@@ -28,7 +29,7 @@ use Rattle.codegen.specs.PatternCode.{pattern_fragment, pattern_of, set_of, init
 use Rattle.codegen.specs.PatternCode.{set_fragment, sets_fragment}
 use Rattle.codegen.proofs.Codes.{left_none, right_none, item_there, subscripts_coded, keeps, reference_coded}
 use Rattle.codegen.proofs.CodedPieces.{CodedBy, both_by, before_by}
-use Rattle.codegen.proofs.ConditionCodes.{KeepsName, keeps_name}
+use Rattle.codegen.proofs.ConditionCodes.{keeps_name}
 use Rattle.codegen.proofs.ConditionItems.{condition_there}
 use Rattle.codegen.proofs.Lying.{lies_all}
 use Rattle.codegen.proofs.Standing.{Stands, at_seam, text_stands}
@@ -62,7 +63,7 @@ set_named place one found (c ∷ cs) rest e = e
 pub set_kept : (items : List LocatedItem) (one : Reference) → set_one items one ≡ []
     → condition_name_rules items one ≡ []
 set_kept items one e = set_named one.item.name.place one (items_named items one.item) (conditions_named items one.item)
-    (each (subscript_rules items) one.subscripts) e
+    (number_rules_of items one) e
 
 module _ (items : List LocatedItem) (whole : Code) (entries : (n : ℕ) (one : LocatedItem) → slice_get items n ≡ Some one
     → slice_get whole.tables.items n ≡ Some (data_item one)) where
@@ -99,13 +100,14 @@ module _ (items : List LocatedItem) (whole : Code) (entries : (n : ℕ) (one : L
       → CodedBy whole (IsInitializeCode items whole.tables one) (initialize_fragment items one)
   initialize_codes one e =
       let k = keeps items whole entries any_item one e in
-      let pattern = pattern_of (slice_get items (item_number items one.item)) in
-      let same : pattern ≡ named_pattern k.found = ap pattern_of (item_there items one.item k.found k.named) in
-      both_by whole (IsReferenceCode items whole.tables one) (Overlaid (named_pattern k.found))
+      let pattern = pattern_of one (slice_get items (item_number items one.item)) in
+      let shown = named_pattern (seen_through one k.found) in
+      let same : pattern ≡ shown = ap (pattern_of one) (item_there items one.item k.found k.named) in
+      both_by whole (IsReferenceCode items whole.tables one) (Overlaid shown)
       (IsInitializeCode items whole.tables one) (reference_fragment items one)
       (pattern_fragment pattern)
       (record { by = λ before st. reference_coded items whole entries any_item one before e st })
-      (overlaid_as pattern (named_pattern k.found) same (pattern_codes pattern))
+      (overlaid_as pattern shown same (pattern_codes pattern))
       (λ front back is over. (k.found, ap first k.named, over.0, over.1, (front, is, ap (λ l. front ++ l) over.2)))
 
   pub initializes_codes : (all : List Reference) → initialize_rules items all ≡ []

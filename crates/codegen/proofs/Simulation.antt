@@ -80,7 +80,7 @@ use Rattle.code_image.specs.Points.{Own, scratch_of, state_with, own_with}
 use Rattle.code_image.specs.Table.{data_from, exec_code}
 use Rattle.initial_storage.proofs.Pictures.{some_bytes}
 use Rattle.codegen.specs.Fragments.{Fragment, empty_code, append, sequence, in_order, plain_code}
-use Rattle.codegen.specs.DataCode.{reference_fragment, take_fragment, move_fragment, operands_fragment}
+use Rattle.codegen.specs.DataCode.{reference_fragment, take_fragment, operands_fragment}
 use Rattle.codegen.specs.DataCode.{line_end_fragment, show_fragment}
 use Rattle.codegen.specs.ArithmeticCode.{arithmetic_fragment}
 use Rattle.codegen.specs.PatternCode.{initializes_fragment, sets_fragment}
@@ -108,6 +108,7 @@ use Rattle.codegen.proofs.Codes.{left_none, right_none, Coded, display_coded, ac
 use Rattle.codegen.proofs.ArithmeticCodes.{arithmetic_coded}
 use Rattle.codegen.proofs.PatternCodes.{initializes_codes, sets_codes}
 use Rattle.codegen.proofs.InspectCodes.{inspect_codes}
+use Rattle.codegen.proofs.InspectKept.{known_texts}
 use Rattle.codegen.proofs.StringCodes.{string_codes}
 use Rattle.codegen.proofs.Doing.{end_of, Does, PartDoes, Sits, front_sits, back_sits, IsRoom, still_room, moved, stays}
 use Rattle.codegen.proofs.Doing.{behind, parts_do, tick_part, ticks_alone, ending_does, nothing_does, Follows}
@@ -269,9 +270,10 @@ module _ (whole : Code) (kept : ℕ → Type 0) (scope : Scope) (has : HasFiles 
   texts_do (text.Inspect one) before cs s keep room st =
       let part = inspect_fragment scope.items one before in
       let coded = (inspect_codes scope.items whole entries one keep).by before st in
-      let means = inspected_alike scope.items items_sized one s.storage keep in
+      let known = known_texts scope.items one keep in
+      let means = inspected_alike scope.items items_sized one s.storage keep known in
       let works_as =
-      inspect_does scope.items whole.tables order one coded.code coded.holds (scratch_of s cs) room.line
+      inspect_does scope.items whole.tables order one coded.code known coded.holds (scratch_of s cs) room.line
       ∙ ap (λ (e : Evaluation Storage).
       scratch.step_with e (λ after. scratch.Continues (record (scratch_of s cs) { storage = after }))) (sym means) in
       let from = end_of before in

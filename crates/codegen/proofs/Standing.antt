@@ -5,6 +5,7 @@ use Rattle.std.specs.Prelude.{slice_get}
 use Rattle.std.proofs.Math.Seq.{get_or-append_seam}
 use Rattle.std.proofs.lemmas.Option.{slice_get-get_or}
 use Rattle.decimal18.specs.Fraction.{Fraction}
+use Rattle.data_instructions.specs.declared.tables.DataItem.{DataItem}
 use Rattle.data_instructions.specs.declared.tables.LiteralSender.{LiteralSender}
 use Rattle.data_instructions.specs.declared.tables.Inspection.{Inspection}
 use Rattle.data_instructions.specs.declared.instruction.DataInstruction.{DataInstruction}
@@ -68,6 +69,11 @@ pub number_stands : (whole before part : Code) (x : Fraction) (more : List Fract
     → Stands whole before part → slice_get whole.tables.numbers (length before.tables.numbers) ≡ Some x
 number_stands whole before part x more is st = in_part whole.tables.numbers before.tables.numbers part.tables.numbers
     st.rest.tables.numbers more x (ap (λ (c : Code). c.tables.numbers) st.is) is
+
+pub item_stands : (whole before part : Code) (x : DataItem) (more : List DataItem) → part.tables.items ≡ x ∷ more
+    → Stands whole before part → slice_get whole.tables.items (length before.tables.items) ≡ Some x
+item_stands whole before part x more is st = in_part whole.tables.items before.tables.items part.tables.items
+    st.rest.tables.items more x (ap (λ (c : Code). c.tables.items) st.is) is
 
 pub sender_stands : (whole before part : Code) (x : LiteralSender) (more : List LiteralSender)
     → part.tables.senders ≡ x ∷ more → Stands whole before part

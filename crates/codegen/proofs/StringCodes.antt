@@ -11,7 +11,7 @@ use Rattle.source_tree.specs.declared.string_statement.Sending.{Sending}
 use Rattle.source_tree.specs.declared.string_statement.StringStatement.{StringStatement}
 use Rattle.source_tree.specs.Broken.{RuleBreach, each}
 use Rattle.source_tree.specs.Display.{shown_literal}
-use Rattle.source_tree.specs.LookUp.{items_named}
+use Rattle.source_tree.specs.Parts.{items_referred}
 use Rattle.source_tree.specs.NameRules.{reference_rules}
 use Rattle.source_tree.specs.Places.{LocatedItem}
 use Rattle.source_tree.specs.StringRules.{sent_item, sent_rules, delimiter_rules, sending_rules, receiver_item}
@@ -33,7 +33,7 @@ use Rattle.codegen.specs.Fragments.{sequence, in_order}
 use Rattle.codegen.specs.DataCode.{work_fragment, text_fragment, reference_fragment}
 use Rattle.codegen.specs.StringCode.{up_to_text_fragment, text_up_to_place_fragment, sent_item_fragment, sent_fragment}
 use Rattle.codegen.specs.StringCode.{found_fragment, up_to_place_fragment, sender_by_fragment, sender_fragment}
-use Rattle.codegen.specs.StringCode.{sendings_fragment, pointer_subscripts, put_fragment, string_fragment}
+use Rattle.codegen.specs.StringCode.{sendings_fragment, pointer_numbers, put_fragment, string_fragment}
 use Rattle.codegen.proofs.Codes.{left_none, right_none, reference_coded, text_coded}
 use Rattle.codegen.proofs.CodedPieces.{CodedBy, both_by, behind_by}
 use Rattle.codegen.proofs.ExpressionCodes.{taking_codes}
@@ -45,19 +45,19 @@ use Rattle.codegen.proofs.Standing.{text_stands}
 pub record KeepsString (items : List LocatedItem) {S : Type 0} (one : StringStatement S) : Type 0 where
   pub sendings : each (sending_rules items) one.sendings ≡ []
   pub receiver : reference_rules items receiver_item one.receiver ≡ []
-  pub pointer : pointer_rules items (only_length (items_named items one.receiver.item)) one.pointer ≡ []
+  pub pointer : pointer_rules items (only_length (items_referred items one.receiver)) one.pointer ≡ []
 
 pub keeps_string : (items : List LocatedItem) {S : Type 0} (one : StringStatement S) → string_rules items one ≡ []
     → KeepsString items one
 keeps_string items one e =
     let a = each (sending_rules items) one.sendings in
     let b = reference_rules items receiver_item one.receiver in
-    let c = pointer_rules items (only_length (items_named items one.receiver.item)) one.pointer in
+    let c = pointer_rules items (only_length (items_referred items one.receiver)) one.pointer in
     let f = left_none (a ++ b) c e in
     record { sendings = left_none a b f; receiver = right_none a b f; pointer = right_none (a ++ b) c e }
 
 pub pointer_kept : (items : List LocatedItem) (size : ℕ) (one : Option Reference) → pointer_rules items size one ≡ []
-    → pointer_subscripts items one ≡ []
+    → pointer_numbers items one ≡ []
 pointer_kept items size None e = refl
 pointer_kept items size (Some one) e = item_kept items (pointer_item size) one e
 
@@ -238,7 +238,7 @@ module _ (items : List LocatedItem) (whole : Code) (entries : (n : ℕ) (one : L
       (both_by whole (IsReferenceCode items whole.tables one.receiver) (IsPutCode items whole.tables one.pointer)
       (IsStoredCode one.receiver one.pointer) place
       (put_fragment items one.pointer) (place_codes receiver_item one.receiver k.receiver)
-      (put_codes (only_length (items_named items one.receiver.item)) one.pointer k.pointer)
+      (put_codes (only_length (items_referred items one.receiver)) one.pointer k.pointer)
       (λ front back is last. (front, is, back, last, refl)))
       (λ front back is others. (front, is, others.0, others.1, others.2, others.3, ap (λ l. front ++ l) others.4))
 
@@ -284,5 +284,5 @@ module _ (items : List LocatedItem) (whole : Code) (entries : (n : ℕ) (one : L
         let k = keeps_string items one e in (
           lie_sendings one.sendings k.sendings,
           lies_all items whole entries lie receiver_item one.receiver k.receiver,
-          lies_pointer (only_length (items_named items one.receiver.item)) one.pointer k.pointer,
+          lies_pointer (only_length (items_referred items one.receiver)) one.pointer k.pointer,
         )

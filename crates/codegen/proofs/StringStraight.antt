@@ -17,49 +17,52 @@ use Rattle.codegen.specs.StringCode.{sendings_fragment, put_fragment, string_fra
 use Rattle.codegen.proofs.Straight.{AlwaysStraight, both_straight, nothing_straight, in_order_straight, work_straight}
 use Rattle.codegen.proofs.Straight.{text_straight, reference_straight, taking_straight}
 
-up_to_text_straight : (delimiter : List ℕ) → AlwaysStraight (up_to_text_fragment delimiter)
+up_to_text_straight : {items : List LocatedItem} (delimiter : List ℕ)
+    → AlwaysStraight items (up_to_text_fragment delimiter)
 up_to_text_straight delimiter before = record {
   instructions = (tt, tt);
   starts = refl;
   files = refl;
   areas = refl;
-  items = refl;
+  entries = tt;
   senders = tt;
   inspections = tt;
 }
 
-text_up_to_place_straight : (bytes : List ℕ) → AlwaysStraight (text_up_to_place_fragment bytes)
+text_up_to_place_straight : {items : List LocatedItem} (bytes : List ℕ)
+    → AlwaysStraight items (text_up_to_place_fragment bytes)
 text_up_to_place_straight bytes before = record {
   instructions = (tt, tt);
   starts = refl;
   files = refl;
   areas = refl;
-  items = refl;
+  entries = tt;
   senders = tt;
   inspections = tt;
 }
 
 module _ (items : List LocatedItem) where
   sent_item_straight : (delimiter : Option (List ℕ)) (one : Reference)
-      → AlwaysStraight (sent_item_fragment items delimiter one)
+      → AlwaysStraight items (sent_item_fragment items delimiter one)
   sent_item_straight None one = taking_straight items (i.Gather g.Bytes) one
   sent_item_straight (Some delimiter) one = both_straight (reference_fragment items one) (up_to_text_fragment delimiter)
       (reference_straight items one) (up_to_text_straight delimiter)
 
-  sent_straight : (delimiter : Option (List ℕ)) (one : Operand) → AlwaysStraight (sent_fragment items delimiter one)
+  sent_straight : (delimiter : Option (List ℕ)) (one : Operand)
+      → AlwaysStraight items (sent_fragment items delimiter one)
   sent_straight delimiter (operand.Item one) = sent_item_straight delimiter one
   sent_straight delimiter (operand.Literal one) = text_straight (sent_of delimiter (shown_literal one.value))
 
-  found_straight : (one : Operand) → AlwaysStraight (found_fragment items one)
+  found_straight : (one : Operand) → AlwaysStraight items (found_fragment items one)
   found_straight (operand.Item one) before = taking_straight items i.DropPlace one before
   found_straight (operand.Literal one) before = nothing_straight
 
-  up_to_place_straight : (one : Operand) → AlwaysStraight (up_to_place_fragment items one)
+  up_to_place_straight : (one : Operand) → AlwaysStraight items (up_to_place_fragment items one)
   up_to_place_straight (operand.Item one) = taking_straight items (i.Gather g.UpToPlace) one
   up_to_place_straight (operand.Literal one) = text_up_to_place_straight (shown_literal one.value)
 
   sending_by_straight : (senders : List Operand) (delimiter : Option Operand)
-      → AlwaysStraight (sender_by_fragment items senders delimiter)
+      → AlwaysStraight items (sender_by_fragment items senders delimiter)
   sending_by_straight senders None = in_order_straight (sent_fragment items None) (sent_straight None) senders
   sending_by_straight senders (Some (operand.Literal delimiter)) =
       let text =
@@ -75,16 +78,16 @@ module _ (items : List LocatedItem) where
       (both_straight parts last (in_order_straight (up_to_place_fragment items) up_to_place_straight senders)
       (work_straight i.DropPlace)))
 
-  sendings_straight : (all : List Sending) → AlwaysStraight (sendings_fragment items all)
+  sendings_straight : (all : List Sending) → AlwaysStraight items (sendings_fragment items all)
   sendings_straight all =
       in_order_straight (sender_fragment items) (λ one. sending_by_straight one.senders one.delimiter) all
 
-  put_straight : (pointer : Option Reference) → AlwaysStraight (put_fragment items pointer)
+  put_straight : (pointer : Option Reference) → AlwaysStraight items (put_fragment items pointer)
   put_straight None = work_straight (i.String false)
   put_straight (Some pointer) = taking_straight items (i.String true) pointer
 
   pub string_straight : (sendings : List Sending) (receiver : Reference) (pointer : Option Reference)
-      → AlwaysStraight (string_fragment items sendings receiver pointer)
+      → AlwaysStraight items (string_fragment items sendings receiver pointer)
   string_straight sendings receiver pointer =
       let place = reference_fragment items receiver in
       both_straight (sendings_fragment items sendings) (sequence place (put_fragment items pointer))

@@ -1,15 +1,10 @@
 -- The looks at subjects of EVALUATE keep the rules and have the faults with which subjects are taken; and where the
 -- first object asks at once, its condition has that fault.
-use Rattle.std.proofs.Common.{◌≡◌, ℕ, Bool, true, false, not, ◌&&◌, ◌||◌, ◌==◌, if◌then◌else◌, List, [], ◌∷◌, ◌++◌}
-use Rattle.std.proofs.Common.{length, Option, Some, None, Ok, Err, refl, sym, ap, subst, ◌∙◌, arith}
+use Rattle.std.proofs.Common.{◌≡◌, Bool, true, false, not, ◌&&◌, ◌||◌, if◌then◌else◌, List, [], ◌∷◌, ◌++◌}
+use Rattle.std.proofs.Common.{Option, Some, None, Ok, Err, refl, sym, ap, ◌∙◌}
 use Rattle.std.specs.Prelude.{slice_get}
-use Rattle.std.proofs.lemmas.Bool.Decides.{nat_tests}
-use Rattle.items.specs.declared.item.Kind.{Kind}
-use Rattle.items.specs.declared.item.Kind.TheVariants as kind
 use Rattle.lexical.specs.declared.place.Place.{Place}
-use Rattle.source_tree.specs.declared.reference.Subscript as written
 use Rattle.source_tree.specs.declared.reference.Reference.{Reference}
-use Rattle.source_tree.specs.declared.table.Dimension.{Dimension}
 use Rattle.source_tree.specs.declared.expression.Operand.{Operand}
 use Rattle.source_tree.specs.declared.expression.Operand.TheVariants as operand
 use Rattle.source_tree.specs.declared.condition.Relation.TheVariants as relation
@@ -20,22 +15,21 @@ use Rattle.source_tree.specs.declared.evaluate_statement.Subject.{Subject}
 use Rattle.source_tree.specs.declared.evaluate_statement.Object.{Object}
 use Rattle.source_tree.specs.declared.evaluate_statement.When.{When}
 use Rattle.source_tree.specs.declared.evaluate_statement.Selected.{Selected}
-use Rattle.source_tree.specs.ArithmeticRules.{is_numeric_kind}
 use Rattle.source_tree.specs.Broken.{RuleBreach, where_so, each}
 use Rattle.source_tree.specs.ConditionRules.{SideKind, Number, Characters, Either, compared_alone, may_compare}
 use Rattle.source_tree.specs.ConditionRules.{is_literal_alone, side_place, side_from, side_rules, relation_rules}
 use Rattle.source_tree.specs.ConditionRules.{condition_rules}
 use Rattle.source_tree.specs.Conditions.{without_value, take_item, alone_side, holds}
-use Rattle.source_tree.specs.Evaluate.{ObjectValues, ResolvedOperand, Value, Truth, Asking, condition_or_opposite}
+use Rattle.source_tree.specs.Evaluate.{ObjectValues, ResolvedOperand, Value, Truth, Asking}
 use Rattle.source_tree.specs.Evaluate.{value_within, value_condition, take_value, take_resolved, take_subjects}
 use Rattle.source_tree.specs.Evaluate.{resolved_subject, selection_condition, object_conditions, when_condition}
 use Rattle.source_tree.specs.Evaluate.{when_conditions, selected_condition, one_of, selection_outcome}
 use Rattle.source_tree.specs.EvaluateRules.{resolved_rules, object_rules, objects_rules, when_rules, selected_rules}
-use Rattle.source_tree.specs.Evaluated.{Fault, Evaluation, ◌>>=◌, evaluation_of}
-use Rattle.source_tree.specs.LookUp.{items_named, first}
-use Rattle.source_tree.specs.NameRules.{unique_name_rules, subscript_rules, reference_rules, any_item, operand_rules}
+use Rattle.source_tree.specs.Evaluated.{Fault, Evaluation, ◌>>=◌}
+use Rattle.source_tree.specs.NameRules.{reference_rules, any_item}
+use Rattle.source_tree.specs.Parts.{has_part}
 use Rattle.source_tree.specs.Places.{LocatedItem}
-use Rattle.source_tree.specs.References.{ItemPlace, part_of, place_after, bytes_before, occurrence, place_of}
+use Rattle.source_tree.specs.References.{ItemPlace, part_of, place_after, place_of}
 use Rattle.source_tree.specs.State.{State, Outcome, in_turn, with_value}
 use Rattle.source_tree.specs.Storage.{Storage}
 use Rattle.source_tree.proofs.Subjects.{beside_zero}
@@ -48,7 +42,7 @@ use Rattle.codegen.specs.DataCode.{item_number}
 use Rattle.codegen.specs.SubjectCode.{zero_side, object_of_when, first_object, is_at_hand, is_faultless, value_look}
 use Rattle.codegen.specs.SubjectCode.{look, look_fragment, each_subject_fragment, asks_at_once, is_asked_first}
 use Rattle.codegen.specs.SubjectCode.{taken_from, subjects_fragment}
-use Rattle.codegen.proofs.Codes.{left_none, right_none, only_named, item_there}
+use Rattle.codegen.proofs.Codes.{left_none}
 use Rattle.codegen.proofs.ConditionLayers.{relation_is, relation_kept}
 use Rattle.codegen.proofs.EvaluateKept as rules
 use Rattle.codegen.proofs.Kept.{both_kept}
@@ -162,14 +156,18 @@ module _ (items : List LocatedItem) where
   -- ---- a look finds what the subject is taken with
 
   faultless_item : (one : Reference) (storage : Storage) → reference_rules items any_item one ≡ []
-      → (is_single (slice_get items (item_number items one.item))
-      && not (is_numeric_item (slice_get items (item_number items one.item)))) ≡ true
+      → ((not (has_part one) && is_single (slice_get items (item_number items one.item)))
+      && not (not (has_part one) && is_numeric_item (slice_get items (item_number items one.item)))) ≡ true
       → (place_of items one storage >>= take_item storage) ≡ Ok tt
   faultless_item one storage e is =
-      let single = is_single (slice_get items (item_number items one.item)) in
-      let numeric = is_numeric_item (slice_get items (item_number items one.item)) in
-      let place = single_place items one storage e (first_true single (not numeric) is) in
-      let text = sym (ap is_numeric_item place.1) ∙ not_so numeric (second_true single (not numeric) is) in
+      let single = not (has_part one) && is_single (slice_get items (item_number items one.item)) in
+      let item = is_numeric_item (slice_get items (item_number items one.item)) in
+      let numeric = not (has_part one) && item in
+      let hand = first_true single (not numeric) is in
+      let place = single_place items one storage e hand in
+      let whole = first_true (not (has_part one)) (is_single (slice_get items (item_number items one.item))) hand in
+      let text = sym (ap is_numeric_item place.1) ∙ sym (ap (λ b. b && item) whole)
+      ∙ not_so numeric (second_true single (not numeric) is) in
       ap (λ (found : Evaluation ItemPlace). found >>= take_item storage) place.2
       ∙ text_taken place.0.item.kind (part_of storage (place_after place.0 0)) text
 

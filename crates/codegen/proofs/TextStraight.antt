@@ -22,26 +22,26 @@ use Rattle.codegen.proofs.Straight.{AlwaysStraight, both_straight, in_order_stra
 use Rattle.codegen.proofs.Straight.{line_end_straight, reference_straight, taking_straight, operand_straight}
 
 module _ (items : List LocatedItem) (sized : AreSized items) where
-  taken_straight : (one : InspectArgument) → AlwaysStraight (taken_fragment items one)
+  taken_straight : (one : InspectArgument) → AlwaysStraight items (taken_fragment items one)
   taken_straight (layout.Counter one) = reference_straight items one
   taken_straight (layout.Text (layout.Bytes one)) = taking_straight items (i.Gather g.Sized) one
   taken_straight (layout.Text (layout.Characters text)) = text_straight text
 
   inspection_straight : (one : InspectStatement) → inspect_rules items one ≡ []
-      → AlwaysStraight (inspection_fragment (inspection_entry items one))
+      → AlwaysStraight items (inspection_fragment (inspection_entry items one))
   inspection_straight one e before =
       record {
         instructions = (tt, tt);
         starts = refl;
         files = refl;
         areas = refl;
-        items = refl;
+        entries = tt;
         senders = tt;
         inspections = (is_inspection items sized one e, tt);
       }
 
   inspect_straight : (one : InspectStatement) → inspect_rules items one ≡ []
-      → AlwaysStraight (inspect_fragment items one)
+      → AlwaysStraight items (inspect_fragment items one)
   inspect_straight one e =
       let subject = reference_fragment items one.subject in
       let parts = takings_fragment items (takings items one) in
@@ -50,7 +50,8 @@ module _ (items : List LocatedItem) (sized : AreSized items) where
       (both_straight parts last (in_order_straight (taken_fragment items) taken_straight (takings items one))
       (inspection_straight one e))
 
-  pub texts_straight : (one : TextStatement) → text_rules items one ≡ [] → AlwaysStraight (texts_fragment items one)
+  pub texts_straight : (one : TextStatement) → text_rules items one ≡ []
+      → AlwaysStraight items (texts_fragment items one)
   texts_straight (Display operands advancing) e =
       both_straight (sequence (operands_fragment items operands) (line_end_fragment advancing)) show_fragment
       (both_straight (operands_fragment items operands) (line_end_fragment advancing)

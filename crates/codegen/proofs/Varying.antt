@@ -4,7 +4,7 @@ use Rattle.source_tree.specs.declared.arithmetic.Receiver.{Receiver}
 use Rattle.source_tree.specs.declared.expression.Operator.TheVariants as operator
 use Rattle.source_tree.specs.declared.until.Varying.{Varying}
 use Rattle.source_tree.specs.Broken.{each}
-use Rattle.source_tree.specs.NameRules.{subscript_rules, reference_rules, operand_rules}
+use Rattle.source_tree.specs.NameRules.{number_rules_of, reference_rules, operand_rules}
 use Rattle.source_tree.specs.MoveRules.{move_rules}
 use Rattle.source_tree.specs.ArithmeticRules.{numeric_item, number_rules, updated_rules, operation_rules}
 use Rattle.source_tree.specs.ConditionRules.{varying_rules}
@@ -45,7 +45,7 @@ module _ (items : List LocatedItem) (one : Varying) where
   by_kept e = front_kept (number_rules items one.by) []
       (front_kept (each (number_rules items) (one.by ∷ [])) (updated_rules items (varied one ∷ [])) (adding e))
 
-  pub varied_kept : varying_rules items (Some one) ≡ [] → each (subscript_rules items) one.item.subscripts ≡ []
+  pub varied_kept : varying_rules items (Some one) ≡ [] → number_rules_of items one.item ≡ []
   varied_kept e =
       item_kept items numeric_item one.item
       (front_kept (reference_rules items numeric_item one.item) []

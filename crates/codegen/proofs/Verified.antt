@@ -1,6 +1,6 @@
 -- A machine can run the code of a program that keeps the rules.
 use Rattle.std.proofs.Common.{◌≡◌, ℕ, zero, suc, ◌+◌, ◌-◌, ◌*◌, ◌≤◌, List, [], ◌∷◌, ◌++◌, length, map, Option, Some}
-use Rattle.std.proofs.Common.{None, refl, sym, ap, ◌∙◌, subst, ⊎_elim, inl, inr, arith, length-append, All}
+use Rattle.std.proofs.Common.{None, refl, sym, ap, ◌∙◌, subst, ⊎_elim, inl, inr, arith, length-append}
 use Rattle.std.specs.List.{AllByRecursion}
 use Rattle.std.specs.Prelude.{◌⊎◌, Bool, true, slice_get, slice_index, slice_index_or}
 use Rattle.std.proofs.lemmas.Option.{slice_get_within, slice_get-get_or, same_Some}
@@ -53,6 +53,7 @@ use Rattle.data_instructions.specs.Chains.{greatest, LiesWhole}
 use Rattle.data_instructions.specs.Naming.{NamesEntries}
 use Rattle.data_instructions.specs.Shapes.{empty, and_then, effect}
 use Rattle.data_instructions.proofs.Known.{and_then_some, parts}
+use Rattle.data_instructions.proofs.PartEntries.{part_in_order}
 use Rattle.file_image.specs.declared.file.CodeFile.{CodeFile}
 use Rattle.file_image.specs.Files as table
 use Rattle.file_image.specs.Files.{places_of, NamesPlaces, IsCodeFile}
@@ -81,7 +82,7 @@ use Rattle.codegen.proofs.Inspections.{AreSized}
 use Rattle.codegen.proofs.Codes.{left_none, right_none}
 use Rattle.codegen.proofs.NewBytes.{all_at}
 use Rattle.codegen.proofs.Fragments.{flat}
-use Rattle.codegen.proofs.Straight.{all_both, IsSent}
+use Rattle.codegen.proofs.Straight.{all_both, IsSent, IsPartOf}
 use Rattle.codegen.proofs.Leading.{all_weaker, more_counters, all_lead, both_lead, all_stay, Names}
 use Rattle.codegen.proofs.Ranges.{EndsWithin, procedures_end}
 use Rattle.codegen.proofs.Paragraphs.{IsSuitedAt, performed_append, starts_stay, start_at, starts_within, AreParagraphs}
@@ -185,6 +186,7 @@ named_by tables (i.Gather (g.TextUpToPlace text)) s after e =
     (parts tables (i.Gather (g.TextUpToPlace text)) s after e).0 in
     slice_get_within tables.texts text.number found.0 found.1
 named_by tables (i.Gather g.Sized) s after e = tt
+named_by tables (i.Part one) s after e = tt
 named_by tables (i.String pointer) s after e = tt
 named_by tables (i.Inspect inspection) s after e =
     let found = and_then_some (slice_get tables.inspections inspection.number) _ after.stacks
@@ -398,15 +400,15 @@ module _ (program : Program) (keep : program_rules program ≡ []) where
   is_flat = flat found program.sections storage
 
   met : (P : PerformedRange → Type 0) → AllByRecursion P (performed_by_program program)
-      → AreParagraphs files count P count storage body
+      → AreParagraphs items files count P count storage body
   met P q =
-      subst (AreParagraphs files count P count storage) (sym is_flat)
+      subst (AreParagraphs items files count P count storage) (sym is_flat)
       (paragraphs_lie found count P all_permitted formed_conditions items_sized within numbered (paragraphs program)
       storage
       (record { ends = refl; front = inl refl }) (omega arith) all_keep q)
 
   -- the names of its parts
-  names : Names storage body
+  names : Names items storage body
   names = (met (λ one. Unit {0}) (all_so (performed_by_program program))).names
 
   pub areas_are : code.tables.areas ≡ program_areas program
@@ -414,10 +416,9 @@ module _ (program : Program) (keep : program_rules program ≡ []) where
       append-nil (program_areas program ++ body.tables.areas) ∙ ap (λ l. program_areas program ++ l) names.areas
       ∙ append-nil (program_areas program)
 
-  items_are : code.tables.items ≡ storage_items items files
-  items_are =
-      append-nil (storage_items items files ++ body.tables.items) ∙ ap (λ l. storage_items items files ++ l) names.items
-      ∙ append-nil (storage_items items files)
+  -- those of the storage, and parts of items
+  items_are : code.tables.items ≡ storage_items items files ++ body.tables.items
+  items_are = append-nil (storage_items items files ++ body.tables.items)
 
   pub files_are : code.files ≡ code_files items program.selects files
   files_are =
@@ -435,12 +436,17 @@ module _ (program : Program) (keep : program_rules program ≡ []) where
   pub files_counted : length code.files ≡ length program.selects
   files_counted = ap length files_are ∙ codes_count items areas program.files 0 program.selects
 
+  -- an item of the storage stays where it is
+  storage_entry : (n : ℕ) (one : DataItem) → slice_get (storage_items items files) n ≡ Some one
+      → slice_get code.tables.items n ≡ Some one
+  storage_entry n one here =
+      ap (λ l. slice_get l n) items_are ∙ stays_at (storage_items items files) body.tables.items n one here
+
   pub item_entries : (n : ℕ) (one : LocatedItem) → slice_get items n ≡ Some one
       → slice_get code.tables.items n ≡ Some (data_item one)
   item_entries n one here =
-      ap (λ l. slice_get l n) items_are
-      ∙ stays_at (map data_item items) (map (sent_entry items) files) n (data_item one)
-      (map_at data_item items n one here)
+      storage_entry n (data_item one) (stays_at (map data_item items) (map (sent_entry items) files) n (data_item one)
+      (map_at data_item items n one here))
 
   item_lies : (n : ℕ) (one : LocatedItem) → slice_get items n ≡ Some one → reach.Lies code.tables.areas one
   item_lies n one here =
@@ -492,10 +498,10 @@ module _ (program : Program) (keep : program_rules program ≡ []) where
             ∙ places_are items areas program.files code.tables item_entries (0 + k) at.select named
             ∙ sym (ap (λ (f : ProgramFile). f.places) at.is);
         sent = ap (λ (n : ℕ). slice_get code.tables.items (length items + n)) (sym same)
-            ∙ ap (λ l. slice_get l (length items + k)) items_are
-            ∙ ap (λ (n : ℕ). slice_get (storage_items items files) (n + k)) (sym (length-map items data_item))
+            ∙ storage_entry (length items + k) (sent_entry items file)
+            (ap (λ (n : ℕ). slice_get (storage_items items files) (n + k)) (sym (length-map items data_item))
             ∙ behind_at (map data_item items) (map (sent_entry items) files) k (sent_entry items file)
-            (map_at (sent_entry items) files k file here);
+            (map_at (sent_entry items) files k file here));
       }
 
   -- The table of files has the entries of the program's files.
@@ -564,14 +570,29 @@ module _ (program : Program) (keep : program_rules program ≡ []) where
 
   -- ---- the tables
 
-  item_so : (k : ℕ) (one : DataItem) → slice_get code.tables.items k ≡ Some one → IsDataItem code.tables.areas one
-  item_so k one here =
+  storage_so : (k : ℕ) (one : DataItem) → slice_get (storage_items items files) k ≡ Some one
+      → IsDataItem code.tables.areas one
+  storage_so k one here =
       ⊎_elim (λ first. let from = mapped_from data_item items k one first in
       subst (IsDataItem code.tables.areas) from.2 (item_in_order k from.0 from.1))
       (λ last. let from = mapped_from (sent_entry items) files last.0 one last.1 in
       subst (IsDataItem code.tables.areas) from.2 (sent_in_order last.0 from.0 from.1))
-      (split_at (map data_item items) (map (sent_entry items) files) k one (sym (ap (λ l. slice_get l k) items_are)
-      ∙ here))
+      (split_at (map data_item items) (map (sent_entry items) files) k one here)
+
+  pub lies : (n : ℕ) (one : LocatedItem) → slice_get items n ≡ Some one → LiesWhole code.tables one
+  lies n one here = lies_whole code.tables one (item_lies n one here)
+
+  part_so : (one : DataItem) → IsPartOf items one → IsDataItem code.tables.areas one
+  part_so one of =
+      subst (IsDataItem code.tables.areas) (sym of.is)
+      (part_in_order code.tables of.found (Some of.part) (item_in_order of.number of.found of.here)
+      (lies of.number of.found of.here))
+
+  item_so : (k : ℕ) (one : DataItem) → slice_get code.tables.items k ≡ Some one → IsDataItem code.tables.areas one
+  item_so k one here =
+      ⊎_elim (λ first. storage_so k one first)
+      (λ last. part_so one (each_at (IsPartOf items) body.tables.items names.entries last.0 one last.1))
+      (split_at (storage_items items files) body.tables.items k one (sym (ap (λ l. slice_get l k) items_are) ∙ here))
 
   pub order : IsTables code.tables
   order = record {
@@ -584,9 +605,6 @@ module _ (program : Program) (keep : program_rules program ≡ []) where
         each_at IsInspection body.tables.inspections names.inspections k one
         (sym (ap (λ l. slice_get l k) inspections_are) ∙ here);
   }
-
-  pub lies : (n : ℕ) (one : LocatedItem) → slice_get items n ≡ Some one → LiesWhole code.tables one
-  lies n one here = lies_whole code.tables one (item_lies n one here)
 
   stands : Stands code storage paragraphs_code
   stands = subst (Stands code storage) is_flat (record { rest = end_fragment; is = refl })
@@ -606,7 +624,7 @@ module _ (program : Program) (keep : program_rules program ≡ []) where
     abbrev all_heights : List ℕ
     all_heights = ordered.0
 
-    lying : AreParagraphs files count (Decreases (rank_in all_heights)) count storage body
+    lying : AreParagraphs items files count (Decreases (rank_in all_heights)) count storage body
     lying = met (Decreases (rank_in all_heights))
         (recursion_from_All (Decreases (rank_in all_heights)) (performed_by_program program) ordered.1.fall)
 

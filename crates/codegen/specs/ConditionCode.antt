@@ -18,6 +18,7 @@ use Rattle.source_tree.specs.declared.condition.Condition.TheFolds.{fold-Conditi
 use Rattle.source_tree.specs.ArithmeticRules.{is_numeric_kind}
 use Rattle.source_tree.specs.Literals.{literal_sender}
 use Rattle.source_tree.specs.LookUp.{NamedCondition, all_conditions}
+use Rattle.source_tree.specs.Parts.{has_part}
 use Rattle.source_tree.specs.Places.{LocatedItem}
 use Rattle.source_tree.specs.Conditions.{sign_relation, alone_side}
 use Rattle.data_instructions.specs.declared.index.ItemIndex.{ItemIndex}
@@ -135,13 +136,14 @@ module _ (items : List LocatedItem) where
   abbrev pub pair_fragment : Operand → Relation → Operand → Fragment
   pair_fragment a one b = sequence (sender_fragment items a) (compared_fragment one b)
 
+  -- A part is no number.
   abbrev pub is_numeric_operand : Operand → Bool
-  is_numeric_operand (operand.Item one) = is_numeric_item (slice_get items (item_number items one.item))
+  is_numeric_operand (operand.Item one) = not (has_part one) && is_numeric_item (slice_get items (item_number items one.item))
   is_numeric_operand (operand.Literal one) = false
 
-  -- a literal, or an item without subscripts: no fault but that of bytes that are no number
+  -- a literal, or an item without subscripts and part: no fault but that of bytes that are no number
   abbrev pub is_operand_at_hand : Operand → Bool
-  is_operand_at_hand (operand.Item one) = is_single (slice_get items (item_number items one.item))
+  is_operand_at_hand (operand.Item one) = not (has_part one) && is_single (slice_get items (item_number items one.item))
   is_operand_at_hand (operand.Literal one) = true
 
   -- A numeric item is taken before the subscripts of the right operand: as a number beside a number, and beside anything else by a

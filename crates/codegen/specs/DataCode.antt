@@ -7,11 +7,13 @@ use Rattle.source_tree.specs.declared.reference.Adjustment.{Adjustment}
 use Rattle.source_tree.specs.declared.reference.Adjustment.TheVariants as adjustment
 use Rattle.source_tree.specs.declared.reference.Subscript as written
 use Rattle.source_tree.specs.declared.reference.Subscript.TheVariants as subscript
+use Rattle.source_tree.specs.declared.reference.Part.{Part}
 use Rattle.source_tree.specs.declared.reference.Reference.{Reference}
 use Rattle.source_tree.specs.declared.expression.Operand.{Operand}
 use Rattle.source_tree.specs.declared.expression.Operand.TheVariants as operand
 use Rattle.source_tree.specs.declared.table.Dimension.{Dimension}
 use Rattle.source_tree.specs.Display.{shown_literal, line_end}
+use Rattle.source_tree.specs.InspectLayout.{found_size}
 use Rattle.source_tree.specs.Integers.{number_of}
 use Rattle.source_tree.specs.Literals.{Sender, literal_sender}
 use Rattle.source_tree.specs.Places.{LocatedItem}
@@ -20,7 +22,11 @@ use Rattle.data_instructions.specs.declared.tables.LiteralSender.{LiteralSender}
 use Rattle.data_instructions.specs.declared.calculation.Calculation.TheVariants as c
 use Rattle.data_instructions.specs.declared.instruction.DataInstruction.{DataInstruction}
 use Rattle.data_instructions.specs.declared.instruction.DataInstruction.TheVariants as i
+use Rattle.data_instructions.specs.declared.part.Part as part
+use Rattle.data_instructions.specs.declared.part.Part.TheVariants as made
+use Rattle.data_instructions.specs.declared.tables.DataItem.{DataItem}
 use Rattle.data_instructions.specs.Codes.{integer, index_code}
+use Rattle.data_instructions.specs.PartForms.{PartForm, Whole, Settled, OfLength, Counted, Rest, part_form, part_entry}
 use Rattle.code_image.specs.declared.instruction.Instruction.TheVariants.{Data, Show, Accept, Date}
 use Rattle.name_table.specs.declared.look_up.LookUp.{LookUp}
 use Rattle.name_table.specs.declared.look_up.LookUp.TheVariants.{One}
@@ -95,6 +101,24 @@ abbrev pub line_end_fragment : Bool → Fragment
 line_end_fragment true before = text_fragment (line_end true) before
 line_end_fragment false before = empty_code
 
+-- The table of items has an entry for each part that a program names. The place of its item's first occurrence comes on the stack of
+-- places.
+abbrev pub entry_fragment : DataItem → Fragment
+entry_fragment entry before = record {
+  tables = record no_tables { items = entry ∷ [] };
+  files = [];
+  starts = [];
+  instructions = Data (i.Place (record { number = length before.tables.items })) ∷ [];
+}
+
+abbrev pub part_place_fragment : Option LocatedItem → Part → Fragment
+part_place_fragment None part before = empty_code
+part_place_fragment (Some found) part before = entry_fragment (part_entry found (Some part)) before
+
+-- a part in the place of the newest one
+abbrev pub part_fragment : part.Part → Fragment
+part_fragment one = work_fragment (i.Part one)
+
 -- the line is shown
 abbrev pub show_fragment : Fragment
 show_fragment before = plain_code (Show ∷ [])
@@ -113,10 +137,32 @@ module _ (items : List LocatedItem) where
   subscripts_fragment (one ∷ more) (written ∷ others) before =
       sequence (sequence (subscript_fragment written) (work_fragment (index_code one))) (subscripts_fragment more others) before
 
-  -- the place of a reference, on the stack of places
+  -- the place of an item that a reference names, or of its part
+  abbrev pub place_fragment : Option LocatedItem → Reference → Option Part → Fragment
+  place_fragment found one None = work_fragment (i.Place (item_index items one.item))
+  place_fragment found one (Some part) = part_place_fragment found part
+
+  -- a part of unknown length, after the number of its first place
+  abbrev pub unknown_fragment : Option written.Subscript → Fragment
+  unknown_fragment None = part_fragment made.Rest
+  unknown_fragment (Some length) = sequence (subscript_fragment length) (part_fragment made.Counted)
+
+  -- the part that comes in the newest place, whose item has so many bytes
+  abbrev pub making_fragment : ℕ → PartForm → Fragment
+  making_fragment size Whole before = empty_code
+  making_fragment size (Settled bytes) before = empty_code
+  making_fragment size (OfLength first) before = sequence (subscript_fragment first) (part_fragment (made.Fixed size)) before
+  making_fragment size (Counted first length) before = sequence (subscript_fragment first) (unknown_fragment (Some length)) before
+  making_fragment size (Rest first) before = sequence (subscript_fragment first) (unknown_fragment None) before
+
+  -- the place of a reference to an item, on the stack of places
+  abbrev pub referred_fragment : Option LocatedItem → Reference → Fragment
+  referred_fragment found one =
+      sequence (place_fragment found one one.part)
+      (sequence (subscripts_fragment (dimensions_of found) one.subscripts) (making_fragment (found_size found) (part_form (found_size found) one.part)))
+
   abbrev pub reference_fragment : Reference → Fragment
-  reference_fragment one =
-      sequence (work_fragment (i.Place (item_index items one.item))) (subscripts_fragment (dimensions_of (slice_get items (item_number items one.item))) one.subscripts)
+  reference_fragment one = referred_fragment (slice_get items (item_number items one.item)) one
 
   -- a reference, and an instruction that takes its place
   abbrev pub take_fragment : DataInstruction → Reference → Fragment

@@ -1,6 +1,7 @@
 pub mod Fragments
 pub mod Meeting
 pub mod DataCode
+pub mod ItemParts
 pub mod ArithmeticCode
 pub mod ConditionCode
 pub mod PatternCode

@@ -3,6 +3,7 @@ use Rattle.std.specs.Prelude.{ℕ, List, [], ◌∷◌, length, map, Option, Som
 use Rattle.source_tree.specs.declared.reference.Reference.{Reference}
 use Rattle.source_tree.specs.Initializing.{Pattern, named_pattern, set_pattern}
 use Rattle.source_tree.specs.LookUp.{NamedCondition, all_conditions}
+use Rattle.source_tree.specs.Parts.{seen_through}
 use Rattle.source_tree.specs.Places.{LocatedItem}
 use Rattle.data_instructions.specs.declared.instruction.DataInstruction.TheVariants as i
 use Rattle.data_instructions.specs.TextCodes.{new_byte, new_mark}
@@ -23,10 +24,10 @@ overlay_fragment bytes marks before = record {
 abbrev pub pattern_fragment : Pattern → Fragment
 pattern_fragment pattern = overlay_fragment (map new_byte pattern) (map new_mark pattern)
 
--- what INITIALIZE puts into an item
-abbrev pub pattern_of : Option LocatedItem → Pattern
-pattern_of None = []
-pattern_of (Some one) = named_pattern one
+-- what INITIALIZE puts into an item, or into its part
+abbrev pub pattern_of : Reference → Option LocatedItem → Pattern
+pattern_of one None = []
+pattern_of one (Some found) = named_pattern (seen_through one found)
 
 -- what SET puts into the item of a condition name
 abbrev pub set_of : Option NamedCondition → Pattern
@@ -36,7 +37,7 @@ set_of (Some found) = set_pattern found
 -- `items` are those of the table of items, in order.
 module _ (items : List LocatedItem) where
   abbrev pub initialize_fragment : Reference → Fragment
-  initialize_fragment one = sequence (reference_fragment items one) (pattern_fragment (pattern_of (slice_get items (item_number items one.item))))
+  initialize_fragment one = sequence (reference_fragment items one) (pattern_fragment (pattern_of one (slice_get items (item_number items one.item))))
 
   -- INITIALIZE, behind its `tick`
   abbrev pub initializes_fragment : List Reference → Fragment

@@ -4,9 +4,9 @@ use Rattle.source_tree.specs.declared.reference.Reference.{Reference}
 use Rattle.source_tree.specs.declared.expression.Operand.{Operand}
 use Rattle.source_tree.specs.declared.expression.Operand.TheVariants as operand
 use Rattle.source_tree.specs.declared.string_statement.Sending.{Sending}
-use Rattle.source_tree.specs.Broken.{RuleBreach, each}
+use Rattle.source_tree.specs.Broken.{RuleBreach}
 use Rattle.source_tree.specs.Display.{shown_literal}
-use Rattle.source_tree.specs.NameRules.{subscript_rules}
+use Rattle.source_tree.specs.NameRules.{number_rules_of}
 use Rattle.source_tree.specs.Places.{LocatedItem}
 use Rattle.source_tree.specs.Stringing.{sent_of}
 use Rattle.data_instructions.specs.declared.gather.Gather.TheVariants as g
@@ -72,10 +72,10 @@ module _ (items : List LocatedItem) where
   abbrev pub sendings_fragment : List Sending → Fragment
   sendings_fragment = in_order sender_fragment
 
-  -- the rules of the subscripts of a pointer
-  abbrev pub pointer_subscripts : Option Reference → List RuleBreach
-  pointer_subscripts None = []
-  pointer_subscripts (Some pointer) = each (subscript_rules items) pointer.subscripts
+  -- the rules of the numbers behind the name of a pointer
+  abbrev pub pointer_numbers : Option Reference → List RuleBreach
+  pointer_numbers None = []
+  pointer_numbers (Some pointer) = number_rules_of items pointer
 
   -- the pointer's place, if there is one, and what puts the text
   abbrev pub put_fragment : Option Reference → Fragment

@@ -12,7 +12,6 @@ use Rattle.source_tree.specs.declared.evaluate_statement.When.{When}
 use Rattle.source_tree.specs.declared.evaluate_statement.Selected.{Selected}
 use Rattle.source_tree.specs.Conditions.{alone_side}
 use Rattle.source_tree.specs.Evaluate.{ObjectValues, ResolvedOperand, Value, Truth, Asking, resolved_subject}
-use Rattle.source_tree.specs.LookUp.{first}
 use Rattle.source_tree.specs.Places.{LocatedItem}
 use Rattle.declarations.specs.Resolved.{optional_choice}
 use Rattle.codegen.specs.Fragments.{Fragment, in_order}

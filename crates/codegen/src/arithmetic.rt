@@ -2,7 +2,7 @@
 
 ghost use Rattle.std.specs.Prelude.{◌≡◌, [], ◌∷◌, ◌++◌, OnOk};
 ghost use Rattle.source_tree.specs.Broken.{each};
-ghost use Rattle.source_tree.specs.NameRules.{subscript_rules, reference_rules};
+ghost use Rattle.source_tree.specs.NameRules.{number_rules_of, reference_rules};
 ghost use Rattle.source_tree.specs.ArithmeticRules.{number_receiver, number_rules, updated_rules, given_rules, operation_rules};
 ghost use Rattle.data_instructions.specs.ArithmeticCodes as codes;
 ghost use Rattle.data_instructions.specs.declared.calculation.Calculation.TheVariants as c;
@@ -63,8 +63,7 @@ impl<'a> Emitter<'a> {
         item: &Reference,
     ) -> Result<(), AllocError>
         requires declared { IsDeclared self.now.declarations.now }
-        requires rules { each (subscript_rules (items_in self.now.declarations.now))
-            item.now.subscripts ≡ [] }
+        requires rules { number_rules_of (items_in self.now.declarations.now) item.now ≡ [] }
         ensures { OnOk result
             (code.new ≡ append code.old (spec.store_fragment (items_in self.now.declarations.now)
             keep (record { item = item.now; rounded = rounded }) code.old)) }
@@ -82,8 +81,7 @@ impl<'a> Emitter<'a> {
         item: &Reference,
     ) -> Result<(), AllocError>
         requires declared { IsDeclared self.now.declarations.now }
-        requires rules { each (subscript_rules (items_in self.now.declarations.now))
-            item.now.subscripts ≡ [] }
+        requires rules { number_rules_of (items_in self.now.declarations.now) item.now ≡ [] }
         ensures { OnOk result
             (code.new ≡ append code.old (spec.update_fragment (items_in self.now.declarations.now)
             keep operator (record { item = item.now; rounded = rounded }) code.old)) }
@@ -131,8 +129,7 @@ impl<'a> Emitter<'a> {
     /// A receiver becomes the newest number, which stays.
     fn emit_give(&self, code: &mut Code, keep: bool, one: &Receiver) -> Result<(), AllocError>
         requires declared { IsDeclared self.now.declarations.now }
-        requires rules { each (subscript_rules (items_in self.now.declarations.now))
-            one.now.item.subscripts ≡ [] }
+        requires rules { number_rules_of (items_in self.now.declarations.now) one.now.item ≡ [] }
         ensures { OnOk result (code.new ≡ append code.old
             (spec.give_fragment (items_in self.now.declarations.now) keep one.now code.old)) }
     {

@@ -231,7 +231,7 @@ impl<'a> Emitter<'a> {
         self.emit_pair_compared(code, one, Relation::Equal, Alone::Literal(&zero))
     }
 
-    /// An operand alone is a numeric item.
+    /// An operand alone is a numeric item, and no part of one.
     pub(crate) fn is_numeric_operand(&self, one: Alone<'_>) -> bool
         requires { IsDeclared self.now.declarations.now }
         ensures { result
@@ -246,12 +246,14 @@ impl<'a> Emitter<'a> {
             .items
             .get(self.item_number(&reference.item))
         {
-            Some(found) => matches!(found.item.kind, Kind::Numeric(_)),
+            Some(found) => {
+                reference.part.is_none() && matches!(found.item.kind, Kind::Numeric(_))
+            }
             None => false,
         }
     }
 
-    /// An operand alone is a literal, or an item without subscripts.
+    /// An operand alone is a literal, or an item without subscripts and part.
     pub(crate) fn is_operand_at_hand(&self, one: Alone<'_>) -> bool
         requires { IsDeclared self.now.declarations.now }
         ensures { result
@@ -266,7 +268,7 @@ impl<'a> Emitter<'a> {
             .items
             .get(self.item_number(&reference.item))
         {
-            Some(found) => found.dimensions.as_slice().is_empty(),
+            Some(found) => reference.part.is_none() && found.dimensions.as_slice().is_empty(),
             None => false,
         }
     }

@@ -65,13 +65,12 @@ impl<'a> Emitter<'a> {
         Ok(ItemIndex { number })
     }
 
-    /// The length of the item that a name names.
-    pub(crate) fn length_of(&self, name: &QualifiedName) -> u32
+    /// The length of the item of that number.
+    pub(crate) fn length_at(&self, number: usize) -> u32
         requires { IsDeclared self.now.declarations.now }
-        ensures { result ≡ found_size (slice_get (items_in self.now.declarations.now)
-            (spec.item_number (items_in self.now.declarations.now) name.now)) }
+        ensures { result ≡ found_size (slice_get (items_in self.now.declarations.now) number) }
     {
-        match self.declarations.layout.items.get(self.item_number(name)) {
+        match self.declarations.layout.items.get(number) {
             Some(found) => found.item.length,
             None => 0,
         }
@@ -87,15 +86,6 @@ impl<'a> Emitter<'a> {
             Some(found) => found.dimensions.as_slice(),
             None => &[],
         }
-    }
-
-    /// The dimensions of the item that a name names.
-    pub(crate) fn dimensions(&self, name: &QualifiedName) -> &[Dimension]
-        requires { IsDeclared self.now.declarations.now }
-        ensures { result.now ≡ spec.dimensions_of (slice_get (items_in self.now.declarations.now)
-            (spec.item_number (items_in self.now.declarations.now) name.now)) }
-    {
-        self.dimensions_at(self.item_number(name))
     }
 
     /// The decimals that the item that a name names keeps of a number.

@@ -38,7 +38,7 @@ impl<'a> Emitter<'a> {
         self.emit_taking(code, DataInstruction::Gather(Gather::Sized), one)?;
         Ok(Span {
             start: at,
-            length: self.length_of(&one.item),
+            length: self.length_shown(one),
         })
     }
 

@@ -17,6 +17,7 @@ mod file_table;
 mod file_verbs;
 mod initialize_statement;
 mod inspect_statement;
+mod item_part;
 mod move_statement;
 mod number;
 mod overlays;

@@ -4,7 +4,7 @@ ghost use Rattle.std.specs.Prelude.{◌≡◌, ◌++◌, [], ◌∷◌, length, 
 ghost use Rattle.source_tree.specs.declared.reference.Reference.{Reference};
 ghost use Rattle.source_tree.specs.Broken.{each};
 ghost use Rattle.source_tree.specs.Literals.{literal_sender};
-ghost use Rattle.source_tree.specs.NameRules.{operand_rules, subscript_rules};
+ghost use Rattle.source_tree.specs.NameRules.{operand_rules, number_rules_of};
 ghost use Rattle.source_tree.specs.MoveRules.{move_rules};
 ghost use Rattle.source_tree.specs.ValueRules.{has_form};
 ghost use Rattle.declarations.specs.Named.{IsDeclared, items_in};
@@ -14,8 +14,8 @@ ghost use Rattle.codegen.specs.DataCode as spec;
 use crate::emitter::{Emitter, entry_number};
 use crate::references::emit_work;
 use code_image::Code;
+use data_entries::Sender;
 use data_instructions::{DataInstruction, LiteralSender, SenderIndex};
-use literals::Sender;
 use source_tree::{LiteralValue, Operand, Reference};
 use std::alloc::{AllocError, Global};
 
@@ -74,8 +74,7 @@ impl<'a> Emitter<'a> {
         all: &[Reference],
     ) -> Result<(), AllocError>
         requires declared { IsDeclared self.now.declarations.now }
-        requires rules { each (λ (one : Reference). each
-            (subscript_rules (items_in self.now.declarations.now)) one.subscripts) all.now ≡ [] }
+        requires rules { each (number_rules_of (items_in self.now.declarations.now)) all.now ≡ [] }
         ensures { OnOk result (code.new ≡ append code.old
             (spec.receivers_fragment (items_in self.now.declarations.now) all.now code.old)) }
     {

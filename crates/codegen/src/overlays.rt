@@ -1,6 +1,7 @@
 //! What INITIALIZE and SET put into items (COBOL-85, Nucleus, "The INITIALIZE statement", "The SET statement").
 
 ghost use Rattle.std.specs.Prelude.{◌≡◌, [], map, replicate, slice_get, IfOk};
+ghost use Rattle.items.specs.Texts.{space};
 ghost use Rattle.source_tree.specs.EntryRules.{entry_rules};
 ghost use Rattle.source_tree.specs.Initializing.{first_value};
 ghost use Rattle.source_tree.specs.LookUp.{all_conditions};
@@ -46,6 +47,17 @@ fn all_marked(alloc: Global, count: usize) -> Result<Items<u8>, AllocError>
     Ok(Items::from_vec(vec![in alloc; 1; count]?))
 }
 
+/// So many spaces.
+fn spaces(alloc: Global, count: u32) -> Result<Overlay, AllocError>
+    ensures bytes { IfOk result (λ made. made.bytes ≡ replicate count space) }
+    ensures marks { IfOk result (λ made. made.marks ≡ replicate count 1) }
+{
+    Ok(Overlay {
+        bytes: Items::from_vec(vec![in alloc; b' '; count as usize]?),
+        marks: all_marked(alloc, count as usize)?,
+    })
+}
+
 /// What an item holds by the first of these values, each byte of it.
 fn first_overlay(alloc: Global, item: Item, values: &[ValueRange]) -> Result<Overlay, AllocError>
     requires kind { HasKind item }
@@ -64,19 +76,22 @@ fn first_overlay(alloc: Global, item: Item, values: &[ValueRange]) -> Result<Ove
 }
 
 impl<'a> Emitter<'a> {
-    /// What INITIALIZE puts into the item of a reference.
+    /// What INITIALIZE puts into the item of a reference, or into its part.
     pub(crate) fn initial_overlay(&self, one: &Reference) -> Result<Overlay, AllocError>
         requires declared { IsDeclared self.now.declarations.now }
         requires entries { entry_rules self.now.declarations.now.storage.now ≡ [] }
         requires rules { reference_rules (items_in self.now.declarations.now) any_item one.now
             ≡ [] }
         ensures bytes { IfOk result (λ made. made.bytes
-            ≡ map new_byte (spec.pattern_of (slice_get (items_in self.now.declarations.now)
+            ≡ map new_byte (spec.pattern_of one.now (slice_get (items_in self.now.declarations.now)
             (item_number (items_in self.now.declarations.now) one.now.item)))) }
         ensures marks { IfOk result (λ made. made.marks
-            ≡ map new_mark (spec.pattern_of (slice_get (items_in self.now.declarations.now)
+            ≡ map new_mark (spec.pattern_of one.now (slice_get (items_in self.now.declarations.now)
             (item_number (items_in self.now.declarations.now) one.now.item)))) }
     {
+        if one.part.is_some() {
+            return spaces(self.alloc, self.length_shown(one));
+        }
         let number = self.item_number(&one.item);
         let NewBytes { bytes, marks } = initialized_item(
             self.alloc,

@@ -3,7 +3,7 @@
 ghost use Rattle.std.specs.Prelude.{◌≡◌, [], pos, OnOk, slice_get};
 ghost use Rattle.source_tree.specs.Broken.{each};
 ghost use Rattle.source_tree.specs.Integers as written;
-ghost use Rattle.source_tree.specs.NameRules.{integer_rules, adjustment_rules, subscript_rules};
+ghost use Rattle.source_tree.specs.NameRules.{integer_rules, adjustment_rules, subscript_rules, number_rules_of};
 ghost use Rattle.data_instructions.specs.Codes.{integer, index_code};
 ghost use Rattle.declarations.specs.Named.{IsDeclared, items_in};
 ghost use Rattle.codegen.specs.Fragments.{append, sequence};
@@ -95,7 +95,7 @@ fn emit_range(code: &mut Code, one: Dimension) -> Result<(), AllocError>
 
 impl<'a> Emitter<'a> {
     /// The number of a subscript, on the stack of numbers.
-    fn emit_subscript(&self, code: &mut Code, one: &Subscript) -> Result<(), AllocError>
+    pub(crate) fn emit_subscript(&self, code: &mut Code, one: &Subscript) -> Result<(), AllocError>
         requires declared { IsDeclared self.now.declarations.now }
         requires rules { subscript_rules (items_in self.now.declarations.now) one.now ≡ [] }
         ensures { OnOk result (code.new ≡ append code.old
@@ -154,15 +154,15 @@ impl<'a> Emitter<'a> {
     /// The place of a reference, on the stack of places.
     pub(crate) fn emit_reference(&self, code: &mut Code, one: &Reference) -> Result<(), AllocError>
         requires declared { IsDeclared self.now.declarations.now }
-        requires rules { each (subscript_rules (items_in self.now.declarations.now))
-            one.now.subscripts ≡ [] }
+        requires rules { number_rules_of (items_in self.now.declarations.now) one.now ≡ [] }
         ensures { OnOk result (code.new ≡ append code.old
             (spec.reference_fragment (items_in self.now.declarations.now) one.now code.old)) }
     {
-        let item = self.item_index(&one.item)?;
-        emit_work(code, DataInstruction::Place { item })?;
-        let dimensions = self.dimensions(&one.item);
-        self.emit_subscripts(code, dimensions, one.subscripts.as_slice())
+        let number = self.item_number(&one.item);
+        self.emit_place(code, number, one)?;
+        let dimensions = self.dimensions_at(number);
+        self.emit_subscripts(code, dimensions, one.subscripts.as_slice())?;
+        self.emit_making(code, self.length_at(number), &one.part)
     }
 
     /// A reference, and an instruction that takes its place.
@@ -173,8 +173,7 @@ impl<'a> Emitter<'a> {
         one: &Reference,
     ) -> Result<(), AllocError>
         requires declared { IsDeclared self.now.declarations.now }
-        requires rules { each (subscript_rules (items_in self.now.declarations.now))
-            one.now.subscripts ≡ [] }
+        requires rules { number_rules_of (items_in self.now.declarations.now) one.now ≡ [] }
         ensures { OnOk result (code.new ≡ append code.old
             (spec.take_fragment (items_in self.now.declarations.now) taking one.now code.old)) }
     {

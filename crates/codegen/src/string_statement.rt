@@ -3,7 +3,7 @@
 ghost use Rattle.std.specs.Prelude.{◌≡◌, [], Some, None, OnOk};
 ghost use Rattle.source_tree.specs.Broken.{each};
 ghost use Rattle.source_tree.specs.EntryRules.{entry_rules};
-ghost use Rattle.source_tree.specs.NameRules.{subscript_rules};
+ghost use Rattle.source_tree.specs.NameRules.{number_rules_of};
 ghost use Rattle.source_tree.specs.Rules as rules;
 ghost use Rattle.source_tree.specs.Rules.{all_permitted};
 ghost use Rattle.source_tree.specs.StringRules.{sent_rules, delimiter_rules, sending_rules, string_rules};
@@ -160,8 +160,8 @@ impl<'a> Emitter<'a> {
     ) -> Result<(), AllocError>
         requires declared { IsDeclared self.now.declarations.now }
         requires senders { each (sent_rules (items_in self.now.declarations.now)) all.now ≡ [] }
-        requires delimiter { each (subscript_rules (items_in self.now.declarations.now))
-            delimiter.now.subscripts ≡ [] }
+        requires delimiter { number_rules_of (items_in self.now.declarations.now) delimiter.now
+            ≡ [] }
         ensures { OnOk result (code.new ≡ append code.old (spec.delimited_fragment
             (items_in self.now.declarations.now) all.now delimiter.now code.old)) }
     {
@@ -226,7 +226,7 @@ impl<'a> Emitter<'a> {
     /// The pointer's place, if there is one, and what puts the text.
     fn emit_put(&self, code: &mut Code, pointer: &Option<Reference>) -> Result<(), AllocError>
         requires declared { IsDeclared self.now.declarations.now }
-        requires rules { spec.pointer_subscripts (items_in self.now.declarations.now) pointer.now
+        requires rules { spec.pointer_numbers (items_in self.now.declarations.now) pointer.now
             ≡ [] }
         ensures { OnOk result (code.new ≡ append code.old
             (spec.put_fragment (items_in self.now.declarations.now) pointer.now code.old)) }
@@ -250,9 +250,8 @@ impl<'a> Emitter<'a> {
         requires declared { IsDeclared self.now.declarations.now }
         requires sendings { each (sending_rules (items_in self.now.declarations.now)) sendings.now
             ≡ [] }
-        requires receiver { each (subscript_rules (items_in self.now.declarations.now))
-            receiver.now.subscripts ≡ [] }
-        requires pointer { spec.pointer_subscripts (items_in self.now.declarations.now) pointer.now
+        requires receiver { number_rules_of (items_in self.now.declarations.now) receiver.now ≡ [] }
+        requires pointer { spec.pointer_numbers (items_in self.now.declarations.now) pointer.now
             ≡ [] }
         ensures { OnOk result (code.new ≡ append code.old (spec.string_fragment
             (items_in self.now.declarations.now) sendings.now receiver.now pointer.now code.old)) }

@@ -54,6 +54,7 @@ abbrev item : ℕ → Reference
 item letter = record {
   item = record { name = record { characters = letter ∷ []; place = here }; qualifiers = [] };
   subscripts = [];
+  part = None;
 }
 
 abbrev name : ℕ → Condition
@@ -69,7 +70,9 @@ equal = at (k.Operator operator.Equal)
 unfoldable computing : Unit {0}
 unfolding same_word read.after_word read.past_word read.expect read.skip read.presence_reader read.one_token read.name
     read.several_from read.several read.any s.qualifier_reader s.qualified_reader s.integer_reader s.subscript_reader
-    r.subscripts_reader r.enclosed_subscripts_reader r.reference_reader o.item_reader o.number_literal_reader
+    r.some_length_reader r.length_reader r.part_from_reader r.some_part_reader r.part_behind_reader r.item_part_reader
+    r.subscripted_reader r.after_number_reader r.enclosed_numbers_reader r.after_name_reader r.reference_reader
+    o.item_reader o.number_literal_reader
     o.number_operand_reader l.literal_reader l.all_literal_reader e.further_operand_reader e.level_reader
     e.product_reader e.sum_reader e.plain_reader e.signed_reader e.enclosed_reader e.nested_reader e.factor_reader
     e.expression_reader looking.past_closing t.or_equal_phrase_reader t.or_equal_reader t.order_reader t.equal_reader

@@ -2,10 +2,8 @@
 pub mod Optional
 pub mod Words
 pub mod Clauses
-pub mod Gathering
 pub mod Stated
 pub mod Entries
-pub mod Listed
 pub mod FileClauses
 pub mod Files
 pub mod Division

@@ -20,13 +20,14 @@ use Rattle.source_tree.specs.declared.entry.SignPosition.TheVariants as position
 use Rattle.source_tree.specs.declared.entry.ItemEntry.{ItemEntry}
 use Rattle.source_tree.specs.declared.entry.Entry.TheVariants as entry_as
 use Rattle.grammar.specs.declared.fault.Halt.TheVariants.{Unexpected}
+use Rattle.grammar.specs.OptionalWords as optional
 use Rattle.grammar.specs.Reading as read
 use Rattle.expressions.specs.Subscripts as subscripts
 use Rattle.expressions.specs.Literals as literals
 use Rattle.data_division.specs.declared.clause.Clause.TheVariants as clause_as
 use Rattle.data_division.specs.ClauseReading as c
-use Rattle.data_division.specs.Gathering as gathering
-use Rattle.data_division.specs.Gathering.{gathered_clauses}
+use Rattle.grammar.specs.Gathering as gathering
+use Rattle.grammar.specs.Gathering.{gathered_clauses}
 use Rattle.data_division.specs.Stated as stated
 use Rattle.data_division.specs.Stated.{no_clauses, entry_clauses}
 use Rattle.data_division.specs.EntryReading as r
@@ -95,7 +96,7 @@ unfoldable computing : Unit {0}
 unfolding same_word read.after_word read.past_word read.expect
     read.skip read.presence_reader read.period read.heading_reader read.here read.one_token read.name read.several_from
     read.several read.any subscripts.integer_reader literals.literal_reader literals.all_literal_reader c.either_reader
-    c.skip_either c.skip_led c.after_separate c.redefines_reader c.picture_reader c.usage_reader c.sign_reader
+    c.skip_either optional.skip_led c.after_separate c.redefines_reader c.picture_reader c.usage_reader c.sign_reader
     c.occurs_reader c.synchronized_reader c.justified_reader c.blank_when_zero_reader c.value_reader c.clause_reader
     gathering.gathering_turns gathering.gathering_reader stated.stated_reader r.given_reader r.filler_reader
     r.named_reader r.item_reader r.through_literal_reader r.last_value_reader r.range_reader r.condition_reader

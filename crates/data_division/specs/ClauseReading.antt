@@ -1,9 +1,10 @@
 -- Reading clauses, as functions on lists of tokens.
-use Rattle.std.specs.Prelude.{if◌then◌else◌, Ok}
+use Rattle.std.specs.Prelude.{if◌then◌else◌}
 use Rattle.std.specs.Option.{option_map}
 use Rattle.tokens.specs.declared.reserved.Reserved.{Reserved}
 use Rattle.tokens.specs.declared.reserved.Reserved.TheVariants as w
 use Rattle.grammar.specs.Reading.{Parser, Words, ◌>>=◌, ◌>>◌, pure, begins_word, after_word, past_word, expect, skip, presence_reader, one_token, name}
+use Rattle.grammar.specs.OptionalWords.{skip_led}
 use Rattle.expressions.specs.Subscripts.{integer_reader}
 use Rattle.expressions.specs.Literals.{literal_reader}
 use Rattle.data_division.specs.Words.{usage_in, position_in}
@@ -20,10 +21,6 @@ either_reader one other i = if begins_word one i then expect one i else expect o
 -- one of two words, or neither
 unfoldable pub skip_either : Reserved → Reserved → Parser (Unit {0})
 skip_either one other i = if begins_word one i then expect one i else skip other i
-
--- a word with IS, or neither
-unfoldable pub skip_led : Reserved → Parser (Unit {0})
-skip_led one i = if begins_word one i then (expect one >> skip w.Is) i else Ok (tt, i)
 
 unfoldable pub after_separate : Words
 after_separate i = option_map (past_word w.Character) (after_word w.Separate i)

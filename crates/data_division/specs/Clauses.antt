@@ -13,6 +13,7 @@ use Rattle.source_tree.specs.declared.entry.PictureText.{PictureText}
 use Rattle.source_tree.specs.declared.entry.UsageClause.{UsageClause}
 use Rattle.source_tree.specs.declared.entry.SignClause.{SignClause}
 use Rattle.grammar.specs.Parts.{Part, ◌then◌, ◌or◌, optional, optional_part, word, token_with, name}
+use Rattle.grammar.specs.OptionalWords.{led_by}
 use Rattle.expressions.specs.Subscripts.{integer}
 use Rattle.expressions.specs.Literals.{literal}
 use Rattle.data_division.specs.Words.{usage_in, position_in}
@@ -22,10 +23,6 @@ use Rattle.data_division.specs.declared.clause.Clause.TheVariants as clause_as
 -- {one|other}
 abbrev pub either : Reserved → Reserved → Part
 either one other = word one or word other
-
--- a word that may stand before what it names, with IS: [one [IS]]
-abbrev pub led_by : Reserved → Part
-led_by one = optional (word one then optional (word w.Is))
 
 -- REDEFINES n
 abbrev pub redefines : Name → Part

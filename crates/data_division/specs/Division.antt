@@ -7,7 +7,7 @@ use Rattle.grammar.specs.Reading as r
 use Rattle.grammar.specs.Reading.{Parser, ◌>>=◌, ◌>>◌, pure, begins_word}
 use Rattle.expressions.specs.Subscripts.{begins_integer}
 use Rattle.data_division.specs.declared.division.DataDivision.{DataDivision}
-use Rattle.data_division.specs.Listed.{listed_from, list_from}
+use Rattle.grammar.specs.Listed.{listed_from, list_from}
 use Rattle.data_division.specs.Entries.{entry}
 use Rattle.data_division.specs.EntryReading.{entry_reader}
 use Rattle.data_division.specs.Files.{file_section, file_section_reader}

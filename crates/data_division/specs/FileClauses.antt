@@ -13,10 +13,10 @@ use Rattle.expressions.specs.Subscripts.{integer, integer_reader}
 use Rattle.data_division.specs.declared.file_clauses.FileClause.{FileClause}
 use Rattle.data_division.specs.declared.file_clauses.FileClause.TheVariants as clause_as
 use Rattle.data_division.specs.declared.file_clauses.FileClauses.{FileClauses}
-use Rattle.data_division.specs.Listed.{◌unless_no◌, unless_none}
+use Rattle.grammar.specs.Listed.{◌unless_no◌, unless_none}
 use Rattle.data_division.specs.Clauses.{either}
 use Rattle.data_division.specs.ClauseReading.{either_reader, skip_either}
-use Rattle.data_division.specs.Gathering.{Clauses}
+use Rattle.grammar.specs.Gathering.{Clauses}
 
 -- ---- the rules
 

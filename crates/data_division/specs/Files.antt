@@ -8,8 +8,8 @@ use Rattle.grammar.specs.Parts.{Part, ◌then◌, some_of, several, lookahead, w
 use Rattle.grammar.specs.Reading as r
 use Rattle.grammar.specs.Reading.{Parser, ◌>>=◌, ◌>>◌, pure, begins_word, expect}
 use Rattle.expressions.specs.Subscripts.{begins_integer}
-use Rattle.data_division.specs.Gathering.{clauses_from, gathering_reader}
-use Rattle.data_division.specs.Listed.{listed_from, list_from}
+use Rattle.grammar.specs.Gathering.{clauses_from, gathering_reader}
+use Rattle.grammar.specs.Listed.{listed_from, list_from}
 use Rattle.data_division.specs.FileClauses.{file_clauses, no_file_clauses, file_clause_reader}
 use Rattle.data_division.specs.Entries.{entry}
 use Rattle.data_division.specs.EntryReading.{entry_reader}

@@ -1,11 +1,9 @@
 pub mod Words
 pub mod Clauses
 pub mod ClauseReading
-pub mod Gathering
 pub mod Stated
 pub mod Entries
 pub mod EntryReading
-pub mod Listed
 pub mod FileClauses
 pub mod Files
 pub mod Division

@@ -8,7 +8,7 @@ use Rattle.data_division.specs.declared.clause.Clause.{Clause}
 use Rattle.data_division.specs.declared.clause.Clause.TheVariants as clause_as
 use Rattle.data_division.specs.declared.stated.Stated.{Stated}
 use Rattle.data_division.specs.Words.{clause_at}
-use Rattle.data_division.specs.Gathering.{Clauses, clauses_from, gathering_reader}
+use Rattle.grammar.specs.Gathering.{Clauses, clauses_from, gathering_reader}
 use Rattle.data_division.specs.Clauses.{clause}
 use Rattle.data_division.specs.ClauseReading.{clause_reader}
 

@@ -8,10 +8,10 @@ ghost use Rattle.data_division.specs.Clauses as rule;
 ghost use Rattle.data_division.specs.ClauseReading as spec;
 
 use crate::clause::{Clause, ClauseKind};
-use crate::optional::{either, skip_either, skip_led, take_separate};
+use crate::optional::{either, skip_either, take_separate};
 use crate::words::{position_of, usage_of};
 use expressions::{integer, literal};
-use grammar::{ReadFault, Tokens, name};
+use grammar::{ReadFault, Tokens, name, skip_led};
 use source_tree::{PictureText, SignClause, SignPosition, UsageClause};
 use sqlite_items::Items;
 use std::alloc::Global;

@@ -3,7 +3,7 @@
 ghost use Rattle.std.specs.Prelude.{◌≡◌};
 ghost use Rattle.grammar.specs.Reading.{Reads};
 ghost use Rattle.data_division.specs.FileClauses as spec;
-ghost use Rattle.data_division.specs.Gathering.{gathering_reader};
+ghost use Rattle.grammar.specs.Gathering.{gathering_reader};
 
 use crate::optional::{either, skip_either};
 use expressions::integer;
@@ -182,7 +182,7 @@ fn file_clause(
 }
 
 /// Passes clauses up to where no more can begin. One that comes a second time is refused where it stands.
-#[tactic(auto, unfolding(crate::specs::Gathering::gathering_reader, crate::specs::Gathering::gathering_turns))]
+#[tactic(auto, unfolding(grammar::specs::Gathering::gathering_reader, grammar::specs::Gathering::gathering_turns))]
 pub fn file_clauses(alloc: Global, tokens: &mut Tokens<'_>) -> Result<FileClauses, ReadFault>
     ensures { Reads (gathering_reader spec.file_clauses spec.file_clause_reader spec.no_file_clauses
         tokens.old) result tokens.new }

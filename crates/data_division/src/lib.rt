@@ -20,4 +20,3 @@ mod words;
 pub use division::{DataDivision, data_division};
 pub use forms::first_formless;
 pub use laws::{clauses_law, data_division_law, entry_law};
-pub use optional::{either, skip_either, skip_led};

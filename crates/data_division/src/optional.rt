@@ -34,18 +34,6 @@ pub fn skip_either(tokens: &mut Tokens<'_>, one: Reserved, other: Reserved) -> R
     Ok(())
 }
 
-/// Passes this word with an optional IS, if it comes next.
-#[tactic(auto, unfolding(crate::specs::ClauseReading::skip_led))]
-pub fn skip_led(tokens: &mut Tokens<'_>, one: Reserved) -> Result<(), ReadFault>
-    ensures { Reads (spec.skip_led one tokens.old) result tokens.new }
-{
-    if tokens.at_word(one) {
-        tokens.expect(one)?;
-        tokens.skip(Reserved::Is);
-    }
-    Ok(())
-}
-
 /// The tokens after `SEPARATE [CHARACTER]`, where that comes first.
 #[tactic(auto, unfolding(crate::specs::ClauseReading::after_separate))]
 fn after_separate(tokens: &[Token]) -> Option<&[Token]>

@@ -4,7 +4,7 @@ ghost use Rattle.std.specs.Prelude.{◌≡◌};
 ghost use Rattle.std.specs.Result.{result_map_both};
 ghost use Rattle.grammar.specs.Reading.{Reads};
 ghost use Rattle.data_division.specs.ClauseReading.{clause_reader};
-ghost use Rattle.data_division.specs.Gathering.{gathering_reader};
+ghost use Rattle.grammar.specs.Gathering.{gathering_reader};
 ghost use Rattle.data_division.specs.Stated as spec;
 
 use crate::clause::{Clause, ClauseKind};
@@ -97,7 +97,7 @@ pub fn stated_clauses(alloc: Global, tokens: &mut Tokens<'_>) -> Result<Stated, 
 }
 
 /// Takes clauses in, up to where no more can begin.
-#[tactic(auto, unfolding(crate::specs::Gathering::gathering_reader, crate::specs::Gathering::gathering_turns))]
+#[tactic(auto, unfolding(grammar::specs::Gathering::gathering_reader, grammar::specs::Gathering::gathering_turns))]
 fn gather(stated: &mut Stated, alloc: Global, tokens: &mut Tokens<'_>) -> Result<(), ReadFault>
     ensures { Reads (gathering_reader spec.entry_clauses clause_reader stated.old tokens.old)
         (result_map_both (λ _. stated.new) (λ fault. fault) result) tokens.new }

@@ -1,3 +1,5 @@
 pub mod Numbers
 pub mod Nesting
 pub mod Told
+pub mod Digits
+pub mod Forms

@@ -1,6 +1,8 @@
--- Integers that are told up to a bound.
-use Rattle.std.proofs.Common.{◌≡◌, ℕ, suc, ◌+◌, ◌-◌, ◌*◌, ◌≤◌, ◌<◌, min, ◌⊎◌, inl, inr, List, [], ◌∷◌, length, drop}
-use Rattle.std.proofs.Common.{get_or, sym, ap, ◌∙◌, add-one, drop-cons, arith}
+-- Integers that are read up to a bound.
+use Rattle.std.proofs.Common.{◌≡◌, ℕ, suc, ◌+◌, ◌-◌, ◌*◌, ◌≤◌, ◌<◌, List, [], ◌∷◌, length, drop}
+use Rattle.std.proofs.Common.{get_or, refl, sym, ap, ◌∙◌, drop-cons, arith, Bool, true, false, cond, Some, None}
+use Rattle.std.specs.Prelude.{nat_le}
+use Rattle.std.proofs.lemmas.Bool.Decides.{nat_tests}
 use Rattle.decimal18.specs.Digits.{digits_after}
 
 -- digits behind more stand for more
@@ -12,26 +14,19 @@ behind_least : (a : ℕ) (cs : List ℕ) → a ≤ digits_after a cs
 behind_least a [] = omega arith
 behind_least a (c ∷ cs) = let h = behind_least (10 * a + (c - 48)) cs in omega arith
 
-split : (a cap : ℕ) → (a ≤ cap) ⊎ (cap ≤ a)
-split a cap = search arith
-
--- what is cut on the way is cut at the end
-pub capped : (cap a : ℕ) (cs : List ℕ) → min (digits_after (min a cap) cs) cap ≡ min (digits_after a cs) cap
-capped cap a cs = elim (split a cap) [
-  | inl small ↦ let e : min a cap ≡ a = omega arith in ap (λ n. min (digits_after n cs) cap) e
-  | inr large ↦
-      let e : min a cap ≡ cap = omega arith in
-      let least = behind_least cap cs in
-      let top = behind_least a cs in
-      ap (λ n. min (digits_after n cs) cap) e
-      ∙ (let both : min (digits_after cap cs) cap ≡ min (digits_after a cs) cap = omega arith in both)
-]
-
--- one digit more
-pub next_digit : (cap n r i : ℕ) (cs : List ℕ) → i < length cs → r ≡ min (10 * n + (get_or cs i 0 - 48)) cap
-    → min (digits_after r (drop (i + 1) cs)) cap ≡ min (digits_after n (drop i cs)) cap
-next_digit cap n r i cs lt e =
-    ap (λ k. min (digits_after r (drop k cs)) cap) (add-one i)
-    ∙ ap (λ m. min (digits_after m (drop (suc i) cs)) cap) e
-    ∙ capped cap (10 * n + (get_or cs i 0 - 48)) (drop (suc i) cs)
-    ∙ ap (λ l. min (digits_after n l) cap) (sym (drop-cons cs i 0 lt))
+-- one digit more, where it is too many
+pub digit_above : (n most i all : ℕ) (cs : List ℕ) → i < length cs → digits_after n (drop i cs) ≡ all
+    → (let next = 10 * n + (get_or cs i 0 - 48) in
+    cond (nat_le next most) (Some next) None ≡ None → None ≡ cond (nat_le all most) (Some all) None)
+digit_above n most i all cs lt e =
+    let next = 10 * n + (get_or cs i 0 - 48) in
+    let least = behind_least next (drop (suc i) cs) in
+    let here : digits_after n (drop i cs) ≡ digits_after next (drop (suc i) cs) =
+    ap (digits_after n) (drop-cons cs i 0 lt) in
+    go (nat_le next most) refl (nat_le all most) refl least (sym here ∙ e)
+  where
+    go : {next more : ℕ} (b : Bool) → nat_le next most ≡ b → (c : Bool) → nat_le all most ≡ c → next ≤ more
+        → more ≡ all → cond b (Some next) None ≡ None → None ≡ cond c (Some all) None
+    go true is c at le same e = absurd cc
+    go false is false at le same e = refl
+    go false is true at le same e = absurd (grind (arith, nat_tests, is, at, le, same))

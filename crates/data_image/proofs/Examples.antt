@@ -12,6 +12,7 @@ use Rattle.data_instructions.specs.declared.tables.DataTables.{DataTables}
 use Rattle.data_instructions.specs.declared.calculation.Calculation.TheVariants as c
 use Rattle.data_instructions.specs.declared.test.Test.TheVariants as test
 use Rattle.data_instructions.specs.declared.gather.Gather.TheVariants as gather
+use Rattle.data_instructions.specs.declared.part.Part.TheVariants as part
 use Rattle.data_instructions.specs.declared.instruction.DataInstruction.TheVariants as i
 use Rattle.source_tree.specs.declared.condition.Relation.TheVariants as relation
 use Rattle.source_tree.specs.declared.condition.Class.TheVariants as class
@@ -108,6 +109,15 @@ inspect_spelt : data_instruction_bytes (i.Inspect (record { number = 258 })) ≡
 unfolding short_bytes
 inspect_spelt = refl
 
+-- a part of an item of 258 bytes, and one of a length that is counted
+part_spelt : data_instruction_bytes (i.Part (part.Fixed 258)) ≡ 70 ∷ 0 ∷ 0 ∷ 1 ∷ 2 ∷ []
+unfolding short_bytes
+part_spelt = refl
+
+counted_part_read : data_instruction_at (71 ∷ 9 ∷ []) ≡ Ok (i.Part part.Counted, 9 ∷ [])
+unfolding data_instruction_at byte_at plain_instruction_of
+counted_part_read = refl
+
 -- ---- what is refused
 
 -- zero isn't negative
@@ -149,7 +159,7 @@ no_editing : editing_at (2 ∷ []) ≡ Err faults.Value
 unfolding editing_at byte_at
 no_editing = refl
 
--- 15 begins another instruction, and 27, 59 and 70 none
+-- 15 begins another instruction, and 27, 59 and 73 none
 no_instruction : data_instruction_at (15 ∷ []) ≡ Err faults.Value
 unfolding data_instruction_at byte_at plain_instruction_of
 no_instruction = refl
@@ -162,7 +172,7 @@ before_overlay : data_instruction_at (59 ∷ []) ≡ Err faults.Value
 unfolding data_instruction_at byte_at plain_instruction_of
 before_overlay = refl
 
-behind_the_last : data_instruction_at (70 ∷ []) ≡ Err faults.Value
+behind_the_last : data_instruction_at (73 ∷ []) ≡ Err faults.Value
 unfolding data_instruction_at byte_at plain_instruction_of
 behind_the_last = refl
 

@@ -5,6 +5,7 @@ use Rattle.std.specs.Prelude.{Some}
 use Rattle.data_instructions.specs.declared.calculation.Calculation.TheVariants as c
 use Rattle.data_instructions.specs.declared.test.Test.TheVariants as t
 use Rattle.data_instructions.specs.declared.gather.Gather.TheVariants as g
+use Rattle.data_instructions.specs.declared.part.Part.TheVariants as p
 use Rattle.data_instructions.specs.declared.instruction.DataInstruction.{DataInstruction}
 use Rattle.data_instructions.specs.declared.instruction.DataInstruction.TheVariants as i
 use Rattle.data_image.specs.Spelling.{IsBytes, short_bytes}
@@ -14,6 +15,7 @@ use Rattle.data_image.specs.Instructions.{index_at, truncate, place_instruction,
 use Rattle.data_image.specs.Instructions.{duplicate, text_from, test_from, instruction_from, data_instruction_at}
 use Rattle.data_image.specs.Tests.{compare, compare_numbers, or_equal, or_within}
 use Rattle.data_image.specs.Gathers.{inspect, overlay, up_to_text, text_up_to_place}
+use Rattle.data_image.specs.Parts.{part_fixed}
 use Rattle.data_image.proofs.Forms.{ok_is, chosen, takes_then, takes_kind, IsForm, part, part_again, Took, form_of}
 use Rattle.data_image.proofs.Forms.{first_took, byte_is, behind_took, told_took, first_told, told_in}
 use Rattle.data_image.proofs.Numbers.{byte_form, short_form}
@@ -27,7 +29,8 @@ plain_instructions =
     ∷ (36, i.Calculate c.Negate)
     ∷ (39, i.Calculate c.Discard) ∷ (46, i.Test t.Invert)
     ∷ (61, i.DropPlace) ∷ (62, i.Gather g.Bytes) ∷ (63, i.Gather g.UpToPlace) ∷ (66, i.String false)
-    ∷ (67, i.String true) ∷ (68, i.Gather g.Sized) ∷ []
+    ∷ (67, i.String true) ∷ (68, i.Gather g.Sized) ∷ (71, i.Part p.Counted)
+    ∷ (72, i.Part p.Rest) ∷ []
 
 instruction_told : (n : ℕ) → plain_instruction_of n ≡ first_told plain_instructions n
 unfolding plain_instruction_of
@@ -72,7 +75,13 @@ plain_instruction_is n one e =
                                       (refl, tt),
                                       (
                                         (refl, tt),
-                                        ((refl, tt), ((refl, tt), ((refl, tt), ((refl, tt), ((refl, tt), tt))))),
+                                        (
+                                          (refl, tt),
+                                          (
+                                            (refl, tt),
+                                            ((refl, tt), ((refl, tt), ((refl, tt), ((refl, tt), ((refl, tt), tt))))),
+                                          ),
+                                        ),
                                       ),
                                     ),
                                   ),
@@ -120,8 +129,12 @@ text_from_took n rest x is e =
           | inr s ↦ elim (chosen (eqb n 69) _ _ _ s.1) [
             | inl p ↦ byte_is data_instruction_bytes HasShorts 69 n rest x p.0 (behind_took data_instruction_bytes
                 HasShorts short_form 69 inspect (λ a. refl) (λ a h. h) rest x is p.1)
-            | inr u ↦
-                told_took data_instruction_bytes HasShorts plain_instruction_of plain_instruction_is n rest x is u.1
+            | inr u ↦ elim (chosen (eqb n 70) _ _ _ u.1) [
+              | inl p ↦ byte_is data_instruction_bytes HasShorts 70 n rest x p.0 (behind_took data_instruction_bytes
+                  HasShorts short_form 70 part_fixed (λ a. refl) (λ a h. h) rest x is p.1)
+              | inr v ↦
+                  told_took data_instruction_bytes HasShorts plain_instruction_of plain_instruction_is n rest x is v.1
+            ]
           ]
         ]
       ]
@@ -245,6 +258,9 @@ instruction_again (i.Gather (g.TextUpToPlace text)) rest h = naming_again text_u
 instruction_again (i.String false) rest h = refl
 instruction_again (i.String true) rest h = refl
 instruction_again (i.Gather g.Sized) rest h = refl
+instruction_again (i.Part (p.Fixed size)) rest h = naming_again part_fixed size rest h
+instruction_again (i.Part p.Counted) rest h = refl
+instruction_again (i.Part p.Rest) rest h = refl
 instruction_again (i.Inspect inspection) rest h = naming_again inspect inspection.number rest h
 
 pub data_instruction_form : IsForm data_instruction_at data_instruction_bytes HasShorts

@@ -4,12 +4,14 @@ use Rattle.data_instructions.specs.declared.calculation.Calculation.{Calculation
 use Rattle.data_instructions.specs.declared.calculation.Calculation.TheVariants as c
 use Rattle.data_instructions.specs.declared.test.Test.TheVariants as t
 use Rattle.data_instructions.specs.declared.gather.Gather.TheVariants as g
+use Rattle.data_instructions.specs.declared.part.Part.TheVariants as p
 use Rattle.data_instructions.specs.declared.instruction.DataInstruction.{DataInstruction}
 use Rattle.data_instructions.specs.declared.instruction.DataInstruction.TheVariants as i
 use Rattle.data_image.specs.Spelling.{short_bytes, IsByte, FitsFourBytes}
 use Rattle.data_image.specs.Reading.{ReadResult, ◌>>=◌, or_value, byte_at, short_at}
 use Rattle.data_image.specs.Tests.{test_bytes, HasEntry, relating_at, class_at, compare_literal_at, compare, compare_numbers, or_equal, or_within}
 use Rattle.data_image.specs.Gathers.{gather_bytes, string_byte, HasText, inspect, overlay, up_to_text, text_up_to_place}
+use Rattle.data_image.specs.Parts.{part_bytes, HasSize, part_fixed}
 
 -- a store, by whether it rounds and whether it keeps the item after a size error
 abbrev pub store_byte : Bool → Bool → ℕ
@@ -47,6 +49,7 @@ data_instruction_bytes (i.Overlay text) = 60 ∷ short_bytes text.number
 data_instruction_bytes i.DropPlace = 61 ∷ []
 data_instruction_bytes (i.Gather one) = gather_bytes one
 data_instruction_bytes (i.String pointer) = string_byte pointer ∷ []
+data_instruction_bytes (i.Part one) = part_bytes one
 data_instruction_bytes (i.Inspect inspection) = 69 ∷ short_bytes inspection.number
 
 abbrev pub HasNumber : Calculation → Type 0
@@ -79,6 +82,7 @@ HasShorts (i.Overlay text) = FitsFourBytes text.number
 HasShorts i.DropPlace = Unit {0}
 HasShorts (i.Gather one) = HasText one
 HasShorts (i.String pointer) = Unit {0}
+HasShorts (i.Part one) = HasSize one
 HasShorts (i.Inspect inspection) = FitsFourBytes inspection.number
 
 -- ---- reading
@@ -112,6 +116,8 @@ plain_instruction_of byte =
     else if byte == 66 then Some (i.String false)
     else if byte == 67 then Some (i.String true)
     else if byte == 68 then Some (i.Gather g.Sized)
+    else if byte == 71 then Some (i.Part p.Counted)
+    else if byte == 72 then Some (i.Part p.Rest)
     else None
 
 -- an instruction with one number
@@ -149,13 +155,14 @@ append_literal number = i.AppendLiteral (record { number = number })
 abbrev pub duplicate : ℕ → DataInstruction
 duplicate depth = i.Calculate (c.Duplicate depth)
 
--- the instruction with a text whose first byte this is, or what a byte is alone
+-- the instruction on texts with a number whose first byte this is, or what a byte is alone
 abbrev pub text_from : ℕ → List ℕ → ReadResult DataInstruction
 text_from byte bytes =
     if byte == 60 then naming_at overlay bytes
     else if byte == 64 then naming_at up_to_text bytes
     else if byte == 65 then naming_at text_up_to_place bytes
     else if byte == 69 then naming_at inspect bytes
+    else if byte == 70 then naming_at part_fixed bytes
     else (or_value (plain_instruction_of byte) >>= λ one. Ok (one, bytes))
 
 -- the test whose first byte this is, or another instruction

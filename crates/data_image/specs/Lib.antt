@@ -9,5 +9,6 @@ pub mod Inspections
 pub mod Tables
 pub mod Tests
 pub mod Gathers
+pub mod Parts
 pub mod Instructions
 pub use Rattle.answers.specs.Answer

@@ -15,14 +15,15 @@ use crate::gather::{
     put_gather, string_byte,
 };
 use crate::number::{put_naming, put_short, read_short};
+use crate::part::{PART_COUNTED, PART_FIXED, PART_REST, put_part};
 use crate::table::TableEntry;
 use crate::test::{
     CLASS, COMPARE, COMPARE_LITERAL, COMPARE_NUMBERS, INVERT, OR_EQUAL, OR_WITHIN, put_test,
     read_class, read_relation,
 };
 use data_instructions::{
-    Calculation, DataInstruction, Gather, InspectionIndex, ItemIndex, NumberIndex, SenderIndex,
-    Test, TextIndex,
+    Calculation, DataInstruction, Gather, InspectionIndex, ItemIndex, NumberIndex, Part,
+    SenderIndex, Test, TextIndex,
 };
 use std::alloc::{AllocError, Global};
 
@@ -107,6 +108,7 @@ impl TableEntry for DataInstruction {
             DataInstruction::Overlay { text } => put_naming(out, OVERLAY, text.number),
             DataInstruction::DropPlace => put_byte(out, DROP_PLACE),
             DataInstruction::Gather(one) => put_gather(out, one),
+            DataInstruction::Part(one) => put_part(out, one),
             DataInstruction::String { pointer } => put_byte(out, string_byte(pointer)),
             DataInstruction::Inspect { inspection } => put_naming(out, INSPECT, inspection.number),
         }
@@ -200,6 +202,8 @@ fn plain_instruction_of(byte: u8) -> Option<DataInstruction>
         STRING => Some(DataInstruction::String { pointer: false }),
         STRING_POINTER => Some(DataInstruction::String { pointer: true }),
         SIZED => Some(DataInstruction::Gather(Gather::Sized)),
+        PART_COUNTED => Some(DataInstruction::Part(Part::Counted)),
+        PART_REST => Some(DataInstruction::Part(Part::Rest)),
         _ => None,
     }
 }
@@ -238,7 +242,7 @@ fn read_compare_literal(bytes: &[u8]) -> Result<(DataInstruction, &[u8]), ImageE
     Ok((DataInstruction::Test(one), rest))
 }
 
-/// The instruction with a text whose first byte this is, or what a byte is alone.
+/// The instruction on texts with a number whose first byte this is, or what a byte is alone.
 fn read_text(byte: u8, bytes: &[u8]) -> Result<(DataInstruction, &[u8]), ImageError>
     ensures { Gives (λ x. (x.0, x.1.now)) fault_of result (text_from byte bytes.now) }
 {
@@ -264,6 +268,10 @@ fn read_text(byte: u8, bytes: &[u8]) -> Result<(DataInstruction, &[u8]), ImageEr
             let (number, rest) = read_short(bytes)?;
             let inspection = InspectionIndex { number };
             Ok((DataInstruction::Inspect { inspection }, rest))
+        }
+        PART_FIXED => {
+            let (size, rest) = read_short(bytes)?;
+            Ok((DataInstruction::Part(Part::Fixed { size }), rest))
         }
         _ => Ok((found(plain_instruction_of(byte))?, bytes)),
     }

@@ -12,6 +12,7 @@ mod instruction;
 mod item;
 mod laws;
 mod number;
+mod part;
 mod sender;
 mod table;
 mod tables;

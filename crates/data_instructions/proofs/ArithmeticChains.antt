@@ -19,7 +19,7 @@ use Rattle.data_instructions.specs.declared.instruction.DataInstruction.{DataIns
 use Rattle.data_instructions.specs.declared.instruction.DataInstruction.TheVariants as i
 use Rattle.data_instructions.specs.Shapes.{and_then, and_one, without_place, shape_with}
 use Rattle.data_instructions.specs.Codes.{IsTakingCode}
-use Rattle.data_instructions.specs.Chains.{effects, greatest, LiesAll}
+use Rattle.data_instructions.specs.Chains.{effects, last_begin, LiesAll}
 use Rattle.data_instructions.specs.ArithmeticCodes.{operator_code, duplicate, discard, PushesNumber, StaysOver}
 use Rattle.data_instructions.specs.ArithmeticCodes.{AreAddedCode, IsTotalCode, IsUpdateCode, AreUpdatesCode, IsGiveCode}
 use Rattle.data_instructions.specs.ArithmeticCodes.{AreGivesCode, kept_code, IsRemainderCode, IsDivisionCode}
@@ -103,7 +103,7 @@ module _ (items : List LocatedItem) (tables : DataTables) where
       ∙ ap (λ b. and_then (shape_with (and_then (if b then Some (record {
         numbers = n + 1 - 1;
         places =
-            record { item = is.1.index; reach = greatest is.1.found.offset is.1.found.dimensions } ∷ s.stacks.places;
+            record { item = is.1.index; reach = last_begin is.1.found reference.part } ∷ s.stacks.places;
       }) else None) without_place) (Some s.line) (Some s.sender)) (effects tables [])) (within 1 (n + 1) (omega arith))
       ∙ ap (λ m. Some (counting m s)) (omega arith)
 

@@ -1,5 +1,5 @@
 -- The code of arithmetic statements does what they mean.
-use Rattle.std.proofs.Common.{◌≡◌, ℕ, List, [], ◌∷◌, ◌++◌, refl, sym, ◌∙◌, ap, Some, None}
+use Rattle.std.proofs.Common.{◌≡◌, ℕ, List, [], ◌∷◌, ◌++◌, refl, sym, ◌∙◌, ap, Option, Some, None}
 use Rattle.std.specs.Prelude.{Bool, true, false, ◌&&◌, if◌then◌else◌, Ok, Err}
 use Rattle.source_tree.specs.declared.reference.Reference.{Reference}
 use Rattle.source_tree.specs.declared.expression.Operand.{Operand}
@@ -11,12 +11,17 @@ use Rattle.source_tree.specs.declared.arithmetic.DivisionOrder.TheVariants.{Into
 use Rattle.source_tree.specs.declared.arithmetic.Operation.{Operation}
 use Rattle.source_tree.specs.declared.arithmetic.Operation.TheVariants as o
 use Rattle.source_tree.specs.Places.{LocatedItem}
-use Rattle.source_tree.specs.References.{ItemPlace, place_of, place_after, occurrence}
+use Rattle.source_tree.specs.declared.reference.Part.{Part}
+use Rattle.source_tree.specs.Parts.{part_kind, seen_by}
+use Rattle.source_tree.specs.Storage.{Storage}
+use Rattle.source_tree.specs.References.{ItemPlace, place_of, place_after, occurrence, part_in, referred_place}
+use Rattle.items.specs.declared.item.Kind.{Kind}
+use Rattle.items.specs.declared.item.Kind.TheVariants as kind
 use Rattle.source_tree.specs.References as tree
 use Rattle.source_tree.specs.Evaluated.{Evaluation, ◌>>=◌, evaluation_of}
 use Rattle.source_tree.specs.Computed.{ArithmeticValue, ExpressionValue, operate, number_at, operand_value}
 use Rattle.source_tree.specs.Computed.{expression_value}
-use Rattle.source_tree.specs.Arithmetic.{NumberReceiver, StoreResult, rounding_of, storing_computed, store}
+use Rattle.source_tree.specs.Arithmetic.{receiver_of, NumberReceiver, StoreResult, rounding_of, storing_computed, store}
 use Rattle.source_tree.specs.Arithmetic.{truncated_value, remainder_by, unless_kept, divide_into, total_from}
 use Rattle.source_tree.specs.Arithmetic.{sum_of_operands, update_at, update, update_each, give, give_each, quotient_at}
 use Rattle.source_tree.specs.Arithmetic.{remain, operation}
@@ -32,7 +37,8 @@ use Rattle.data_instructions.specs.ArithmeticCodes.{operator_code, duplicate, di
 use Rattle.data_instructions.specs.ArithmeticCodes.{AreAddedCode, IsTotalCode, HasScale, IsUpdateCode, AreUpdatesCode}
 use Rattle.data_instructions.specs.ArithmeticCodes.{IsGiveCode, AreGivesCode, kept_code, IsRemainderCode}
 use Rattle.data_instructions.specs.ArithmeticCodes.{IsDivisionCode, IsOperationCode, IsArithmeticCode, DoesArithmetic}
-use Rattle.data_instructions.proofs.Codes.{go_with, with_same, with_bind, works_append, taking_works}
+use Rattle.data_instructions.proofs.Subscripts.{go_with, with_same, with_bind, works_append}
+use Rattle.data_instructions.proofs.Codes.{taking_works}
 use Rattle.data_instructions.proofs.Expressions.{operator_works, first_works, further_works, number_works, value_works}
 
 -- the same, where what was found is known
@@ -118,6 +124,27 @@ module _ (tables : DataTables) where
       (one : Operator) (stores : ArithmeticValue → StoreResult → Evaluation StoreResult) (code : List DataInstruction)
       → Consumes tables stores code → ConsumesTwo tables (λ x y. stores (operate one x y)) (operator_code one ∷ code)
   combined one stores code consumes x y s = operator_works tables one x y code s ∙ consumes (operate one x y) s
+
+-- A part holds no number: what takes one is a whole item.
+no_receiver : (one : Kind) (to : NumberReceiver) → receiver_of (part_kind one) None ≡ Some to → ⊥
+no_receiver (kind.Alphabetic justified) to e = cc
+no_receiver kind.Group to e = cc
+no_receiver (kind.Alphanumeric justified) to e = cc
+no_receiver kind.AlphanumericEdited to e = cc
+no_receiver (kind.NumericEdited blank) to e = cc
+no_receiver (kind.Numeric numeric) to e = cc
+
+all_of_it : (items : List LocatedItem) (storage : Storage) (place : Evaluation ItemPlace)
+    → (place >>= part_in items None storage) ≡ place
+all_of_it items storage (Ok place) = refl
+all_of_it items storage (Err fault) = refl
+
+whole_receiver : (items : List LocatedItem) (found : LocatedItem) (part : Option Part) (to : NumberReceiver)
+    → receiver_of (seen_by part found).item.kind (seen_by part found).editing ≡ Some to
+    → (storage : Storage) (place : Evaluation ItemPlace)
+    → ((place >>= part_in items part storage) ≡ place) × (receiver_of found.item.kind found.editing ≡ Some to)
+whole_receiver items found None to receives storage place = (all_of_it items storage place, receives)
+whole_receiver items found (Some part) to receives storage place = absurd (no_receiver found.item.kind to receives)
 
 module _ (items : List LocatedItem) (tables : DataTables) (order : IsTables tables) (keep : Bool) where
   added_works : (operands : List Operand) (code : List DataInstruction) → AreAddedCode items tables operands code
@@ -207,10 +234,14 @@ module _ (items : List LocatedItem) (tables : DataTables) (order : IsTables tabl
       give items keep (unless_kept keep after (remainder_by dividend divisor (truncated_value scale
       (operate operator.Divide dividend divisor)))) (record { item = remainder; rounded = false }) after)
   remain_is quotient remainder scale (found, named, to, receives, same) dividend divisor before =
-      ap (λ r. (evaluation_of r >>= (λ one. occurrence items quotient.item.subscripts one before.storage)) >>=
+      let whole = whole_receiver items found quotient.item.part to receives before.storage
+      (occurrence items quotient.item.subscripts found before.storage) in
+      ap (λ r. (evaluation_of r >>= (λ one. referred_place items quotient.item one before.storage)) >>=
       (λ place. quotient_at items keep q quotient.rounded before place >>= last)) named
-      ∙ by_bytes (tree.bytes_before items found.dimensions quotient.item.subscripts before.storage)
-      ∙ sym (ap (λ r. ((evaluation_of r >>= (λ one. occurrence items quotient.item.subscripts one before.storage)) >>=
+      ∙ ap (λ r. r >>= (λ place. quotient_at items keep q quotient.rounded before place >>= last)) whole.0
+      ∙ by_bytes whole.1 (tree.bytes_before items found.dimensions quotient.item.subscripts before.storage)
+      ∙ sym (ap (λ r. (r >>= (λ place. store keep quotient.rounded place q before)) >>= by_scale scale) whole.0)
+      ∙ sym (ap (λ r. ((evaluation_of r >>= (λ one. referred_place items quotient.item one before.storage)) >>=
       (λ place. store keep quotient.rounded place q before)) >>= by_scale scale) named)
     where
       q : ArithmeticValue
@@ -224,13 +255,13 @@ module _ (items : List LocatedItem) (tables : DataTables) (order : IsTables tabl
       last : ℕ × StoreResult → Evaluation StoreResult
       last after = by_scale after.0 after.1
 
-      by_bytes : (bytes : Evaluation ℕ)
+      by_bytes : receiver_of found.item.kind found.editing ≡ Some to → (bytes : Evaluation ℕ)
           → ((bytes >>= (λ n. Ok (place_after found n))) >>=
           (λ place. quotient_at items keep q quotient.rounded before place >>= last))
           ≡ (((bytes >>= (λ n. Ok (place_after found n))) >>= (λ place. store keep quotient.rounded place q before)) >>=
           by_scale scale)
-      by_bytes (Err fault) = refl
-      by_bytes (Ok n) =
+      by_bytes receives (Err fault) = refl
+      by_bytes receives (Ok n) =
           ap (λ r. (evaluation_of r >>= (λ one. Ok (one.scale, after one))) >>= last) receives
           ∙ ap (λ decimals. by_scale decimals (after to)) same
           ∙ sym (ap (λ r. (evaluation_of r >>= (λ one. Ok (after one))) >>= by_scale scale) receives)

@@ -14,6 +14,7 @@ use Rattle.source_tree.specs.declared.condition.Relation.{Relation}
 use Rattle.source_tree.specs.declared.condition.SignTest.{SignTest}
 use Rattle.source_tree.specs.declared.condition.Class.{Class}
 use Rattle.source_tree.specs.declared.condition.Side.{Side}
+use Rattle.source_tree.specs.Parts.{seen_through}
 use Rattle.source_tree.specs.Places.{LocatedItem}
 use Rattle.source_tree.specs.Literals.{literal_sender}
 use Rattle.source_tree.specs.Conditions.{sign_relation}
@@ -24,6 +25,7 @@ use Rattle.data_instructions.specs.declared.instruction.DataInstruction.{DataIns
 use Rattle.data_instructions.specs.declared.instruction.DataInstruction.TheVariants as i
 use Rattle.data_instructions.specs.Shapes.{and_then, shape_with, effect}
 use Rattle.data_instructions.specs.Codes.{IsSenderCode}
+use Rattle.data_instructions.specs.Codes.{data_item}
 use Rattle.data_instructions.specs.Chains.{effects, LiesAll, SendsAs}
 use Rattle.data_instructions.specs.ArithmeticCodes.{PushesNumber, LiesOperand}
 use Rattle.data_instructions.specs.ConditionCodes.{KnowsTest, negation, IsComparedCode, IsPairCode, AreNumbersCode}
@@ -72,11 +74,12 @@ module _ (items : List LocatedItem) (tables : DataTables) where
   sends_as : (sender : Operand) (code : List DataInstruction) → IsSenderCode items tables sender code
       → LiesOperand items tables sender → (sent : Taken) × SendsAs items tables sender sent
   sends_as (operand.Item reference) code is lies = (
-    kept.Item is.1.found.item,
+    kept.Item (seen_through reference is.1.found).item,
     (
       lies,
       λ found named.
-          ap (λ (o : LocatedItem). kept.Item o.item) (same_Some found is.1.found (sym named ∙ is.1.has.named)),
+          ap (λ (o : LocatedItem). kept.Item (seen_through reference o).item)
+          (same_Some found is.1.found (sym named ∙ is.1.named)),
     ),
   )
   sends_as (operand.Literal literal) code is lies = ((literal_sender literal.value).taken, refl)
@@ -154,11 +157,11 @@ module _ (items : List LocatedItem) (tables : DataTables) where
     sender = Some (kept.Item found.item.item);
     by =
         ap (λ c. effects tables c s) is
-        ∙ place_known items tables index found.item entry (subscripts ++ (i.Take ∷ i.ClearTruth ∷ values)) s
+        ∙ place_known items tables index (data_item found.item) entry (subscripts ++ (i.Take ∷ i.ClearTruth ∷ values)) s
         ∙ effects_append tables subscripts (i.Take ∷ i.ClearTruth ∷ values) _
         ∙ ap (λ o. and_then o (effects tables (i.Take ∷ i.ClearTruth ∷ values)))
-        (subscripts_known items tables found.item.dimensions reference.subscripts subscripts each index found.item
-        found.item.offset entry (lies found named) s)
+        (subscripts_known items tables found.item.dimensions reference.subscripts subscripts each index
+        (data_item found.item) found.item.offset entry (lies found named) s)
         ∙ ap (λ o. and_then (shape_with (Some s.stacks) (Some s.line)
         (and_then o (λ one. Some (Some (kept.Item one.item))))) (effects tables (i.ClearTruth ∷ values))) entry
         ∙ values_known found.condition.values values is_values (kept.Item found.item.item) s;

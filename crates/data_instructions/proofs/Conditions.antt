@@ -37,8 +37,9 @@ use Rattle.data_instructions.specs.ArithmeticCodes.{Computes}
 use Rattle.data_instructions.specs.ConditionCodes.{Decides, negation, IsComparedCode, IsPairCode, AreNumbersCode}
 use Rattle.data_instructions.specs.ConditionCodes.{IsSignCode, IsClassCode, IsRangeTest, AreValuesCode, IsNameCode}
 use Rattle.data_instructions.specs.ConditionCodes.{pair_truth, numbers_truth, sign_truth, class_truth}
-use Rattle.data_instructions.proofs.Codes.{go_with, with_same, with_bind, works_append, taking_works, sender_works}
-use Rattle.data_instructions.proofs.Codes.{subscripts_works}
+use Rattle.data_instructions.proofs.Subscripts.{go_with, with_same, with_bind, works_append}
+use Rattle.data_instructions.proofs.Codes.{taking_works, sender_works}
+use Rattle.data_instructions.proofs.Subscripts.{subscripts_works}
 use Rattle.data_instructions.proofs.Expressions.{number_works}
 
 -- the sender that was taken, if one was found

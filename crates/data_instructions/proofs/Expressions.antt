@@ -25,7 +25,8 @@ use Rattle.data_instructions.specs.Chains.{effects}
 use Rattle.data_instructions.specs.ArithmeticCodes.{operator_code, negated_value, value_and_then, operation_and_then}
 use Rattle.data_instructions.specs.ArithmeticCodes.{Computes, ComputesOn, PushesNumber, StaysOver, IsNumberCode}
 use Rattle.data_instructions.specs.ArithmeticCodes.{IsValueCode, LiesOperand}
-use Rattle.data_instructions.proofs.Codes.{go_with, with_same, with_bind, works_append, taking_works}
+use Rattle.data_instructions.proofs.Subscripts.{go_with, with_same, with_bind, works_append}
+use Rattle.data_instructions.proofs.Codes.{taking_works}
 use Rattle.data_instructions.proofs.Chains.{effects_append, within, taking_known}
 
 -- with so many numbers

@@ -3,6 +3,8 @@ use Rattle.std.proofs.Common.{◌≡◌, ℕ, ◌+◌, ◌≤◌, length, List, 
 use Rattle.std.specs.Prelude.{nat_le, if◌then◌else◌}
 use Rattle.std.proofs.lemmas.List.{append_assoc}
 use Rattle.source_tree.specs.declared.inspect_statement.InspectStatement.{InspectStatement}
+use Rattle.source_tree.specs.LookUp.{items_named}
+use Rattle.source_tree.specs.Parts.{seen_through}
 use Rattle.source_tree.specs.Places.{LocatedItem}
 use Rattle.source_tree.specs.InspectLayout as layout
 use Rattle.source_tree.specs.InspectLayout.{Bytes, Characters, InspectArgument, Counter, Text, found_size, text_size}
@@ -17,10 +19,11 @@ use Rattle.data_instructions.specs.declared.shape.PlaceShape.{PlaceShape}
 use Rattle.data_instructions.specs.declared.shape.Shape.{Shape}
 use Rattle.data_instructions.specs.declared.shape.Stacks.{Stacks}
 use Rattle.data_instructions.specs.Shapes.{and_then, without_place, without_places, shape_with}
-use Rattle.data_instructions.specs.Chains.{effects, greatest}
+use Rattle.data_instructions.specs.Chains.{effects, last_begin}
 use Rattle.data_instructions.specs.InspectCodes.{AreTakenCode, HasInspection, IsInspectCode, KnowsInspect, LieTakings}
 use Rattle.data_instructions.specs.InspectCodes.{LiesInspect}
 use Rattle.data_instructions.proofs.Chains.{effects_append, within, reference_known, taking_known, text_known}
+use Rattle.data_instructions.proofs.PartCodes.{first_shown}
 use Rattle.data_instructions.proofs.InspectCodes.{counters_in, counters_are}
 
 -- so many places are there
@@ -69,21 +72,22 @@ module _ (items : List LocatedItem) (tables : DataTables) where
       ∙ ap (λ o. and_then o (effects tables later))
       (reference_known items tables one front r lies.0 (known qs q line s))
       ∙ takings_known index how size has more
-      back are_back lies.1 (record { item = r.index; reach = greatest r.found.offset r.found.dimensions } ∷ qs) q line s
+      back are_back lies.1 (record { item = r.index; reach = last_begin r.found one.part } ∷ qs) q line s
       (omega (arith, many)) long
   takings_known index how size has (Text (Bytes one) ∷ more) code (front, taking, back, are_back, is) lies qs q line s
       many long =
       let later : List DataInstruction = back ++ (i.Inspect index ∷ []) in
-      let room : found_size (Some taking.1.found) ≡ text_size items (Bytes one) =
-      ap found_size (sym taking.1.has.named) in
+      let room : found_size (Some (seen_through one taking.1.found)) ≡ text_size items (Bytes one) =
+      ap found_size (sym (first_shown (items_named items one.item) one.part taking.1.found taking.1.named)) in
       ap (λ c. effects tables (c ++ (i.Inspect index ∷ [])) (known qs q line s)) is
       ∙ ap (λ c. effects tables c (known qs q line s)) (append_assoc front back (i.Inspect index ∷ []))
       ∙ effects_append tables front later (known qs q line s)
       ∙ ap (λ o. and_then o (effects tables later)) (
       taking_known items tables (i.Gather g.Sized) one front taking lies.0 (known qs q line s)
       ∙ ap (λ o. and_then (shape_with (Some (known qs q line s).stacks)
-      (and_then o (λ it. Some (line + it.item.length))) (Some s.sender)) (effects tables [])) taking.1.has.entry)
-      ∙ takings_known index how size has more back are_back lies.1 qs q (line + taking.1.found.item.length) s many
+      (and_then o (λ it. Some (line + it.item.length))) (Some s.sender)) (effects tables [])) taking.1.entry)
+      ∙ takings_known index how size has more back are_back lies.1 qs q
+      (line + (seen_through one taking.1.found).item.length) s many
       (omega (arith, long, room))
   takings_known index how size has (Text (Characters text) ∷ more) code (front, is_text, back, are_back, is) lies qs q
       line s many long =
@@ -103,6 +107,6 @@ module _ (items : List LocatedItem) (tables : DataTables) where
       ∙ effects_append tables subject later s
       ∙ ap (λ o. and_then o (effects tables later)) (reference_known items tables one.subject subject r lies.0 s)
       ∙ takings_known index (inspection items one) (inspected_size items one) has (takings items one)
-      parts are lies.1 [] (record { item = r.index; reach = greatest r.found.offset r.found.dimensions }) s.line s
+      parts are lies.1 [] (record { item = r.index; reach = last_begin r.found one.subject.part }) s.line s
       (omega (arith, counters_are items one)) (omega arith)
       ∙ ap (λ n. Some (record s { line = n })) (sym none)

@@ -1,7 +1,8 @@
 -- The code of INSPECT does what it means.
 use Rattle.std.proofs.Common.{◌≡◌, ℕ, suc, ◌+◌, length, List, [], ◌∷◌, ◌++◌, map, refl, sym, ◌∙◌, ap, subst, arith}
 use Rattle.std.proofs.Common.{Option, Some, None}
-use Rattle.std.specs.Prelude.{slice_get, Ok, Err}
+use Rattle.std.specs.Prelude.{slice_get, Ok}
+use Rattle.std.specs.List.{AllByRecursion}
 use Rattle.std.proofs.lemmas.List.{append_assoc, append-nil, length-append}
 use Rattle.items.specs.Texts.{padded_text}
 use Rattle.source_tree.specs.declared.reference.Reference.{Reference}
@@ -11,12 +12,15 @@ use Rattle.source_tree.specs.LookUp.{items_named, first}
 use Rattle.source_tree.specs.Places.{LocatedItem}
 use Rattle.source_tree.specs.Storage.{Storage}
 use Rattle.source_tree.specs.Evaluated.{Evaluation, ◌>>=◌, evaluation_of}
-use Rattle.source_tree.specs.References.{ItemPlace, part_of, place_after, place_of, occurrence}
+use Rattle.source_tree.specs.References.{ItemPlace, part_of, place_after, place_of, occurrence, part_in}
+use Rattle.source_tree.specs.References.{referred_place}
 use Rattle.source_tree.specs.References as tree
 use Rattle.source_tree.specs.InspectLayout as layout
 use Rattle.source_tree.specs.Inspecting.{text_at}
 use Rattle.source_tree.specs.InspectLayout.{Source, Bytes, Characters, InspectArgument, Counter, Text, InspectTaken}
-use Rattle.source_tree.specs.InspectLayout.{found_size, taken_size, tallying_takings, entries_texts, counter_entries}
+use Rattle.source_tree.specs.InspectLayout.{HasKnownLength, HasKnownSize, IsOfKnownSize, HasKnownTexts}
+use Rattle.source_tree.specs.InspectLayout.{found_size, text_size, taken_size, tallying_takings, entries_texts}
+use Rattle.source_tree.specs.InspectLayout.{counter_entries}
 use Rattle.source_tree.specs.InspectLayout.{entry_counts, takings, inspection, inspected_size, with_counter, with_text}
 use Rattle.source_tree.specs.InspectLayout.{take_each, inspect_at, inspect_by_spans}
 use Rattle.data_instructions.specs.declared.index.InspectionIndex.{InspectionIndex}
@@ -31,8 +35,11 @@ use Rattle.data_instructions.specs.Scratch.{Scratch, Step, Continues, step_with,
 use Rattle.data_instructions.specs.Table.{at_place, at_places, append_step, place_at, inspected_at, work}
 use Rattle.data_instructions.specs.Codes.{go_on, works}
 use Rattle.data_instructions.specs.InspectCodes.{AreTakenCode, HasInspection, IsInspectCode}
-use Rattle.data_instructions.proofs.Codes.{go_with, with_same, with_bind, works_append, nothing_more, taking_works}
-use Rattle.data_instructions.proofs.Codes.{text_works, reference_works}
+use Rattle.data_instructions.proofs.Subscripts.{go_with, with_same, with_bind, works_append, nothing_more}
+use Rattle.data_instructions.proofs.Codes.{taking_works}
+use Rattle.data_instructions.proofs.Subscripts.{with_known, bound, same_Ok, at}
+use Rattle.data_instructions.proofs.Codes.{text_works, reference_works, place_shown}
+use Rattle.data_instructions.proofs.PartCodes.{part_long, first_shown}
 use Rattle.data_instructions.proofs.Lengths.{padded_long, padded_whole}
 
 -- ---- how many counters there are, and how long texts are
@@ -65,61 +72,51 @@ counters_are items one =
     replacing : List Source
     replacing = entries_texts (layout.all_replaced items one)
 
--- what is found out, where it is
-with_known : {A : Type 0} (r : Evaluation A) (f g : A → Step) → ((x : A) → r ≡ Ok x → f x ≡ g x)
-    → step_with r f ≡ step_with r g
-with_known (Ok x) f g same = same x refl
-with_known (Err fault) f g same = refl
-
-bound : {A B : Type 0} (r : Evaluation A) (f : A → Evaluation B) (y : B) → r >>= f ≡ Ok y
-    → (x : A) × (r ≡ Ok x) × (f x ≡ Ok y)
-bound (Ok x) f y e = (x, refl, e)
-bound (Err fault) f y e = absurd cc
-
-abbrev okay : {A : Type 0} → A → Evaluation A
-okay x = Ok x
-
-same_Ok : {A : Type 0} (x y : A) → okay x ≡ okay y → x ≡ y
-same_Ok x y e = cc
-
 needed_is : {A : Type 0} (o : Option A) (x : A) → evaluation_of o ≡ Ok x → o ≡ Some x
 needed_is None x e = absurd cc
 needed_is (Some y) x e = ap Some (same_Ok y x e)
 
 module _ (items : List LocatedItem) where
-  place_long : (one : Reference) (storage : Storage) (place : ItemPlace) → place_of items one storage ≡ Ok place
-      → place.item.length ≡ found_size (first (items_named items one.item))
-  place_long one storage place e =
+  -- A part of a known length has it in the run.
+  place_long : (one : Reference) (storage : Storage) (place : ItemPlace) → HasKnownSize items (Bytes one)
+      → place_of items one storage ≡ Ok place → place.item.length ≡ text_size items (Bytes one)
+  place_long one storage place sized e =
       let found = bound (evaluation_of (first (items_named items one.item)))
-      (λ it. occurrence items one.subscripts it storage) place e in
+      (λ it. referred_place items one it storage) place e in
+      let named = needed_is (first (items_named items one.item)) found.0 found.1 in
+      let whole = bound (occurrence items one.subscripts found.0 storage) (part_in items one.part storage) place
+      found.2 in
       let behind = bound (tree.bytes_before items found.0.dimensions one.subscripts storage)
-      (λ more. Ok (place_after found.0 more)) place found.2 in
-      sym (ap (λ (p : ItemPlace). p.item.length) (same_Ok (place_after found.0 behind.0) place behind.2))
-      ∙ sym (ap found_size (needed_is (first (items_named items one.item)) found.0 found.1))
+      (λ more. Ok (place_after found.0 more)) whole.0 whole.1 in
+      part_long items found.0 one.part storage behind.0 place
+      (subst (λ o. HasKnownLength o one.part) named sized)
+      (ap (part_in items one.part storage) (same_Ok (place_after found.0 behind.0) whole.0 behind.2) ∙ whole.2)
+      ∙ sym (ap found_size (first_shown (items_named items one.item) one.part found.0 named))
 
   taken_long : (all : List InspectArgument) (storage : Storage) (taken : InspectTaken)
+      → AllByRecursion (IsOfKnownSize items) all
       → take_each items all storage ≡ Ok taken → length taken.texts ≡ taken_size items all
-  taken_long [] storage taken e =
+  taken_long [] storage taken sized e =
       sym (ap (λ (t : InspectTaken). length t.texts) (same_Ok (record { counters = []; texts = [] }) taken e))
-  taken_long (Counter one ∷ more) storage taken e =
+  taken_long (Counter one ∷ more) storage taken sized e =
       let place = bound (place_of items one storage) _ taken e in
       let rest = bound (take_each items more storage) (λ t. Ok (with_counter place.0 t)) taken place.2 in
       sym (ap (λ (t : InspectTaken). length t.texts) (same_Ok (with_counter place.0 rest.0) taken rest.2))
-      ∙ taken_long more storage rest.0 rest.1
-  taken_long (Text (Bytes one) ∷ more) storage taken e =
+      ∙ taken_long more storage rest.0 sized.1 rest.1
+  taken_long (Text (Bytes one) ∷ more) storage taken sized e =
       let place = bound (place_of items one storage) _ taken e in
       let rest = bound (take_each items more storage) (λ t. Ok (with_text (text_at storage place.0) t)) taken place.2 in
       let whole = length-append (text_at storage place.0) rest.0.texts in
       let front = padded_long place.0.item.length (part_of storage place.0) in
-      let size = place_long one storage place.0 place.1 in
-      let back = taken_long more storage rest.0 rest.1 in
+      let size = place_long one storage place.0 sized.0 place.1 in
+      let back = taken_long more storage rest.0 sized.1 rest.1 in
       sym
       (ap (λ (t : InspectTaken). length t.texts) (same_Ok (with_text (text_at storage place.0) rest.0) taken rest.2))
       ∙ omega (arith, whole, front, size, back)
-  taken_long (Text (Characters text) ∷ more) storage taken e =
+  taken_long (Text (Characters text) ∷ more) storage taken sized e =
       let rest = bound (take_each items more storage) (λ t. Ok (with_text text t)) taken e in
       let whole = length-append text rest.0.texts in
-      let back = taken_long more storage rest.0 rest.1 in
+      let back = taken_long more storage rest.0 sized.1 rest.1 in
       sym (ap (λ (t : InspectTaken). length t.texts) (same_Ok (with_text text rest.0) taken rest.2))
       ∙ omega (arith, whole, back)
 
@@ -179,7 +176,7 @@ module _ (items : List LocatedItem) (tables : DataTables) (order : IsTables tabl
       let u : Scratch = record s { line = line } in
       let count : length has.one.counters ≡ length rs =
       ap (λ (x : layout.Inspection). length x.counters) has.is ∙ sym many in
-      nothing_more items tables order (work tables (i.Inspect index) t)
+      nothing_more tables (work tables (i.Inspect index) t)
       ∙ ap (λ o. step_at o (λ (x : Inspection). at_places tables (length x.counters) []
       (λ counters v. at_place tables (inspected_at x counters) v) (ps ++ (p ∷ s.places)) t)) has.entry
       ∙ ap (λ n. at_places tables n [] (λ counters v. at_place tables (inspected_at has.one counters) v)
@@ -226,8 +223,9 @@ module _ (items : List LocatedItem) (tables : DataTables) (order : IsTables tabl
       line s =
       let t : Scratch = standing ps p line s in
       let later : List DataInstruction = back ++ (i.Inspect index ∷ []) in
-      let behind : Evaluation ℕ = tree.bytes_before items r.found.dimensions one.subscripts s.storage in
-      let new : ℕ → Place = λ n. record { item = r.index; offset = r.found.offset + n; length = r.found.item.length } in
+      let there : Evaluation ItemPlace = referred_place items one r.found s.storage in
+      let new : ItemPlace → Place =
+      λ place. record { item = r.index; offset = place.offset; length = place.item.length } in
       let done : ItemPlace → InspectTaken → Step =
       λ place taken. ends how subject s (oldest rs (place ∷ taken.counters)) (padded_text size (line ++ taken.texts)) in
       let puts : ItemPlace → Step = λ place. step_with (take_each items more s.storage) (done place) in
@@ -235,13 +233,15 @@ module _ (items : List LocatedItem) (tables : DataTables) (order : IsTables tabl
       ∙ ap (λ c. works tables c t) (append_assoc front back (i.Inspect index ∷ []))
       ∙ works_append tables front later t
       ∙ ap (λ step. go_on step (works tables later)) (reference_works items tables order one front r t)
-      ∙ go_with behind (λ n. Continues (standing (new n ∷ ps) p line s)) (works tables later)
-      ∙ with_same behind _ _ (λ n.
-      takings_work index how size has p subject at more back are_back (new n ∷ ps) (place_after r.found n ∷ rs)
-      (ap (place_at (new n)) r.has.entry, are) (omega (arith, many)) line s)
-      ∙ sym (with_bind behind (λ n. Ok (place_after r.found n)) puts)
-      ∙ ap (λ o. step_with (evaluation_of o >>= (λ found. occurrence items one.subscripts found s.storage)) puts)
-      (sym r.has.named)
+      ∙ go_with there (λ place. Continues (standing (new place ∷ ps) p line s)) (works tables later)
+      ∙ with_known there _ _ (λ place at_place.
+      takings_work index how size has p subject at more back are_back (new place ∷ ps) (place ∷ rs) (
+        ap (place_at (new place)) r.entry
+            ∙ ap Some (place_shown items tables order one front r s.storage place at_place),
+        are,
+      ) (omega (arith, many)) line s)
+      ∙ ap (λ o. step_with (evaluation_of o >>= (λ found. referred_place items one found s.storage)) puts)
+      (sym r.named)
       ∙ with_same (place_of items one s.storage)
       _ _ (λ place. sym (with_bind (take_each items more s.storage) (λ taken. Ok (with_counter place taken))
       (λ taken. ends how subject s (oldest rs taken.counters) (padded_text size (line ++ taken.texts)))))
@@ -278,17 +278,18 @@ module _ (items : List LocatedItem) (tables : DataTables) (order : IsTables tabl
       (takings_work index how size has p subject at more back are_back ps rs are many (line ++ text) s)
 
   -- with nothing in the line
-  inspect_from_nothing : (one : InspectStatement) (code : List DataInstruction) → IsInspectCode items tables one code
-      → (s : Scratch)
+  inspect_from_nothing : (one : InspectStatement) (code : List DataInstruction) → HasKnownTexts items one
+      → IsInspectCode items tables one code → (s : Scratch)
       → works tables code (record s { line = [] })
       ≡ step_with (inspect_by_spans items one s.storage) (λ after. Continues (record s { storage = after; line = [] }))
-  inspect_from_nothing one code (subject, r, parts, are, index, has, is) s =
+  inspect_from_nothing one code sized (subject, r, parts, are, index, has, is) s =
       let u : Scratch = record s { line = [] } in
       let how : layout.Inspection = inspection items one in
       let size : ℕ = inspected_size items one in
       let later : List DataInstruction = parts ++ (i.Inspect index ∷ []) in
-      let behind : Evaluation ℕ = tree.bytes_before items r.found.dimensions one.subject.subscripts s.storage in
-      let new : ℕ → Place = λ n. record { item = r.index; offset = r.found.offset + n; length = r.found.item.length } in
+      let there : Evaluation ItemPlace = referred_place items one.subject r.found s.storage in
+      let new : ItemPlace → Place =
+      λ place. record { item = r.index; offset = place.offset; length = place.item.length } in
       let last : ItemPlace → InspectTaken → Step =
       λ place taken. step_with (inspect_at how taken.texts taken.counters place s.storage)
       (λ after. Continues (record s { storage = after; line = [] })) in
@@ -296,16 +297,16 @@ module _ (items : List LocatedItem) (tables : DataTables) (order : IsTables tabl
       ap (λ c. works tables c u) is
       ∙ works_append tables subject later u
       ∙ ap (λ step. go_on step (works tables later)) (reference_works items tables order one.subject subject r u)
-      ∙ go_with behind (λ n. Continues (standing [] (new n) [] s)) (works tables later)
-      ∙ with_same behind _ _ (λ n.
-      takings_work index how size has (new n) (place_after r.found n) (ap (place_at (new n)) r.has.entry)
+      ∙ go_with there (λ place. Continues (standing [] (new place) [] s)) (works tables later)
+      ∙ with_known there _ _ (λ place at_place.
+      takings_work index how size has (new place) place (ap (place_at (new place)) r.entry
+      ∙ ap Some (place_shown items tables order one.subject subject r s.storage place at_place))
       (takings items one) parts are [] [] tt (omega (arith, counters_are items one)) [] s
       ∙ with_known (take_each items (takings items one) s.storage) _ _ (λ taken known.
-      ap (λ l. ends how (place_after r.found n) s taken.counters l)
-      (padded_whole size taken.texts (taken_long items (takings items one) s.storage taken known))))
-      ∙ sym (with_bind behind (λ n. Ok (place_after r.found n)) puts)
-      ∙ ap (λ o. step_with (evaluation_of o >>= (λ found. occurrence items one.subject.subscripts found s.storage))
-      puts) (sym r.has.named)
+      ap (λ l. ends how place s taken.counters l)
+      (padded_whole size taken.texts (taken_long items (takings items one) s.storage taken sized known))))
+      ∙ ap (λ o. step_with (evaluation_of o >>= (λ found. referred_place items one.subject found s.storage))
+      puts) (sym r.named)
       ∙ with_same (place_of items one.subject s.storage)
       _ _ (λ place. sym (with_bind (take_each items (takings items one) s.storage) (λ taken. inspect_at how taken.texts
       taken.counters place s.storage) (λ after. Continues (record s { storage = after; line = [] }))))
@@ -313,11 +314,11 @@ module _ (items : List LocatedItem) (tables : DataTables) (order : IsTables tabl
       items (takings items one) s.storage >>= (λ taken. inspect_at how taken.texts taken.counters place s.storage))
       (λ after. Continues (record s { storage = after; line = [] })))
 
-  pub inspect_does : (one : InspectStatement) (code : List DataInstruction) → IsInspectCode items tables one code
-      → (s : Scratch) → s.line ≡ []
+  pub inspect_does : (one : InspectStatement) (code : List DataInstruction) → HasKnownTexts items one
+      → IsInspectCode items tables one code → (s : Scratch) → s.line ≡ []
       → works tables code s
       ≡ step_with (inspect_by_spans items one s.storage) (λ after. Continues (record s { storage = after }))
-  inspect_does one code is s empty =
+  inspect_does one code sized is s empty =
       subst (λ (l : List ℕ). works tables code (record s { line = l })
       ≡ step_with (inspect_by_spans items one s.storage) (λ after. Continues (record s { storage = after; line = l })))
-      (sym empty) (inspect_from_nothing one code is s)
+      (sym empty) (inspect_from_nothing one code sized is s)

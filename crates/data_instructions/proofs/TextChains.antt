@@ -8,6 +8,7 @@ use Rattle.source_tree.specs.declared.expression.Operand.TheVariants as operand
 use Rattle.source_tree.specs.declared.string_statement.Sending.{Sending}
 use Rattle.source_tree.specs.declared.string_statement.StringStatement.{StringStatement}
 use Rattle.source_tree.specs.Display.{shown_literal}
+use Rattle.source_tree.specs.Parts.{seen_through}
 use Rattle.source_tree.specs.Places.{LocatedItem}
 use Rattle.source_tree.specs.Initializing.{Pattern, named_pattern, set_pattern}
 use Rattle.data_instructions.specs.declared.index.TextIndex.{TextIndex}
@@ -18,7 +19,8 @@ use Rattle.data_instructions.specs.declared.instruction.DataInstruction.TheVaria
 use Rattle.data_instructions.specs.declared.shape.PlaceShape.{PlaceShape}
 use Rattle.data_instructions.specs.declared.shape.Shape.{Shape}
 use Rattle.data_instructions.specs.Shapes.{and_then, with_text, shape_with}
-use Rattle.data_instructions.specs.Chains.{effects, greatest, LiesAll, KnowsDisplay}
+use Rattle.data_instructions.specs.Chains.{effects, greatest, last_begin, LiesAll, KnowsDisplay}
+use Rattle.data_instructions.specs.Codes.{data_item}
 use Rattle.data_instructions.specs.ArithmeticCodes.{LiesOperand, LieOperands}
 use Rattle.data_instructions.specs.TextCodes.{HasPattern, IsInitializeCode, AreInitializedCode, IsSetCode, AreSetCode}
 use Rattle.data_instructions.specs.TextCodes.{IsSentCode, AreSentCode, IsFoundCode, AreFoundCode, IsUpToPlaceCode}
@@ -55,8 +57,8 @@ module _ (items : List LocatedItem) (tables : DataTables) where
       → LiesAll items tables one → KnowsAll items tables code
   one_initialized one code (found, named, text, has, taking) lies s =
       taking_known items tables (i.Overlay text) one code taking lies s
-      ∙ overlay_known (named_pattern found) text has
-      (record { item = taking.1.index; reach = greatest taking.1.found.offset taking.1.found.dimensions }) s
+      ∙ overlay_known (named_pattern (seen_through one found)) text has
+      (record { item = taking.1.index; reach = last_begin taking.1.found one.part }) s
 
   pub initialize_known : (receivers : List Reference) (code : List DataInstruction)
       → AreInitializedCode items tables receivers code → LieEach items tables receivers → KnowsAll items tables code
@@ -68,11 +70,11 @@ module _ (items : List LocatedItem) (tables : DataTables) where
       → LieConditions items tables (one ∷ []) → KnowsAll items tables code
   one_set_known one code (found, named, index, entry, subscripts, each, text, has, is) lies s =
       ap (λ c. effects tables c s) is
-      ∙ place_known items tables index found.item entry (subscripts ++ (i.Overlay text ∷ [])) s
+      ∙ place_known items tables index (data_item found.item) entry (subscripts ++ (i.Overlay text ∷ [])) s
       ∙ effects_append tables subscripts (i.Overlay text ∷ [])
       (above (record { item = index; reach = found.item.offset }) s)
       ∙ ap (λ o. and_then o (effects tables (i.Overlay text ∷ []))) (subscripts_known items tables found.item.dimensions
-      one.subscripts subscripts each index found.item found.item.offset entry (lies.0 found named) s)
+      one.subscripts subscripts each index (data_item found.item) found.item.offset entry (lies.0 found named) s)
       ∙ overlay_known (set_pattern found) text has
       (record { item = index; reach = greatest found.item.offset found.item.dimensions }) s
 
@@ -87,18 +89,18 @@ module _ (items : List LocatedItem) (tables : DataTables) where
   sent_known : (delimiter : Option (List ℕ)) (one : Operand) (code : List DataInstruction)
       → IsSentCode items tables delimiter one code → LiesOperand items tables one → KnowsDisplay items tables code
   sent_known None (operand.Item reference) code is lies s = (
-    s.line + is.1.found.item.length,
+    s.line + (seen_through reference is.1.found).item.length,
     taking_known items tables (i.Gather g.Bytes) reference code is lies s
         ∙ ap (λ o. and_then (shape_with (Some s.stacks) (and_then o (λ one. Some (s.line + one.item.length)))
-        (Some s.sender)) (effects tables [])) is.1.has.entry,
+        (Some s.sender)) (effects tables [])) is.1.entry,
   )
   sent_known (Some delimiter) (operand.Item reference) code (text, has, taking) lies s = (
-    s.line + taking.1.found.item.length,
+    s.line + (seen_through reference taking.1.found).item.length,
     taking_known items tables (i.Gather (g.UpToText text)) reference code taking lies s
         ∙ ap (λ o. and_then (shape_with (with_text tables text.number (Some s.stacks))
-        (and_then o (λ one. Some (s.line + one.item.length))) (Some s.sender)) (effects tables [])) taking.1.has.entry
+        (and_then o (λ one. Some (s.line + one.item.length))) (Some s.sender)) (effects tables [])) taking.1.entry
         ∙ ap (λ o. and_then (shape_with (and_then o (λ bytes. Some s.stacks))
-        (Some (s.line + taking.1.found.item.length)) (Some s.sender)) (effects tables [])) has,
+        (Some (s.line + (seen_through reference taking.1.found).item.length)) (Some s.sender)) (effects tables [])) has,
   )
   sent_known None (operand.Literal one) code is lies s =
       (_, text_known items tables (shown_literal one.value) code is s)
@@ -132,10 +134,10 @@ module _ (items : List LocatedItem) (tables : DataTables) where
   up_known : (one : Operand) (code : List DataInstruction) → IsUpToPlaceCode items tables one code
       → LiesOperand items tables one → (q : PlaceShape) → KnowsOver q code
   up_known (operand.Item reference) code is lies q s = (
-    s.line + is.1.found.item.length,
+    s.line + (seen_through reference is.1.found).item.length,
     taking_known items tables (i.Gather g.UpToPlace) reference code is lies (above q s)
         ∙ ap (λ o. and_then (shape_with (Some (above q s).stacks) (and_then o (λ one. Some (s.line + one.item.length)))
-        (Some s.sender)) (effects tables [])) is.1.has.entry,
+        (Some s.sender)) (effects tables [])) is.1.entry,
   )
   up_known (operand.Literal one) code (text, has, is) lies q s = (
     s.line + length (shown_literal one.value),
@@ -163,7 +165,7 @@ module _ (items : List LocatedItem) (tables : DataTables) where
       each_sent_known (Some (shown_literal delimiter.value)) senders code is lie s
   sending_known senders (Some (operand.Item delimiter)) code (front, is_front, delimiting, r, parts, are, is) lie lies
       s =
-      let q : PlaceShape = record { item = r.index; reach = greatest r.found.offset r.found.dimensions } in
+      let q : PlaceShape = record { item = r.index; reach = last_begin r.found delimiter.part } in
       let last : List DataInstruction = i.DropPlace ∷ [] in
       let up = each_up_known senders parts are lie q s in (
         up.0,
@@ -203,5 +205,5 @@ module _ (items : List LocatedItem) (tables : DataTables) where
       ∙ effects_append tables receiver back t
       ∙ ap (λ o. and_then o (effects tables back)) (reference_known items tables one.receiver receiver r lies t)
       ∙ put_known one.pointer back is_back points
-      (record { item = r.index; reach = greatest r.found.offset r.found.dimensions }) t
+      (record { item = r.index; reach = last_begin r.found one.receiver.part }) t
       ∙ ap (λ line. Some (record s { line = line })) (sym empty)

@@ -14,6 +14,8 @@ use Rattle.source_tree.specs.LookUp.{NamedCondition}
 use Rattle.source_tree.specs.Storage.{Storage}
 use Rattle.source_tree.specs.Evaluated.{Evaluation, ◌>>=◌, evaluation_of}
 use Rattle.source_tree.specs.References.{ItemPlace, part_of, place_after, place_of, occurrence}
+use Rattle.source_tree.specs.References.{referred_place}
+use Rattle.source_tree.specs.Parts.{seen_through}
 use Rattle.source_tree.specs.References as tree
 use Rattle.source_tree.specs.Initializing.{Pattern, overlaid_storage, named_pattern, set_pattern, initialize}
 use Rattle.source_tree.specs.Initializing.{storage_after_set}
@@ -33,8 +35,10 @@ use Rattle.data_instructions.specs.TextCodes.{new_byte, new_mark, HasPattern, Is
 use Rattle.data_instructions.specs.TextCodes.{IsSetCode, AreSetCode, IsSentCode, AreSentCode, IsFoundCode, AreFoundCode}
 use Rattle.data_instructions.specs.TextCodes.{IsUpToPlaceCode, AreUpToPlaceCode, IsSendingBy, AreSendingsCode}
 use Rattle.data_instructions.specs.TextCodes.{IsPutCode, IsStringCode}
-use Rattle.data_instructions.proofs.Codes.{go_with, with_same, with_bind, works_append, nothing_more, taking_works}
-use Rattle.data_instructions.proofs.Codes.{text_works, subscripts_works, reference_works}
+use Rattle.data_instructions.proofs.Subscripts.{go_with, with_same, with_bind, works_append, nothing_more}
+use Rattle.data_instructions.proofs.Codes.{taking_works}
+use Rattle.data_instructions.proofs.Subscripts.{with_known, at, subscripts_works}
+use Rattle.data_instructions.proofs.Codes.{text_works, reference_works, place_shown}
 
 -- a pattern, by its bytes and their marks
 pattern_same : (pattern : Pattern) → pattern_of (map new_byte pattern) (map new_mark pattern) ≡ pattern
@@ -75,18 +79,19 @@ module _ (items : List LocatedItem) (tables : DataTables) (order : IsTables tabl
           → works tables back (record s { storage = after }) ≡ step_with (initialize items more after) done)
           → go_on (works tables front s) (works tables back) ≡ step_with (initialize items (one ∷ more) s.storage) done
       by_front (found, named, text, has, taking) rest =
+          let pattern : Pattern = named_pattern (seen_through one found) in
           ap (λ step. go_on step (works tables back)) (taking_works items tables order (i.Overlay text)
-          (laid_over (named_pattern found)) (overlay_works (named_pattern found) text has) one front taking s)
-          ∙ go_with (place_of items one s.storage) (λ place. laid_over (named_pattern found) place s)
-          (works tables back)
-          ∙ ap (λ o. step_with (evaluation_of o >>= (λ it. occurrence items one.subscripts it s.storage))
-          (λ place. go_on (laid_over (named_pattern found) place s) (works tables back))) named
-          ∙ with_same (occurrence items one.subscripts found s.storage) _ _
-          (λ place. rest (overlaid_storage (named_pattern found) place s.storage))
-          ∙ sym (with_bind (occurrence items one.subscripts found s.storage)
-          (λ place. initialize items more (overlaid_storage (named_pattern found) place s.storage)) done)
-          ∙ ap (λ o. step_with (evaluation_of o >>= (λ it. occurrence items one.subscripts it s.storage >>=
-          (λ place. initialize items more (overlaid_storage (named_pattern it) place s.storage)))) done) (sym named)
+          (laid_over pattern) (overlay_works pattern text has) one front taking s)
+          ∙ go_with (place_of items one s.storage) (λ place. laid_over pattern place s) (works tables back)
+          ∙ ap (λ o. step_with (evaluation_of o >>= (λ it. referred_place items one it s.storage))
+          (λ place. go_on (laid_over pattern place s) (works tables back))) named
+          ∙ with_same (referred_place items one found s.storage) _ _
+          (λ place. rest (overlaid_storage pattern place s.storage))
+          ∙ sym (with_bind (referred_place items one found s.storage)
+          (λ place. initialize items more (overlaid_storage pattern place s.storage)) done)
+          ∙ ap (λ o. step_with (evaluation_of o >>= (λ it. referred_place items one it s.storage >>= (λ place.
+          initialize items more (overlaid_storage (named_pattern (seen_through one it)) place s.storage)))) done)
+          (sym named)
 
   -- the occurrence of a condition name's item takes the value
   one_set : (one : Reference) (code : List DataInstruction) (is : IsSetCode items tables one code) (s : Scratch)
@@ -99,10 +104,10 @@ module _ (items : List LocatedItem) (tables : DataTables) (order : IsTables tabl
       { places = record { item = index; offset = found.item.offset; length = found.item.item.length } ∷ s.places })
       ∙ ap (λ step. go_on step (works tables last)) (subscripts_works items tables order found.item.dimensions
       one.subscripts subscripts each index found.item.item.length found.item.offset s)
-      ∙ go_with behind (λ more. Continues (at more)) (works tables last)
+      ∙ go_with behind (λ more. Continues (stands more)) (works tables last)
       ∙ with_same behind _ _ (λ more.
-      nothing_more items tables order (work tables (i.Overlay text) (at more))
-      ∙ overlay_works (set_pattern found) text has (at more)
+      nothing_more tables (work tables (i.Overlay text) (stands more))
+      ∙ overlay_works (set_pattern found) text has (stands more)
       ∙ ap (λ o. step_at o (λ it. laid_over (set_pattern found)
       (item_place (shortened_item it found.item.item.length) (found.item.offset + more)) s)) entry)
       ∙ sym
@@ -114,10 +119,8 @@ module _ (items : List LocatedItem) (tables : DataTables) (order : IsTables tabl
       behind : Evaluation ℕ
       behind = tree.bytes_before items found.item.dimensions one.subscripts s.storage
 
-      at : ℕ → Scratch
-      at more = record s {
-        places = record { item = index; offset = found.item.offset + more; length = found.item.item.length } ∷ s.places;
-      }
+      stands : ℕ → Scratch
+      stands more = at index found.item.item.length (found.item.offset + more) s
 
   pub set_works : (conditions : List Reference) (code : List DataInstruction) → AreSetCode items tables conditions code
       → (s : Scratch)
@@ -231,7 +234,7 @@ module _ (items : List LocatedItem) (tables : DataTables) (order : IsTables tabl
       (λ text. append_step (delimited_characters (part_of s.storage next) text) s))
   up_works (operand.Literal one) code (text, has, is) next s below =
       ap (λ c. works tables c s) is
-      ∙ nothing_more items tables order (work tables (i.Gather (g.TextUpToPlace text)) s)
+      ∙ nothing_more tables (work tables (i.Gather (g.TextUpToPlace text)) s)
       ∙ ap (λ o. step_at o (λ bytes. step_at (newest_place tables s.places)
       (λ next. append_step (delimited_characters (part_of s.storage next) bytes) s))) has
       ∙ ap (λ o.
@@ -263,38 +266,36 @@ module _ (items : List LocatedItem) (tables : DataTables) (order : IsTables tabl
   delimiter_works delimiter code r senders parts are s =
       works_append tables code later s
       ∙ ap (λ step. go_on step (works tables later)) (reference_works items tables order delimiter code r s)
-      ∙ go_with behind (λ more. Continues (at more)) (works tables later)
-      ∙ with_same behind _ _ below
-      ∙ sym (with_bind behind (λ more. Ok (place_after r.found more)) puts)
-      ∙ ap (λ o. step_with (evaluation_of o >>= (λ found. occurrence items delimiter.subscripts found s.storage)) puts)
-      (sym r.has.named)
+      ∙ go_with there (λ place. Continues (stands place)) (works tables later)
+      ∙ with_known there _ _ below
+      ∙ ap (λ o. step_with (evaluation_of o >>= (λ found. referred_place items delimiter found s.storage)) puts)
+      (sym r.named)
     where
       later : List DataInstruction
       later = parts ++ (i.DropPlace ∷ [])
 
-      behind : Evaluation ℕ
-      behind = tree.bytes_before items r.found.dimensions delimiter.subscripts s.storage
+      there : Evaluation ItemPlace
+      there = referred_place items delimiter r.found s.storage
 
-      at : ℕ → Scratch
-      at more = record s {
-        places = record { item = r.index; offset = r.found.offset + more; length = r.found.item.length } ∷ s.places;
-      }
+      stands : ItemPlace → Scratch
+      stands place = at r.index place.item.length place.offset s
 
       puts : ItemPlace → Step
       puts place = step_with (texts_of items senders s.storage)
           (λ texts. append_step (sent_of_each (Some (part_of s.storage place)) texts) s)
 
-      below : (more : ℕ) → works tables later (at more) ≡ puts (place_after r.found more)
-      below more =
-          let bytes : List ℕ = part_of s.storage (place_after r.found more) in
-          works_append tables parts (i.DropPlace ∷ []) (at more)
+      below : (place : ItemPlace) → there ≡ Ok place → works tables later (stands place) ≡ puts place
+      below place is =
+          let bytes : List ℕ = part_of s.storage place in
+          works_append tables parts (i.DropPlace ∷ []) (stands place)
           ∙ ap (λ step. go_on step (works tables (i.DropPlace ∷ [])))
-          (each_up senders parts are (place_after r.found more) bytes (at more) (ap (place_at
-          (record { item = r.index; offset = r.found.offset + more; length = r.found.item.length })) r.has.entry) refl)
+          (each_up senders parts are place bytes (stands place) (ap (place_at
+          (record { item = r.index; offset = place.offset; length = place.item.length })) r.entry
+          ∙ ap Some (place_shown items tables order delimiter code r s.storage place is)) refl)
           ∙ go_with (texts_of items senders s.storage)
-          (λ texts. append_step (sent_of_each (Some bytes) texts) (at more)) (works tables (i.DropPlace ∷ []))
+          (λ texts. append_step (sent_of_each (Some bytes) texts) (stands place)) (works tables (i.DropPlace ∷ []))
           ∙ with_same (texts_of items senders s.storage) _ _ (λ texts. ap (λ o. go_on (step_at o (λ one.
-          Continues (record s { line = s.line ++ sent_of_each (Some bytes) texts }))) (works tables [])) r.has.entry)
+          Continues (record s { line = s.line ++ sent_of_each (Some bytes) texts }))) (works tables [])) r.entry)
 
   sending_by : (senders : List Operand) (delimiter : Option Operand) (code : List DataInstruction)
       → IsSendingBy items tables senders delimiter code → (s : Scratch)
@@ -354,30 +355,28 @@ module _ (items : List LocatedItem) (tables : DataTables) (order : IsTables tabl
       (pointer_of items pointer s.storage) (λ at. step_with (put_text place at.0 at.1 s.line s.storage) (finished s)))
   put_works receiver front r None back is s = taking_works items tables order (i.String false) (strung_to None 1)
       (λ t. refl) receiver (front ++ back) (front, r, ap (λ b. front ++ b) is) s
-  put_works receiver front r (Some pointer) back is s =
+  put_works receiver front r (Some pointer) back is_back s =
       works_append tables front back s
       ∙ ap (λ step. go_on step (works tables back)) (reference_works items tables order receiver front r s)
-      ∙ go_with behind (λ more. Continues (at more)) (works tables back)
-      ∙ with_same behind _ _ (λ more.
+      ∙ go_with there (λ place. Continues (stands place)) (works tables back)
+      ∙ with_known there _ _ (λ to is.
       taking_works items tables order (i.String true) (λ place t. step_with (held_position t.storage place)
-      (λ n. at_place tables (strung_to (Some place) n) t)) (λ t. refl) pointer back is (at more)
+      (λ n. at_place tables (strung_to (Some place) n) t)) (λ t. refl) pointer back is_back (stands to)
       ∙ with_same (place_of items pointer s.storage) _ _ (λ place.
       with_same (held_position s.storage place) _ _ (λ n. ap (λ o. step_at o (λ one. strung_to (Some place) n
-      (item_place (shortened_item one r.found.item.length) (r.found.offset + more)) s)) r.has.entry)
-      ∙ sym (with_bind (held_position s.storage place) (λ n. Ok (Some place, n)) (put (place_after r.found more))))
+      (item_place (shortened_item one to.item.length) to.offset) s)) r.entry
+      ∙ ap (λ p. strung_to (Some place) n p s) (place_shown items tables order receiver front r s.storage to is))
+      ∙ sym (with_bind (held_position s.storage place) (λ n. Ok (Some place, n)) (put to)))
       ∙ sym (with_bind (place_of items pointer s.storage)
-      (λ place. held_position s.storage place >>= (λ n. Ok (Some place, n))) (put (place_after r.found more))))
-      ∙ sym (with_bind behind (λ more. Ok (place_after r.found more)) puts)
-      ∙ ap (λ o. step_with (evaluation_of o >>= (λ found. occurrence items receiver.subscripts found s.storage)) puts)
-      (sym r.has.named)
+      (λ place. held_position s.storage place >>= (λ n. Ok (Some place, n))) (put to)))
+      ∙ ap (λ o. step_with (evaluation_of o >>= (λ found. referred_place items receiver found s.storage)) puts)
+      (sym r.named)
     where
-      behind : Evaluation ℕ
-      behind = tree.bytes_before items r.found.dimensions receiver.subscripts s.storage
+      there : Evaluation ItemPlace
+      there = referred_place items receiver r.found s.storage
 
-      at : ℕ → Scratch
-      at more = record s {
-        places = record { item = r.index; offset = r.found.offset + more; length = r.found.item.length } ∷ s.places;
-      }
+      stands : ItemPlace → Scratch
+      stands place = at r.index place.item.length place.offset s
 
       put : ItemPlace → Option ItemPlace × ℕ → Step
       put place at = step_with (put_text place at.0 at.1 s.line s.storage) (finished s)

@@ -11,6 +11,7 @@ use Rattle.source_tree.specs.declared.arithmetic.DivisionOrder.{DivisionOrder}
 use Rattle.source_tree.specs.declared.arithmetic.DivisionOrder.TheVariants.{Into, By}
 use Rattle.source_tree.specs.declared.arithmetic.Operation.{Operation}
 use Rattle.source_tree.specs.declared.arithmetic.Operation.TheVariants.{Add, AddGiving, Subtract, SubtractGiving, Multiply, MultiplyGiving, Divide, DivideGiving, DivideRemainder, Compute}
+use Rattle.source_tree.specs.Parts.{seen_through}
 use Rattle.source_tree.specs.Places.{LocatedItem}
 use Rattle.source_tree.specs.LookUp.{items_named, first}
 use Rattle.source_tree.specs.Evaluated.{◌>>=◌}
@@ -93,7 +94,7 @@ module _ (items : List LocatedItem) (tables : DataTables) where
   abbrev pub HasScale : Reference → ℕ → Type 0
   HasScale reference scale =
       (found : LocatedItem) × (first (items_named items reference.item) ≡ Some found)
-      × (to : NumberReceiver) × (receiver_of found.item.kind found.editing ≡ Some to) × (to.scale ≡ scale)
+      × (to : NumberReceiver) × (receiver_of (seen_through reference found).item.kind (seen_through reference found).editing ≡ Some to) × (to.scale ≡ scale)
 
   -- `keep`: there is an ON SIZE ERROR phrase.
   module _ (keep : Bool) where

@@ -2,6 +2,7 @@
 use Rattle.std.specs.Prelude.{◌≡◌, ℕ, true, List, [], ◌∷◌, Option, Some}
 use Rattle.items.specs.declared.taken.Taken.{Taken}
 use Rattle.items.specs.declared.taken.Taken.TheVariants as taken
+use Rattle.source_tree.specs.declared.reference.Part.{Part}
 use Rattle.source_tree.specs.declared.reference.Reference.{Reference}
 use Rattle.source_tree.specs.declared.expression.Operand.{Operand}
 use Rattle.source_tree.specs.declared.expression.Operand.TheVariants as operand
@@ -9,12 +10,14 @@ use Rattle.source_tree.specs.declared.table.Dimension.{Dimension}
 use Rattle.source_tree.specs.LookUp.{items_named, first}
 use Rattle.source_tree.specs.Literals.{literal_sender}
 use Rattle.source_tree.specs.MoveRules.{may_move}
+use Rattle.source_tree.specs.Parts.{seen_by, seen_through}
 use Rattle.source_tree.specs.Places.{LocatedItem}
 use Rattle.data_instructions.specs.declared.tables.DataTables.{DataTables}
 use Rattle.data_instructions.specs.declared.instruction.DataInstruction.{DataInstruction}
 use Rattle.data_instructions.specs.declared.shape.Shape.{Shape}
 use Rattle.data_instructions.specs.Tables.{Lies}
-use Rattle.data_instructions.specs.Shapes.{and_then, last_reach, effect, shape_after_accept, shape_after_date}
+use Rattle.data_instructions.specs.Shapes.{and_then, last_reach, part_reach, effect, shape_after_accept, shape_after_date}
+use Rattle.data_instructions.specs.PartForms.{PartForm, OfLength, part_form, first_offset}
 use Rattle.data_instructions.specs.Codes.{data_item}
 
 -- what is known after instructions, one after the other
@@ -31,6 +34,17 @@ greatest offset (one ∷ more) = greatest (last_reach offset one.stride one.coun
 abbrev pub LiesWhole : DataTables → LocatedItem → Type 0
 LiesWhole tables one = Lies tables.areas (data_item one) (greatest one.offset one.dimensions)
 
+-- how far a part begins from its area's begin at most, by the greatest offset of its place
+abbrev pub part_end : ℕ → ℕ → PartForm → ℕ → ℕ
+part_end size length (OfLength first) reach = part_reach reach size length
+part_end size length _ reach = reach
+
+-- the greatest offset of an item, or of its part
+abbrev pub last_begin : LocatedItem → Option Part → ℕ
+last_begin found part =
+    part_end found.item.length (seen_by part found).item.length (part_form found.item.length part)
+    (greatest (first_offset found part) found.dimensions)
+
 module _ (items : List LocatedItem) (tables : DataTables) where
   -- so it is of the item that a reference names
   abbrev pub LiesAll : Reference → Type 0
@@ -43,12 +57,12 @@ module _ (items : List LocatedItem) (tables : DataTables) where
 
   -- what a sender counts as
   abbrev pub SendsAs : Operand → Taken → Type 0
-  SendsAs (operand.Item reference) sent = LiesAll reference × ((found : LocatedItem) → first (items_named items reference.item) ≡ Some found → taken.Item found.item ≡ sent)
+  SendsAs (operand.Item reference) sent = LiesAll reference × ((found : LocatedItem) → first (items_named items reference.item) ≡ Some found → taken.Item (seen_through reference found).item ≡ sent)
   SendsAs (operand.Literal literal) sent = (literal_sender literal.value).taken ≡ sent
 
   -- the move to the item of a reference is permitted
   abbrev pub MayReceive : Taken → Reference → Type 0
-  MayReceive sent reference = LiesAll reference × ((found : LocatedItem) → first (items_named items reference.item) ≡ Some found → may_move sent found.item ≡ true)
+  MayReceive sent reference = LiesAll reference × ((found : LocatedItem) → first (items_named items reference.item) ≡ Some found → may_move sent (seen_through reference found).item ≡ true)
 
   abbrev pub MayReceiveEach : Taken → List Reference → Type 0
   MayReceiveEach sent [] = Unit {0}

@@ -27,7 +27,9 @@ use Rattle.data_instructions.specs.declared.tables.DataTables.{DataTables}
 use Rattle.data_instructions.specs.declared.calculation.Calculation.TheVariants as c
 use Rattle.data_instructions.specs.declared.instruction.DataInstruction.{DataInstruction}
 use Rattle.data_instructions.specs.declared.instruction.DataInstruction.TheVariants as i
+use Rattle.data_instructions.specs.declared.part.Part.TheVariants as part
 use Rattle.data_instructions.specs.Tables.{sender_of}
+use Rattle.data_instructions.specs.PartForms.{PartForm, Whole, Settled, OfLength, Counted, Rest, part_form, part_entry}
 use Rattle.data_instructions.specs.Scratch.{Scratch, Step, Continues, Faulted, Stuck}
 use Rattle.data_instructions.specs.Table.{work}
 
@@ -82,14 +84,27 @@ module _ (items : List LocatedItem) (tables : DataTables) where
       (front : List DataInstruction) × IsSubscriptCode written front × (back : List DataInstruction) × AreSubscriptsCode more others back
       × (code ≡ front ++ (index_code one ∷ back))
 
-  -- The place of a reference comes on the stack of places.
+  -- A part of the newest place, whose item has so many bytes, comes in that place.
+  abbrev pub IsPartCode : ℕ → PartForm → List DataInstruction → Type 0
+  IsPartCode size Whole code = code ≡ []
+  IsPartCode size (Settled before) code = code ≡ []
+  IsPartCode size (OfLength first) code = (front : List DataInstruction) × IsSubscriptCode first front × (code ≡ front ++ (i.Part (part.Fixed size) ∷ []))
+  IsPartCode size (Counted first length) code =
+      (front : List DataInstruction) × IsSubscriptCode first front × (back : List DataInstruction) × IsSubscriptCode length back
+      × (code ≡ front ++ (back ++ (i.Part part.Counted ∷ [])))
+  IsPartCode size (Rest first) code = (front : List DataInstruction) × IsSubscriptCode first front × (code ≡ front ++ (i.Part part.Rest ∷ []))
+
+  -- The place of a reference comes on the stack of places. The table has an entry for its item, or for its part.
   pub record IsReferenceCode (reference : Reference) (code : List DataInstruction) : Type 0 where
     pub index : ItemIndex
     pub found : LocatedItem
-    pub has : HasItem reference.item index found
+    pub named : first (items_named items reference.item) ≡ Some found
+    pub entry : slice_get tables.items index.number ≡ Some (part_entry found reference.part)
     pub subscripts : List DataInstruction
     pub each : AreSubscriptsCode found.dimensions reference.subscripts subscripts
-    pub is : code ≡ i.Place index ∷ subscripts
+    pub making : List DataInstruction
+    pub makes : IsPartCode found.item.length (part_form found.item.length reference.part) making
+    pub is : code ≡ i.Place index ∷ (subscripts ++ making)
 
   -- a reference, and an instruction that takes its place
   abbrev pub IsTakingCode : DataInstruction → Reference → List DataInstruction → Type 0

@@ -31,7 +31,7 @@ use Rattle.data_instructions.specs.Tables.{sender_of}
 use Rattle.data_instructions.specs.Scratch.{Scratch, Continues, step_with}
 use Rattle.data_instructions.specs.Codes.{works, data_item, IsTakingCode, IsSenderCode, AreSubscriptsCode}
 use Rattle.data_instructions.specs.Chains.{effects, LiesWhole}
-use Rattle.data_instructions.specs.ArithmeticCodes.{Computes, PushesNumber, IsNumberCode, LiesOperand}
+use Rattle.data_instructions.specs.ArithmeticCodes.{Computes, PushesNumber, IsNumberCode}
 
 -- The truth is what a condition says of storage, or its fault ends the code. What is taken as the sender is left open; all else stays.
 pub record DecidesCondition (tables : DataTables) (value : ConditionValue) (code : List DataInstruction) (s : Scratch) : Type 0 where

@@ -1,11 +1,13 @@
 pub mod Faults
 pub mod Tables
 pub mod Scratch
+pub mod Parts
 pub mod Table
 pub mod Shapes
 pub mod Fits
 pub mod Naming
 pub mod Joining
+pub mod PartForms
 pub mod Codes
 pub mod Statements
 pub mod Chains

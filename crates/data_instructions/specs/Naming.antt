@@ -38,5 +38,6 @@ NamesEntries tables i.Append = Unit {0}
 NamesEntries tables (i.Overlay text) = text.number + 1 < length tables.texts
 NamesEntries tables i.DropPlace = Unit {0}
 NamesEntries tables (i.Gather one) = GathersEntries tables one
+NamesEntries tables (i.Part one) = Unit {0}
 NamesEntries tables (i.String pointer) = Unit {0}
 NamesEntries tables (i.Inspect inspection) = inspection.number < length tables.inspections

@@ -6,6 +6,7 @@ use Rattle.source_tree.specs.declared.expression.Operand.TheVariants as operand
 use Rattle.source_tree.specs.declared.string_statement.Sending.{Sending}
 use Rattle.source_tree.specs.declared.string_statement.StringStatement.{StringStatement}
 use Rattle.source_tree.specs.Display.{shown_literal}
+use Rattle.source_tree.specs.Parts.{seen_through}
 use Rattle.source_tree.specs.Places.{LocatedItem}
 use Rattle.source_tree.specs.LookUp.{NamedCondition, items_named, conditions_named, first}
 use Rattle.source_tree.specs.Initializing.{Pattern, named_pattern, set_pattern, initialize, storage_after_set}
@@ -44,7 +45,7 @@ module _ (items : List LocatedItem) (tables : DataTables) where
   abbrev pub IsInitializeCode : Reference → List DataInstruction → Type 0
   IsInitializeCode one code =
       (found : LocatedItem) × (first (items_named items one.item) ≡ Some found)
-      × (text : TextIndex) × HasPattern tables (named_pattern found) text × IsTakingCode items tables (i.Overlay text) one code
+      × (text : TextIndex) × HasPattern tables (named_pattern (seen_through one found)) text × IsTakingCode items tables (i.Overlay text) one code
 
   abbrev pub AreInitializedCode : List Reference → List DataInstruction → Type 0
   AreInitializedCode [] code = code ≡ []

@@ -10,6 +10,7 @@ use crate::calculation::Calculation;
 use crate::gather::Gather;
 use crate::index::{InspectionIndex, ItemIndex, TextIndex};
 use crate::instruction::DataInstruction;
+use crate::part::Part;
 use crate::shape::{PlaceShape, Shape, Stacks};
 use crate::tables::{DataItem, DataTables, Inspection};
 use crate::test::Test;
@@ -114,16 +115,33 @@ fn shown_length(item: Item) -> usize
     }
 }
 
+/// So many bytes behind a reach, if the item's bytes then lie in its area.
+fn further_reach(tables: &DataTables, one: &DataItem, reach: usize, more: usize) -> Option<usize>
+    ensures { result ≡ spec.and_then (spec.reaches tables.now (reach + more) one.now)
+        (λ area. Some (reach + more)) }
+{
+    let area = tables.areas.get(one.area as usize)?.len();
+    let reach = reach.checked_add(more)?;
+    let end = reach.checked_add(one.item.length as usize)?;
+    if end <= area { Some(reach) } else { None }
+}
+
 /// How far a place with a subscript can reach, if its bytes then lie in its area.
 fn last_reach(tables: &DataTables, place: PlaceShape, stride: u32, count: u32) -> Option<usize>
     ensures { result ≡ spec.reach_after tables.now stride count place }
 {
     let one = item(tables, place.item)?;
-    let area = tables.areas.get(one.area as usize)?.len();
     let last = count.saturating_sub(1) as usize * stride as usize;
-    let reach = place.reach.checked_add(last)?;
-    let end = reach.checked_add(one.item.length as usize)?;
-    if end <= area { Some(reach) } else { None }
+    further_reach(tables, one, place.reach, last)
+}
+
+/// How far a part with its item's length can reach, if so many bytes lie in its area.
+fn part_reach(tables: &DataTables, place: PlaceShape, size: u32) -> Option<usize>
+    ensures { result ≡ spec.part_reach_after tables.now size place }
+{
+    let one = item(tables, place.item)?;
+    let more = size.saturating_sub(one.item.length) as usize;
+    further_reach(tables, one, place.reach, more)
 }
 
 /// So many numbers less.
@@ -206,6 +224,68 @@ fn indexing(
         reach,
     })?;
     Ok(Some(Stacks { numbers, places }))
+}
+
+/// The newest place as one of a part with its item's length.
+fn fixing(tables: &DataTables, size: u32, stacks: Stacks) -> Result<Option<Stacks>, AllocError>
+    ensures { IfOk result (λ after. after
+        ≡ spec.with_place (spec.stacks_with_fixed_part tables.now size) stacks.places stacks) }
+{
+    let Stacks {
+        numbers,
+        mut places,
+    } = stacks;
+    let Some(place) = places.pop() else {
+        return Ok(None);
+    };
+    let Some(reach) = part_reach(tables, place, size) else {
+        return Ok(None);
+    };
+    places.push(PlaceShape {
+        item: place.item,
+        reach,
+    })?;
+    Ok(Some(Stacks { numbers, places }))
+}
+
+/// An item of any number of characters, and no edited one.
+fn has_any_length(kind: Kind) -> bool
+    ensures { result ≡ spec.has_any_length kind }
+{
+    matches!(kind, Kind::Alphabetic { .. } | Kind::Alphanumeric { .. })
+}
+
+/// The stacks, where the newest place is one of such an item.
+fn with_text_place(tables: &DataTables, stacks: Stacks) -> Option<Stacks>
+    ensures { result ≡ spec.with_text_place tables.now stacks }
+{
+    let one = item_at(tables, stacks.places.newest())?;
+    if has_any_length(one.item.kind) {
+        Some(stacks)
+    } else {
+        None
+    }
+}
+
+/// The stacks after a part was made of the newest place.
+fn stacks_parted(
+    tables: &DataTables,
+    one: Part,
+    stacks: Stacks,
+) -> Result<Option<Stacks>, AllocError>
+    ensures { IfOk result (λ after. after ≡ spec.stacks_parted tables.now one stacks) }
+{
+    let taken = match one {
+        Part::Counted => 2,
+        Part::Fixed { .. } | Part::Rest => 1,
+    };
+    let Some(rest) = without(taken, stacks) else {
+        return Ok(None);
+    };
+    match one {
+        Part::Fixed { size } => fixing(tables, size, rest),
+        Part::Counted | Part::Rest => Ok(with_text_place(tables, rest)),
+    }
 }
 
 /// Takes the newest place.
@@ -397,6 +477,7 @@ fn stacks_after(
         | DataInstruction::DropPlace => Ok(without_place(stacks)),
         DataInstruction::Overlay { text } => { Ok(stacks_overlaid(tables, text, stacks)) }
         DataInstruction::Gather(one) => Ok(stacks_gathered(tables, one, stacks)),
+        DataInstruction::Part(one) => stacks_parted(tables, one, stacks),
         DataInstruction::String { pointer } => Ok(without_receiver(pointer, stacks)),
         DataInstruction::Inspect { inspection } => {
             Ok(stacks_inspected(tables, inspection, stacks))

@@ -12,6 +12,8 @@ pub enum ProgramFault {
     Data,
     /// A subscript out of its range.
     Subscript,
+    /// A part that isn't within its item.
+    Part,
     /// A file status from 10 on that nothing in the program takes.
     FileStatus,
 }
@@ -22,6 +24,8 @@ const SUBSCRIPT: u8 = 91;
 
 const FILE_STATUS: u8 = 92;
 
+const PART: u8 = 93;
+
 impl ProgramFault {
     /// The number that the product answers.
     pub fn number(self) -> u8
@@ -30,6 +34,7 @@ impl ProgramFault {
         match self {
             ProgramFault::Data => DATA,
             ProgramFault::Subscript => SUBSCRIPT,
+            ProgramFault::Part => PART,
             ProgramFault::FileStatus => FILE_STATUS,
         }
     }

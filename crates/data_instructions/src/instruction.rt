@@ -3,6 +3,7 @@
 use crate::calculation::Calculation;
 use crate::gather::Gather;
 use crate::index::{InspectionIndex, ItemIndex, NumberIndex, SenderIndex, TextIndex};
+use crate::part::Part;
 use crate::test::Test;
 use std::mem::size_of;
 
@@ -49,6 +50,8 @@ pub enum DataInstruction {
     DropPlace,
     /// Adds part of a text to the line.
     Gather(Gather),
+    /// Makes a part of the newest place.
+    Part(Part),
     /// Takes the pointer's place, if there is one, and the receiver's, and puts the line into the receiver as STRING does
     /// (COBOL-85, Nucleus, "The STRING statement"). The truth is whether there was an overflow, and the line is empty then.
     /// Fault 90 where the pointer holds no integer.

@@ -1,15 +1,16 @@
 //! What holds of each instruction.
 
-ghost use Rattle.std.specs.Prelude.{◌≡◌, ◌++◌, ℕ, Bool, List, [], ◌∷◌, Some};
-ghost use Rattle.data_instructions.specs.Tables.{IsTables};
+ghost use Rattle.std.specs.Prelude.{◌≡◌, ◌++◌, ℕ, Bool, List, [], ◌∷◌, Option, Some};
+ghost use Rattle.data_instructions.specs.PartForms.{part_entry};
+ghost use Rattle.data_instructions.specs.Tables.{IsTables, IsDataItem};
 ghost use Rattle.data_instructions.specs.Scratch.{Scratch, initial_scratch};
 ghost use Rattle.data_instructions.specs.Table as table;
 ghost use Rattle.data_instructions.specs.Shapes as spec;
 ghost use Rattle.data_instructions.specs.Shapes.{Covers};
 ghost use Rattle.data_instructions.specs.Fits.{FitsShape, Safe};
-ghost use Rattle.data_instructions.specs.Codes.{go_on, works, IsReferenceCode, IsMoveCode, IsDisplayCode};
+ghost use Rattle.data_instructions.specs.Codes.{go_on, works, data_item, IsReferenceCode, IsMoveCode, IsDisplayCode};
 ghost use Rattle.data_instructions.specs.Statements.{FindsPlace, DoesMove, DoesDisplay, DoesAccept, DoesDate};
-ghost use Rattle.data_instructions.specs.Chains.{effects, LiesAll, ShowsAll, SendsAs, MayReceive, MayReceiveEach, KnowsMove, KnowsDisplay, KnowsAccept, KnowsDate};
+ghost use Rattle.data_instructions.specs.Chains.{effects, LiesWhole, LiesAll, ShowsAll, SendsAs, MayReceive, MayReceiveEach, KnowsMove, KnowsDisplay, KnowsAccept, KnowsDate};
 ghost use Rattle.data_instructions.specs.ArithmeticCodes.{operator_code, negated_value, value_and_then, operation_and_then, Computes, ComputesOn, PushesNumber, StaysOver, IsValueCode, IsArithmeticCode, DoesArithmetic, LiesOperand, LiesOperation, KnowsArithmetic};
 ghost use Rattle.data_instructions.specs.ConditionCodes.{Decides, KnowsTest, IsPairCode, AreNumbersCode, IsSignCode, IsClassCode, IsNameCode, LiesCondition, pair_truth, numbers_truth, sign_truth, class_truth};
 ghost use Rattle.items.specs.declared.taken.Taken.{Taken};
@@ -17,6 +18,7 @@ ghost use Rattle.source_tree.specs.Accepting.{date_sender};
 ghost use Rattle.source_tree.specs.Places.{LocatedItem};
 ghost use Rattle.source_tree.specs.Computed.{ArithmeticValue, ExpressionValue, operand_value};
 ghost use Rattle.source_tree.specs.Conditions.{name_holds};
+ghost use Rattle.source_tree.specs.declared.reference.Part.{Part};
 ghost use Rattle.source_tree.specs.declared.reference.Reference.{Reference};
 ghost use Rattle.source_tree.specs.declared.expression.Operand.{Operand};
 ghost use Rattle.source_tree.specs.declared.expression.Operator.{Operator};
@@ -112,7 +114,7 @@ pub fn expression_law()
 {}
 
 /// The same code finds what it needs and leaves the stacks as they were, where each occurrence of an item lies in its area and a
-/// move is permitted: so straight code meets what `effect` demands, statement by statement.
+/// move is permitted: so straight code meets what `effect` demands, statement by statement. The entry of a part of such an item is in order.
 pub fn shape_law()
     ensures chain { (tables : DataTables) (a b : List DataInstruction) (s : Shape)
         → effects tables (a ++ b) s ≡ spec.and_then (effects tables a s) (effects tables b) }
@@ -133,6 +135,9 @@ pub fn shape_law()
     ensures calculates { (items : List LocatedItem) (tables : DataTables) (keep : Bool) (one :
         Operation) (code : List DataInstruction) → IsArithmeticCode items tables keep one code
         → LiesOperation items tables one → KnowsArithmetic tables code }
+    ensures parts { (tables : DataTables) (found : LocatedItem) (part : Option Part)
+        → IsDataItem tables.areas (data_item found) → LiesWhole tables found
+        → IsDataItem tables.areas (part_entry found part) }
 {}
 
 /// The code of conditions without AND and OR does what they mean, and leaves the stacks as they were.

@@ -6,6 +6,7 @@ ghost use Rattle.data_instructions.specs.Chains.{KnowsDisplay};
 ghost use Rattle.data_instructions.specs.TextCodes.{AreInitializedCode, AreSetCode, AreSendingsCode, IsStringCode, DoesInitialize, DoesSet, DoesSend, DoesString, LieEach, LieConditions, LieSendings, LiesString, KnowsAll, KnowsString};
 ghost use Rattle.data_instructions.specs.InspectCodes.{IsInspectCode, DoesInspect, LiesInspect, KnowsInspect};
 ghost use Rattle.source_tree.specs.declared.inspect_statement.InspectStatement.{InspectStatement};
+ghost use Rattle.source_tree.specs.InspectLayout.{HasKnownTexts};
 ghost use Rattle.source_tree.specs.Places.{LocatedItem};
 ghost use Rattle.source_tree.specs.declared.reference.Reference.{Reference};
 ghost use Rattle.source_tree.specs.declared.statement.Statement.{Statement};
@@ -15,7 +16,8 @@ ghost use Rattle.data_instructions.specs.declared.tables.DataTables.{DataTables}
 ghost use Rattle.data_instructions.specs.declared.instruction.DataInstruction.{DataInstruction};
 
 /// The code of INITIALIZE, SET, STRING, up to its phrases, and INSPECT does what they mean, from whatever stands on the stacks, faults too;
-/// and it leaves the stacks as they were, where each occurrence of what is named lies in its area.
+/// and it leaves the stacks as they were, where each occurrence of what is named lies in its area. The size of each text of an INSPECT is
+/// known before a run.
 pub fn text_law()
     ensures initializes { (items : List LocatedItem)
         (tables : DataTables) (receivers : List Reference) (code : List DataInstruction)
@@ -31,8 +33,8 @@ pub fn text_law()
         (one : StringStatement Statement) (code : List DataInstruction) → IsTables tables
         → IsStringCode items tables one code → DoesString items tables one code }
     ensures inspects { (items : List LocatedItem) (tables : DataTables) (one : InspectStatement)
-        (code : List DataInstruction) → IsTables tables → IsInspectCode items tables one code
-        → DoesInspect items tables one code }
+        (code : List DataInstruction) → IsTables tables → HasKnownTexts items one
+        → IsInspectCode items tables one code → DoesInspect items tables one code }
     ensures knows_initialize { (items : List LocatedItem)
         (tables : DataTables) (receivers : List Reference) (code : List DataInstruction)
         → AreInitializedCode items tables receivers code → LieEach items tables receivers

@@ -2,7 +2,8 @@
 use crate::asserted::holds;
 use crate::samples::{AB, CELL, D, E, I, N, ROW, TWELVE, X, tables};
 use data_instructions::{
-    DataInstruction, DataTables, ItemIndex, Shape, accepting, dating, effect, showing,
+    DataInstruction, DataTables, ItemIndex, NumberIndex, Part, Shape, accepting, dating, effect,
+    showing,
 };
 use std::alloc::Global;
 use std::process::Abort;
@@ -64,6 +65,29 @@ fn known_operands(rt: HostRuntime) {
     holds(&rt, is_sent(&rt, rt.alloc(), text, N));
     holds(&rt, is_sent(&rt, rt.alloc(), decimals, E));
     holds(&rt, !is_sent(&rt, rt.alloc(), decimals, X));
+}
+
+/// A part of an item, with two numbers on the stack.
+fn is_parted(rt: &impl Abort, alloc: Global, item: ItemIndex, part: Part) -> bool {
+    let tables = tables(rt, alloc);
+    let number = DataInstruction::Literal {
+        number: NumberIndex { number: 0 },
+    };
+    let place = DataInstruction::Place { item };
+    let code = [place, number, number, DataInstruction::Part(part)];
+    known(rt, &tables, &code, Shape::empty(alloc)).is_some()
+}
+
+/// X has the six bytes of its area, and I is a number of two digits.
+#[test]
+fn known_parts(rt: HostRuntime) {
+    holds(&rt, is_parted(&rt, rt.alloc(), X, Part::Fixed { size: 6 }));
+    holds(&rt, !is_parted(&rt, rt.alloc(), X, Part::Fixed { size: 7 }));
+    holds(&rt, is_parted(&rt, rt.alloc(), X, Part::Counted));
+    holds(&rt, is_parted(&rt, rt.alloc(), X, Part::Rest));
+    holds(&rt, is_parted(&rt, rt.alloc(), I, Part::Fixed { size: 2 }));
+    holds(&rt, !is_parted(&rt, rt.alloc(), I, Part::Counted));
+    holds(&rt, !is_parted(&rt, rt.alloc(), I, Part::Rest));
 }
 
 /// Two ways with two senders; a third with a place more.

@@ -7,6 +7,9 @@ pub mod Cutting
 pub mod Together
 pub mod OccursTogether
 pub mod OccursReady
+pub mod PartsTogether
+pub mod PartsReady
+pub mod Characters
 pub mod FusedIs
 pub mod ReadyTogether
 pub mod ReadyBehind

@@ -11,6 +11,7 @@ pub mod Subscripts
 pub mod Lines
 pub mod KeptNumbers
 pub mod KeptAtScale
+pub mod ItemParts
 pub mod Superinstructions
 pub mod FindsFirst
 pub mod Occurrences

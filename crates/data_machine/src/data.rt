@@ -149,6 +149,7 @@ impl Data {
             DataInstruction::Overlay { text } => self.overlay(tables, text),
             DataInstruction::DropPlace => self.drop_place(tables),
             DataInstruction::Gather(one) => self.gather(tables, one),
+            DataInstruction::Part(one) => self.part(tables, one),
             DataInstruction::String { pointer } => self.string(tables, pointer),
             DataInstruction::Inspect { inspection } => self.inspect(tables, inspection),
         }

@@ -1,61 +1,41 @@
 //! What operators make of numbers of 64 bits, and their order, where 64 bits are enough.
 
-ghost use Rattle.std.specs.Prelude.{◌≡◌, ◌≤◌, ◌^◌, pos, IfSome, Ok, Some};
+ghost use Rattle.std.specs.Prelude.{◌≡◌, ◌≤◌, pos, IfSome, Ok, Some};
 ghost use Rattle.decimal18.specs.Fraction.{aligned_coefficient};
 ghost use Rattle.decimal18.specs.Arithmetic.{sum, difference, product};
 ghost use Rattle.decimal18.specs.Order.{order};
 ghost use Rattle.source_tree.specs.Computed as computed;
 
 use crate::short::Short;
-use decimal18::Dec;
+use decimal18::{Dec, signed_power};
 use source_tree::Operator;
 use std::cmp::Ordering;
-
-/// Powers of ten in the table.
-const COUNT: usize = 19;
-
-static POWERS: [u64; COUNT] = [
-    1,
-    10,
-    100,
-    1_000,
-    10_000,
-    100_000,
-    1_000_000,
-    10_000_000,
-    100_000_000,
-    1_000_000_000,
-    10_000_000_000,
-    100_000_000_000,
-    1_000_000_000_000,
-    10_000_000_000_000,
-    100_000_000_000_000,
-    1_000_000_000_000_000,
-    10_000_000_000_000_000,
-    100_000_000_000_000_000,
-    1_000_000_000_000_000_000,
-];
 
 /// The greatest scale of a number.
 const MOST_SCALE: u8 = 18;
 
-/// 10 to an exponent of at most 18.
+/// What an operator makes of two numbers. No quotient is found here.
 #[inline(always)]
-pub(crate) fn power_of_ten(exponent: u8) -> u64
-    requires { exponent ≤ 18 }
-    ensures { result ≡ 10 ^ exponent }
+pub(crate) fn short_result(operator: Operator, left: Short, right: Short) -> Option<Short>
+    ensures { IfSome result (λ x. computed.operate operator (Some left) (Some right) ≡ Some x) }
 {
-    POWERS[exponent as usize]
+    match operator {
+        Operator::Add => short_sum(left, right),
+        Operator::Subtract => short_difference(left, right),
+        Operator::Multiply => short_product(left, right),
+        Operator::Divide => None,
+    }
 }
 
-/// The same with a sign.
+/// The order of a number and an integer.
 #[inline(always)]
-#[tactic(auto, using(decimal18::proofs::Powers::power_le))]
-fn signed_power(exponent: u8) -> i64
-    requires { exponent ≤ 18 }
-    ensures { result ≡ pos (10 ^ exponent) }
+pub(crate) fn integer_order(x: Short, integer: u32) -> Ordering
+    ensures { result ≡ order x (record { coefficient = pos integer; scale = 0 }) }
 {
-    power_of_ten(exponent) as i64
+    match aligned(Short::new(i64::from(integer), 0), x.scale()) {
+        Some(other) => x.coefficient().cmp(&other),
+        None => long_order(x.coefficient(), x.scale(), integer),
+    }
 }
 
 /// The coefficient of a number at a scale that is not less.
@@ -125,19 +105,6 @@ fn short_product(left: Short, right: Short) -> Option<Short>
     }
 }
 
-/// What an operator makes of two numbers. No quotient is found here.
-#[inline(always)]
-pub(crate) fn short_result(operator: Operator, left: Short, right: Short) -> Option<Short>
-    ensures { IfSome result (λ x. computed.operate operator (Some left) (Some right) ≡ Some x) }
-{
-    match operator {
-        Operator::Add => short_sum(left, right),
-        Operator::Subtract => short_difference(left, right),
-        Operator::Multiply => short_product(left, right),
-        Operator::Divide => None,
-    }
-}
-
 /// The order of a number and an integer, by decimals.
 #[cold]
 #[inline(never)]
@@ -147,15 +114,4 @@ fn long_order(coefficient: i64, scale: u8, integer: u32) -> Ordering
         (record { coefficient = pos integer; scale = 0 }) }
 {
     Dec::short(coefficient, scale).cmp(&Dec::short(i64::from(integer), 0))
-}
-
-/// The order of a number and an integer.
-#[inline(always)]
-pub(crate) fn integer_order(x: Short, integer: u32) -> Ordering
-    ensures { result ≡ order x (record { coefficient = pos integer; scale = 0 }) }
-{
-    match aligned(Short::new(i64::from(integer), 0), x.scale()) {
-        Some(other) => x.coefficient().cmp(&other),
-        None => long_order(x.coefficient(), x.scale(), integer),
-    }
 }

@@ -12,9 +12,9 @@ ghost use Rattle.data_machine.specs.Writing.{with_part};
 
 use crate::fitting::rounding;
 use crate::short::{Short, short_coefficient};
-use crate::short_arithmetic::{power_of_ten, short_result};
+use crate::short_arithmetic::short_result;
 use data_instructions::DataItem;
-use decimal18::{Dec, put_digits};
+use decimal18::{Dec, put_digits, short_power};
 use items::{Kind, Numeric, OperationalSign, Usage, number, store};
 use source_tree::Operator;
 
@@ -63,7 +63,7 @@ fn short_fitted(x: Short, digits: u8, scale: u8, rounded: bool) -> Option<i64>
     if x.scale() != scale {
         return rescaled(coefficient, x.scale(), digits, scale, rounded);
     }
-    if coefficient.unsigned_abs() < power_of_ten(digits) {
+    if coefficient.unsigned_abs() < short_power(digits) {
         Some(coefficient)
     } else {
         None

@@ -21,5 +21,6 @@ mod size_error;
 pub use decimal::Dec;
 pub use digit_run::number_after;
 pub use digit_text::put_digits;
+pub use power::{short_power, signed_power};
 pub use receiver::Rounding;
 pub use size_error::Size;

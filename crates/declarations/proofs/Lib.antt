@@ -13,3 +13,4 @@ pub mod ConditionItems
 pub mod ItemEntries
 pub mod EntryNumbers
 pub mod FilesFound
+pub mod Shown

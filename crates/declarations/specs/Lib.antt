@@ -6,6 +6,7 @@ pub mod Resolved
 pub mod Found
 pub mod FoundConditions
 pub mod FoundFiles
+pub mod Seen
 pub mod Selecting
 pub mod Declaring
 pub mod Entries

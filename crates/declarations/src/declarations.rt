@@ -5,6 +5,7 @@ ghost use Rattle.entry_rules.specs.Checks.{IsFirstFault};
 ghost use Rattle.source_tree.specs.EntryRules.{entry_rules};
 ghost use Rattle.source_tree.specs.FileRules.{program_file_rules};
 ghost use Rattle.source_tree.specs.LookUp.{items_named};
+ghost use Rattle.source_tree.specs.Parts.{items_referred};
 ghost use Rattle.source_tree.specs.PerformRules.{procedure_name_rules};
 ghost use Rattle.declarations.specs.Declaring.{declaration_rules, data_rules};
 ghost use Rattle.name_table.specs.Table.{calls_in};
@@ -12,15 +13,18 @@ ghost use Rattle.declarations.specs.Found.{AreDeclared, items_of};
 ghost use Rattle.declarations.specs.FoundFiles.{IsNumberedItem};
 ghost use Rattle.declarations.specs.Named as spec;
 ghost use Rattle.declarations.specs.Named.{Declares, IsDeclared, IsItemNamed, items_in};
+ghost use Rattle.declarations.specs.Seen.{IsItemShown};
 
 use crate::declared_items::{DeclaredItems, item_number};
+use crate::item_parts::item_seen;
 use crate::listed::{Procedure, listed_procedures};
 use crate::procedures::named_procedures;
 use entry_rules::{BrokenRule, CheckError};
 use file_descriptions::ProgramFiles;
+use items::Item;
 use layout::{Layout, PlacedItem};
 use name_table::{ConditionNames, NameTable, ProcedureNames, condition_names};
-use source_tree::{Entry, FileDescription, Program, QualifiedName, Select};
+use source_tree::{Entry, FileDescription, Program, QualifiedName, Reference, Select};
 use std::alloc::Global;
 
 /// What is declared in a program whose entries and files keep their rules: its SELECTs, FDs and entries of working storage, with the
@@ -96,6 +100,16 @@ impl<'a> Declarations<'a> {
     {
         let number = item_number(&self.names, name)?;
         Ok(&self.layout.items.as_slice()[number])
+    }
+
+    /// The item that a reference shows, which is its part if it has one: rule 40 where the name names nothing, 41 where it names several.
+    pub fn item_shown(&self, one: &Reference) -> Result<Item, BrokenRule>
+        requires { IsDeclared self.now }
+        ensures { IsItemShown one.now.item.name.place result
+            (items_referred (items_in self.now) one.now) }
+    {
+        let found = self.item_named(&one.item)?;
+        Ok(item_seen(&one.part, found.item))
     }
 
     /// The number of the item that a name names, and the item: rule 40 where there is none, 41 where there are several.

@@ -3,11 +3,13 @@
 ghost use Rattle.std.specs.Prelude.{◌≡◌, IfOk};
 ghost use Rattle.entry_rules.specs.Checks.{IsFirstBreach};
 ghost use Rattle.source_tree.specs.FileRules as spec;
+ghost use Rattle.source_tree.specs.NameRules as names;
 ghost use Rattle.source_tree.specs.ProgramFiles.{key_place};
 ghost use Rattle.declarations.specs.Found.{AreDeclared, items_of};
 ghost use Rattle.declarations.specs.Selecting as selecting;
 
 use crate::declared_items::DeclaredItems;
+use crate::item_parts::has_part;
 use crate::record_area::RecordArea;
 use entry_rules::{BrokenRule, Rule};
 use items::{Kind, Usage};
@@ -22,6 +24,13 @@ pub fn is_plain(reference: &Reference, one: &PlacedItem) -> bool
     ensures { result ≡ selecting.is_plain reference.now one.now }
 {
     reference.subscripts.as_slice().is_empty() && one.dimensions.as_slice().is_empty()
+}
+
+/// No part where none may be.
+pub fn no_part_rules(one: &Reference) -> Result<(), BrokenRule>
+    ensures { IsFirstBreach result (names.no_part_rules one.now) }
+{
+    Rule::Part.broken_if(has_part(one), one.item.name.place)
 }
 
 /// A group, an alphanumeric item, or an unsigned number in DISPLAY usage.
@@ -91,6 +100,7 @@ impl<'a> DeclaredItems<'a> {
     {
         let place = key.item.name.place;
         let found = self.item_named(&key.item)?;
+        no_part_rules(key)?;
         Rule::FileKey.broken_if(!is_key(there, before, key, found), place)?;
         let is_short = 1 <= found.item.length && found.item.length <= MOST_KEY_BYTES;
         Rule::Limit.broken_if(!is_short, place)?;
@@ -108,6 +118,7 @@ impl<'a> DeclaredItems<'a> {
             (spec.relative_item (selecting.described_of there.entry)) key.now) }
     {
         let found = self.item_named(&key.item)?;
+        no_part_rules(key)?;
         let is_number = is_plain(key, found)
             && is_unsigned_integer(found.item.kind)
             && found.area != there.area;
@@ -128,6 +139,7 @@ impl<'a> DeclaredItems<'a> {
             return Ok(());
         };
         let found = self.item_named(&one.item)?;
+        no_part_rules(one)?;
         let is_status = is_plain(one, found)
             && is_two_characters(found.item.kind, found.item.length)
             && found.area < areas;

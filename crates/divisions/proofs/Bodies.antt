@@ -177,6 +177,7 @@ no_verb (k.Picture characters) place given e = cc
 no_verb k.Period place given e = cc
 no_verb k.LeftParenthesis place given e = cc
 no_verb k.RightParenthesis place given e = cc
+no_verb k.Colon place given e = cc
 no_verb (k.Operator operator) place given e = cc
 
 pub name_begins_none : (given : Name) (i rest : List Token) → parts.name given i rest → begins_statement i ≡ false

@@ -13,8 +13,8 @@ use Rattle.grammar.proofs.Outcomes.{Reached, step, unstep, after}
 use Rattle.grammar.proofs.Looking.{word_begins, none_not, true_not_false, tests_tested}
 use Rattle.grammar.proofs.Lists.{Sound, Complete, several_starts}
 use Rattle.grammar.proofs.Parts.{period_sound, period_complete, heading_sound, heading_complete, telling_starts}
-use Rattle.data_division.proofs.Exact.Listed.{BeginsWith, heading_begins, unless_sound, unless_complete, listed_sound}
-use Rattle.data_division.proofs.Exact.Listed.{listed_complete}
+use Rattle.grammar.proofs.Listed.{BeginsWith, heading_begins, unless_sound, unless_complete, listed_sound}
+use Rattle.grammar.proofs.Listed.{listed_complete}
 use Rattle.file_control.proofs.Exact.Selects.{input_output_sound, input_output_complete}
 use Rattle.file_control.specs.Selects.{input_output_reader}
 use Rattle.divisions.specs.Environment as g

@@ -72,7 +72,7 @@ unfolding
     same_word read.after_word read.past_word read.expect read.left_out read.period read.heading_reader read.end_reader
     read.here read.one_token read.name
     read.several_from read.several read.any
-    literals.literal_reader subscripts.integer_reader subscripts.qualified_reader references.subscripts_reader
+    literals.literal_reader subscripts.integer_reader subscripts.qualified_reader references.after_name_reader
     references.reference_reader operands.literal_operand_reader operands.operand_reader
     display_rule.after_no_advancing display_rule.display_reader exiting_rule.exit_reader stop_run_rule.stop_run_reader
     performing_rule.perform_reader performing_rule.procedures_reader performing_rule.through_name_reader

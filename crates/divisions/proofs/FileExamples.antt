@@ -35,7 +35,7 @@ use Rattle.statements.specs.Filing as filing_rule
 use Rattle.statements.specs.Receivers as receivers_rule
 use Rattle.statements.specs.StopRun as stop_run_rule
 use Rattle.statements.specs.Reading as statements
-use Rattle.data_division.specs.Gathering as gathering
+use Rattle.grammar.specs.Gathering as gathering
 use Rattle.data_division.specs.Stated as stated
 use Rattle.data_division.specs.EntryReading as entries
 use Rattle.data_division.specs.Files as files
@@ -53,7 +53,7 @@ unfolding
     same_word read.after_word read.past_word read.expect read.skip read.presence_reader read.period read.heading_reader
     read.end_reader read.here read.one_token read.name
     read.several_from read.several read.any phrases.two_sided_reader phrases.phrase_reader
-    subscripts.integer_reader subscripts.qualified_reader references.subscripts_reader references.reference_reader
+    subscripts.integer_reader subscripts.qualified_reader references.after_name_reader references.reference_reader
     operands.item_reader operands.number_literal_reader operands.number_operand_reader
     receivers_rule.numbers_reader receivers_rule.receiver_reader receivers_rule.receivers_reader
     receivers_rule.receivers_alone_reader receivers_rule.target_reader
@@ -142,7 +142,7 @@ add = statement 13 16 (verb.Arithmetic (record {
     place = place 13 20;
   }) ∷ [])
       (record {
-        item = record { item = record { name = named 13 25 78; qualifiers = [] }; subscripts = [] };
+        item = record { item = record { name = named 13 25 78; qualifiers = [] }; subscripts = []; part = None };
         rounded = false;
       } ∷ []);
   phrases = neither;

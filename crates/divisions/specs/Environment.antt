@@ -10,7 +10,7 @@ use Rattle.source_tree.specs.declared.select.Select.{Select}
 use Rattle.grammar.specs.Parts.{Part, ◌then◌, ◌or◌, absence_of, some_of, several, lookahead, token_with, begins_telling, period, heading}
 use Rattle.grammar.specs.Reading as r
 use Rattle.grammar.specs.Reading.{Parser, ◌>>=◌, ◌>>◌}
-use Rattle.data_division.specs.Listed.{◌unless_no◌, listed_from, unless_none, list_from}
+use Rattle.grammar.specs.Listed.{◌unless_no◌, listed_from, unless_none, list_from}
 use Rattle.file_control.specs.Selects.{input_output, input_output_reader}
 
 -- the words of what may come after a description

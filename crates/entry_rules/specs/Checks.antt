@@ -41,6 +41,7 @@ number_of rule.AssignedName = 66
 number_of rule.AllLiteral = 67
 number_of rule.NoCondition = 68
 number_of rule.Limit = 69
+number_of rule.Part = 75
 
 abbrev pub broken_of : BrokenRule → RuleBreach
 broken_of one = record { rule = number_of one.rule; place = one.place }

@@ -74,6 +74,8 @@ pub enum Rule {
     NoCondition,
     /// A limit of this compiler.
     Limit,
+    /// A part of an item that has none, or where no part may be.
+    Part,
 }
 
 impl Rule {
@@ -114,6 +116,7 @@ impl Rule {
             Rule::AllLiteral => 67,
             Rule::NoCondition => 68,
             Rule::Limit => 69,
+            Rule::Part => 75,
         }
     }
 

@@ -10,6 +10,11 @@ Write the item and the relation again: `A = 1 OR A = 2`.
 the period before it has ended the statement
 Remove the period, or this word. A period ends all open statements.
 
+@ colon
+a colon follows the first place of a part
+A part of an item is NAME (2:3), or NAME (2:) up to its end, with spaces around
+the colon or without. SQL with host variables is not in this language.
+
 @ column 72
 the line is cut after column 72
 Only columns 8 to 72 count. Go on in the next line.
@@ -47,6 +52,11 @@ name of a record.
 the text begins before column 8
 The format is fixed: columns 1 to 6 are for numbers, column 7 is for * and -,
 names of paragraphs begin in column 8 and statements in column 12.
+
+@ item needed
+this is a condition name, and no item
+Test it alone, as in IF name. SET name TO TRUE stores its value. MOVE, DISPLAY
+and relations take the item above it.
 
 @ misspelt
 this is no word of the language
@@ -101,6 +111,11 @@ Choose another name. Chapter 2 of the manual lists the reserved words.
 @ sign
 this is a number with a sign
 Write a space after the sign too: `X (I - 1)`.
+
+@ subscript
+this is no subscript, and no part of an item
+A subscript is X (5) or X (I - 1), and a part X (2:3). COMPUTE any other number
+in an item first.
 
 @ typographic mark
 a quotation mark is written as " or '

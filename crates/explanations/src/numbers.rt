@@ -374,7 +374,8 @@ The number of subscripts differs from the number of dimensions.
 
 What to do:
 Write one subscript for each OCCURS of the item and of the groups around it: `X
-(I, J)`. An item without OCCURS has none.
+(I, J)`. An item without OCCURS has none. A part of an item has a colon: `X
+(1:3)`.
 
 @ 51
 Fault 51 (sources: statements): a number is needed here
@@ -386,8 +387,8 @@ number. `ADD W TO N` where W is alphanumeric; `ADD 1 TO E` where E is edited;
 `IF W IS POSITIVE`.
 
 What to do:
-Use an item without decimals. MOVE the characters to a number first. Use an
-edited receiver after GIVING.
+MOVE the characters to a number first. Use an integer item as a subscript and
+before TIMES, and an edited receiver after GIVING.
 
 @ 52
 Fault 52 (sources: statements): these two sides cannot be compared
@@ -464,8 +465,9 @@ indexed file without RECORD KEY, or a sequential file with random or dynamic
 access.
 
 What to do:
-Name an item of the file's record, alphanumeric or unsigned. Write RECORD KEY
-for an indexed file only, and ACCESS SEQUENTIAL for a sequential file.
+Name an item of the file's record, alphanumeric or unsigned. Write ORGANIZATION
+IS INDEXED for a file with RECORD KEY, and ACCESS SEQUENTIAL for a sequential
+file.
 
 @ 59
 Fault 59 (sources: files): FILE STATUS needs an item of two characters
@@ -495,7 +497,9 @@ START of a sequential file, START with random access, EXTEND of a file that is
 not sequential.
 
 What to do:
-Use an indexed or relative file, or another access mode.
+Use an indexed or relative file for DELETE and START, and sequential or dynamic
+access for START. OPEN EXTEND is for sequential files: use OPEN I-O and dynamic
+access for others.
 
 @ 62
 Fault 62 (sources: files): this phrase does not fit the statement
@@ -506,8 +510,9 @@ KEY and no ALTERNATE RECORD KEY of the file names. INVALID KEY of a statement
 on a sequential file.
 
 What to do:
-Write NEXT for a READ in sequence under dynamic access. Use AT END in sequence,
-and INVALID KEY by key.
+Use AT END for a READ in sequence, and INVALID KEY for a READ by key. A READ by
+key needs random or dynamic access in SELECT. Under dynamic access a READ in
+sequence has NEXT.
 
 @ 63
 Fault 63 (sources: files): START needs a key of the file and a relation
@@ -524,16 +529,17 @@ Fault 64 (sources: statements): INSPECT cannot use this operand
 
 In an INSPECT, at its place: a counter that is not numeric. An item or a text
 that is a number with S or not in DISPLAY usage. A text that is a numeric
-literal. A text after BY whose size differs from the replaced text's. More than
-one character after CHARACTERS BY. `INSPECT T TALLYING E FOR ALL "A"` where E
-is edited; `INSPECT T REPLACING ALL 0 BY " "`; `INSPECT T REPLACING ALL "AB" BY
-"C"`
+literal, or a part whose length is not known before the run. A text after BY
+whose size differs from the replaced text's. More than one character after
+CHARACTERS BY. `INSPECT T TALLYING E FOR ALL "A"` where E is edited; `INSPECT T
+REPLACING ALL 0 BY " "`; `INSPECT T REPLACING ALL "AB" BY "C"`; `INSPECT T
+TALLYING N FOR ALL S (1:I)`
 
 What to do:
 Use a counter `PIC 99`. Write a literal in quotation marks, or ZERO. MOVE the
-number to an item without S in DISPLAY usage first. Fill the shorter text with
-spaces, or write a figurative constant, which takes the size: `REPLACING ALL
-"0" BY SPACE`.
+number to an item without S in DISPLAY usage first. Write the length of the
+part as a literal. Fill the shorter text with spaces, or write a figurative
+constant, which takes the size: `REPLACING ALL "0" BY SPACE`.
 
 @ 65
 Fault 65 (sources: statements): STRING cannot use this operand
@@ -586,7 +592,7 @@ Divide the program, the record or the key.
 @ 70
 Refusal 70 (images): this is no image
 
-The bytes do not begin with the mark of an image.
+The bytes do not begin with a mark of an image.
 
 What to do:
 Compile the source again.
@@ -627,6 +633,17 @@ does not suit a statement.
 
 What to do:
 Compile again.
+
+@ 75
+Refusal 75 (sources: statements): this item has no parts
+
+A part of an item that is neither a group nor in DISPLAY usage, at the item's
+name. A part in SELECT or SET, of a condition name, as a KEY of READ or START,
+or as the record of WRITE or REWRITE. `DISPLAY B (1:2)` where B is COMP
+
+What to do:
+MOVE the number to a DISPLAY item first. A KEY, a record and a condition have
+no parts: describe the part as an item of its own.
 
 @ 80
 Refusal 80 (runs): the device failed
@@ -735,4 +752,13 @@ the file has no FILE STATUS.
 What to do:
 Write AT END or INVALID KEY, or FILE STATUS and test it. Chapter 7 of the
 manual explains each status.
+
+@ 93
+Fault 93 (runs): the item does not have this part
+
+A part of an item that the item does not have: its first place or its length is
+below 1, or its end is after the item's end.
+
+What to do:
+Test both numbers before their use.
 "#;

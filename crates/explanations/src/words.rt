@@ -463,6 +463,14 @@ One run at a time uses a volume, so no row is ever locked.
 the relation is written LESS
 Write `IF A < B`.
 
+@ MOVE FALSE
+MOVE stores no FALSE
+MOVE a value to the item that the condition name tests.
+
+@ MOVE TRUE
+MOVE stores no TRUE
+Write SET condition-name TO TRUE.
+
 @ NATIONAL
 NATIONAL is not in this language
 Characters are bytes: PIC X.
@@ -487,6 +495,11 @@ Write a blank line in its place.
 PERFORM VARYING has no AFTER
 PERFORM a paragraph that has the inner PERFORM VARYING.
 
+@ PREVIOUS
+READ PREVIOUS is not in this language
+READ NEXT goes from lesser keys to greater ones. For the other order give the
+file a key that falls where the first one rises, such as 999999 minus it.
+
 @ PROCEDURE DIVISION
 the parts of the program are in the wrong order
 The divisions are IDENTIFICATION with PROGRAM-ID, ENVIRONMENT, DATA and
@@ -507,6 +520,10 @@ Show lines by DISPLAY, or WRITE them to a file.
 @ READ INVALID
 READ has its KEY before INVALID KEY
 The order is INTO, KEY, and then the phrases.
+
+@ READ NEXT
+NEXT is written after the name of the file
+Write READ file NEXT.
 
 @ READ WITH
 READ has no LOCK
@@ -552,6 +569,10 @@ ACCEPT takes a line of the console, and DISPLAY shows one.
 SORT is not in this language
 Write the rows to an indexed file whose key is the order, and read it with READ
 NEXT.
+
+@ SET FALSE
+SET stores the value for TRUE only
+MOVE another value to the item that the condition name tests.
 
 @ SPECIAL-NAMES
 SPECIAL-NAMES is not in this language
@@ -600,14 +621,17 @@ Remove the phrase. Count the lines in an item.
 @ WRITE BEFORE
 there are no printers
 Remove BEFORE ADVANCING. DISPLAY shows a line, and WRITE adds a row to a file.
+
+@ YYYYMMDD
+ACCEPT FROM DATE gives six digits, YYMMDD
+Remove the word, and MOVE the century to an item of its own.
 "#;
 
 /// Characters that begin no token.
 pub(crate) const SIGNS: &[u8] = br#"
-@ :
-a colon begins no word or literal
-Reference modification, as in NAME (1:3), is not in this language. Give the
-part a name by REDEFINES. SQL with host variables is not in it either.
+@ [
+square brackets are not in this language
+Write subscripts and parts in parentheses: X (I) and X (2:3).
 
 @ _
 an underscore is not part of a word

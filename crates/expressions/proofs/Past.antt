@@ -3,15 +3,18 @@ use Rattle.std.proofs.Common.{◌≡◌, Bool, true, false, if◌then◌else◌,
 use Rattle.std.specs.Prelude.{Ok, Err}
 use Rattle.tokens.specs.declared.reserved.Reserved.TheVariants as w
 use Rattle.tokens.specs.declared.token.Token.{Token}
+use Rattle.source_tree.specs.declared.reference.QualifiedName.{QualifiedName}
+use Rattle.source_tree.specs.declared.reference.Subscript.{Subscript}
 use Rattle.grammar.specs.Parts.{is_told, begins_telling, name_in, begins_name}
 use Rattle.grammar.specs.Reading as read
 use Rattle.grammar.specs.Reading.{Outcome, Parser, Words, and_then, rest_of, tokens_past, and_past, outcome_of_rest}
-use Rattle.grammar.specs.Reading.{begins_word, is_word, after_word, one_token, past_any, past_several}
-use Rattle.grammar.proofs.Past.{past_then, past_if, any_passes, several_passes}
-use Rattle.expressions.specs.Marks.{left_in, right_in, begins_left, sign_in, begins_sign}
+use Rattle.grammar.specs.Reading.{begins_word, is_word, after_word, one_token, past_any}
+use Rattle.grammar.proofs.Past.{past_then, past_if, any_passes}
+use Rattle.expressions.specs.Marks.{left_in, right_in, colon_in, begins_left, begins_colon, sign_in, begins_sign}
 use Rattle.expressions.specs.Subscripts as s
 use Rattle.expressions.specs.References as g
-use Rattle.expressions.specs.Looking.{past_first}
+use Rattle.expressions.specs.Looking.{past_first, past_token, past_subscript, past_length, past_part_from}
+use Rattle.expressions.specs.Looking.{past_part_behind, past_subscripted, past_after_number, past_numbers}
 
 pure_passes : {A B : Type 0} (o : Outcome A) (f : A → B) → rest_of (and_then o (λ a. read.pure (f a))) ≡ rest_of o
 pure_passes (Ok p) f = refl
@@ -87,34 +90,78 @@ subscript_passes i = past_if (s.begins_integer i) _ _ _ _
     (past_then (s.qualified_reader i) _ (tokens_past s.adjustment_reader)
     (λ item j. pure_passes (s.adjustment_reader j) _))
 
-abbrev pub past_right : Words
-past_right i = past_first (begins_telling right_in i) i
+-- ---- numbers in parentheses
 
-abbrev pub past_listed : Words
-past_listed = past_several (tokens_past s.subscript_reader) s.begins_subscript
+length_passes : (i : List Token) → tokens_past g.length_reader i ≡ past_length i
+unfolding g.length_reader g.some_length_reader
+length_passes i = past_if (s.begins_subscript i) _ _ _ _ (pure_passes (s.subscript_reader i) _) refl
 
-pub subscripts_pass : (i : List Token)
-    → tokens_past g.subscripts_reader i
-    ≡ (if begins_left i then and_past (and_past (past_first (begins_left i) i) past_listed) past_right else Some i)
-unfolding g.subscripts_reader g.enclosed_subscripts_reader
-subscripts_pass i = past_if (begins_left i) _ _ _ _ (
-    past_then (one_token left_in i) _ (λ j. and_past (past_listed j) past_right) (λ u j.
-    past_then (read.several s.subscript_reader s.begins_subscript j) _ past_right (λ found k.
-    pure_passes (one_token right_in k) (λ v. found) ∙ token_passes right_in k)
-    ∙ ap (λ o. and_past o past_right) (several_passes s.subscript_reader s.begins_subscript j))
-    ∙ ap (λ o. and_past o (λ j. and_past (past_listed j) past_right)) (token_passes left_in i)
-    ∙ joined (past_first (begins_left i) i))
+joined : (o : Option (List Token)) (u v : Words)
+    → and_past o (λ j. and_past (u j) v) ≡ and_past (and_past o u) v
+joined None u v = refl
+joined (Some j) u v = refl
+
+part_from_passes : (first : Subscript) (i : List Token) → tokens_past (g.part_from_reader first) i ≡ past_part_from i
+unfolding g.part_from_reader
+part_from_passes first i =
+    past_then (one_token colon_in i) _ (λ j. and_past (past_length j) (past_token right_in)) (λ u j.
+    past_then (g.length_reader j) _ (past_token right_in) (λ size k.
+    pure_passes (one_token right_in k) _ ∙ token_passes right_in k)
+    ∙ ap (λ o. and_past o (past_token right_in)) (length_passes j))
+    ∙ ap (λ o. and_past o (λ j. and_past (past_length j) (past_token right_in))) (token_passes colon_in i)
+    ∙ joined (past_token colon_in i) past_length (past_token right_in)
+
+-- behind a left parenthesis and a number
+numbered_passes : {A : Type 0} (next : Subscript → Parser A) (words : Words)
+    → ((first : Subscript) (j : List Token) → tokens_past (next first) j ≡ words j) → (i : List Token)
+    → rest_of (and_then (one_token left_in i) (λ u j. and_then (s.subscript_reader j) next))
+    ≡ and_past (and_past (past_token left_in i) past_subscript) words
+numbered_passes next words each i =
+    past_then (one_token left_in i) _ (λ j. and_past (past_subscript j) words) (λ u j.
+    past_then (s.subscript_reader j) next words each)
+    ∙ ap (λ o. and_past o (λ j. and_past (past_subscript j) words)) (token_passes left_in i)
+    ∙ joined (past_token left_in i) past_subscript words
+
+behind_passes : (i : List Token) → tokens_past g.part_behind_reader i ≡ past_part_behind i
+unfolding g.part_behind_reader g.some_part_reader
+behind_passes i = past_if (begins_left i) _ _ _ _
+    (numbered_passes _ past_part_from (λ first j.
+    pure_passes (g.part_from_reader first j) _ ∙ part_from_passes first j) i)
     refl
-  where
-    joined : (o : Option (List Token))
-        → and_past o (λ j. and_past (past_listed j) past_right) ≡ and_past (and_past o past_listed) past_right
-    joined None = refl
-    joined (Some j) = refl
+
+item_part_passes : (item : QualifiedName) (first : Subscript) (i : List Token)
+    → tokens_past (g.item_part_reader item first) i ≡ past_part_from i
+unfolding g.item_part_reader
+item_part_passes item first i = pure_passes (g.part_from_reader first i) _ ∙ part_from_passes first i
+
+subscripted_passes : (item : QualifiedName) (first : Subscript) (i : List Token)
+    → tokens_past (g.subscripted_reader item first) i ≡ past_subscripted i
+unfolding g.subscripted_reader
+subscripted_passes item first i =
+    past_then (read.any s.subscript_reader s.begins_subscript i) _
+    (λ j. and_past (past_token right_in j) past_part_behind) (λ more j.
+    past_then (one_token right_in j) _ past_part_behind (λ u k.
+    pure_passes (g.part_behind_reader k) _ ∙ behind_passes k)
+    ∙ ap (λ o. and_past o past_part_behind) (token_passes right_in j))
+    ∙ ap (λ o. and_past o (λ j. and_past (past_token right_in j) past_part_behind))
+    (any_passes s.subscript_reader s.begins_subscript i)
+    ∙ joined (past_any past_subscript s.begins_subscript i) (past_token right_in) past_part_behind
+
+after_number_passes : (item : QualifiedName) (first : Subscript) (i : List Token)
+    → tokens_past (g.after_number_reader item first) i ≡ past_after_number i
+unfolding g.after_number_reader
+after_number_passes item first i = past_if (begins_colon i) _ _ _ _ (item_part_passes item first i)
+    (subscripted_passes item first i)
+
+after_name_passes : (item : QualifiedName) (i : List Token) → tokens_past (g.after_name_reader item) i ≡ past_numbers i
+unfolding g.after_name_reader g.enclosed_numbers_reader
+after_name_passes item i = past_if (begins_left i) _ _ _ _
+    (numbered_passes _ past_after_number (after_number_passes item) i)
+    refl
 
 -- ---- references
 
 pub reference_passes : (i : List Token)
-    → tokens_past g.reference_reader i ≡ and_past (tokens_past s.qualified_reader i) (tokens_past g.subscripts_reader)
+    → tokens_past g.reference_reader i ≡ and_past (tokens_past s.qualified_reader i) past_numbers
 unfolding g.reference_reader
-reference_passes i = past_then (s.qualified_reader i) _ (tokens_past g.subscripts_reader)
-    (λ item j. pure_passes (g.subscripts_reader j) _)
+reference_passes i = past_then (s.qualified_reader i) _ past_numbers after_name_passes

@@ -1,4 +1,4 @@
--- Parentheses and arithmetic operators, each a token that is told as a value.
+-- Parentheses, the colon and arithmetic operators, each a token that is told as a value.
 use Rattle.std.specs.Prelude.{Option, None, Some, List, Bool}
 use Rattle.tokens.specs.declared.token.Kind.{Kind}
 use Rattle.tokens.specs.declared.token.Kind.TheVariants as k
@@ -25,11 +25,21 @@ right_of _ = None
 abbrev pub right_in : Token → Option (Unit {0})
 right_in one = right_of one.kind
 
+abbrev pub colon_of : Kind → Option (Unit {0})
+colon_of k.Colon = Some tt
+colon_of _ = None
+
+abbrev pub colon_in : Token → Option (Unit {0})
+colon_in one = colon_of one.kind
+
 abbrev pub left_parenthesis : Part
 left_parenthesis = token_with left_in tt
 
 abbrev pub right_parenthesis : Part
 right_parenthesis = token_with right_in tt
+
+abbrev pub colon : Part
+colon = token_with colon_in tt
 
 abbrev pub sign_of : Written → Option PlusOrMinus
 sign_of written.Plus = Some Plus
@@ -72,6 +82,9 @@ product_in one = product_by one.kind
 
 abbrev pub begins_left : List Token → Bool
 begins_left = begins_telling left_in
+
+abbrev pub begins_colon : List Token → Bool
+begins_colon = begins_telling colon_in
 
 abbrev pub begins_sign : List Token → Bool
 begins_sign = begins_telling sign_in

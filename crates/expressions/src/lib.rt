@@ -4,6 +4,7 @@
 
 mod arithmetic;
 mod factors;
+mod item_parts;
 mod laws;
 mod literals;
 mod marks;

@@ -1,4 +1,4 @@
-//! Parentheses and arithmetic operators.
+//! Parentheses, the colon and arithmetic operators.
 
 ghost use Rattle.std.specs.Prelude.{◌≡◌};
 ghost use Rattle.grammar.specs.Parts.{begins_telling};
@@ -62,6 +62,30 @@ pub fn begins_right(tokens: &Tokens<'_>) -> bool
     match tokens.rest() {
         [next, ..] => matches!(next.kind, Kind::RightParenthesis),
         [] => false,
+    }
+}
+
+/// A colon comes next.
+pub fn begins_colon(tokens: &Tokens<'_>) -> bool
+    ensures { result ≡ spec.begins_colon tokens.now }
+{
+    match tokens.rest() {
+        [next, ..] => matches!(next.kind, Kind::Colon),
+        [] => false,
+    }
+}
+
+/// Passes the colon, which has to come next.
+#[tactic(auto, unfolding(grammar::specs::Reading::one_token))]
+pub fn colon(tokens: &mut Tokens<'_>) -> Result<(), ReadFault>
+    ensures { Reads (read.one_token spec.colon_in tokens.old) result tokens.new }
+{
+    match tokens.rest() {
+        [next, rest @ ..] if matches!(next.kind, Kind::Colon) => {
+            tokens.go_to(rest);
+            Ok(())
+        }
+        _ => Err(tokens.refuse()),
     }
 }
 

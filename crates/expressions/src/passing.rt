@@ -4,16 +4,16 @@ ghost use Rattle.std.specs.Prelude.{◌≡◌, suc};
 ghost use Rattle.std.specs.Option.{option_copied};
 ghost use Rattle.grammar.specs.Reading as read;
 ghost use Rattle.expressions.specs.Subscripts as subscripts;
-ghost use Rattle.expressions.specs.References as references;
 ghost use Rattle.expressions.specs.Looking as spec;
 
 use crate::factors::begins_nested;
 use crate::literals::begins_number;
 use crate::marks::{
-    begins_left, begins_product_operator, begins_right, begins_sign, begins_sum_operator,
+    begins_colon, begins_left, begins_product_operator, begins_right, begins_sign,
+    begins_sum_operator,
 };
-use crate::subscripts::{begins_integer, begins_qualifier};
-use grammar::{Passing, Tokens, after_word, begins_name, past_any, past_several};
+use crate::subscripts::{begins_integer, begins_qualifier, begins_subscript};
+use grammar::{Passing, Tokens, after_word, begins_name, past_any};
 use tokens::{Kind, Reserved, Token};
 
 /// The tokens after a reference, where one stands.
@@ -22,7 +22,7 @@ pub fn past_reference(tokens: &[Token]) -> Option<&[Token]>
     ensures { option_copied result ≡ spec.past_reference tokens.now }
 {
     let rest = past_qualified(tokens)?;
-    past_subscripts(rest)
+    past_numbers(rest)
 }
 
 /// The tokens after a reference and this word, where they stand.
@@ -151,33 +151,104 @@ impl Passing for Subscripts {
 
     ghost beginning = { λ _. subscripts.begins_subscript };
 
-    #[tactic(auto, using(crate::proofs::Past::subscript_passes))]
     fn pass<'a>(&self, tokens: &'a [Token]) -> Option<&'a [Token]> {
-        if begins_integer(&Tokens::new(tokens)) {
-            return past_integer(tokens);
-        }
-        let rest = past_qualified(tokens)?;
-        past_adjustment(rest)
+        past_subscript(tokens)
     }
 
     fn begins(&self, tokens: &[Token]) -> bool {
-        let tokens = Tokens::new(tokens);
-        begins_integer(&tokens) || begins_name(&tokens)
+        begins_subscript(&Tokens::new(tokens))
     }
 }
 
-/// The tokens after subscripts in parentheses, where any stand.
-#[tactic(auto, using(crate::proofs::Past::subscripts_pass))]
-fn past_subscripts(tokens: &[Token]) -> Option<&[Token]>
-    ensures { option_copied result ≡ read.tokens_past references.subscripts_reader tokens.now }
+/// The tokens after a subscript, or a number of a part.
+#[tactic(auto, using(crate::proofs::Past::subscript_passes))]
+fn past_subscript(tokens: &[Token]) -> Option<&[Token]>
+    ensures { option_copied result ≡ read.tokens_past subscripts.subscript_reader tokens.now }
 {
-    let opened = begins_left(&Tokens::new(tokens));
-    if !opened {
-        return Some(tokens);
+    if begins_integer(&Tokens::new(tokens)) {
+        return past_integer(tokens);
     }
-    let rest = past_first(tokens, opened)?;
-    let rest = past_several(&Subscripts, rest)?;
+    let rest = past_qualified(tokens)?;
+    past_adjustment(rest)
+}
+
+/// The tokens after a length, where one stands.
+fn past_length(tokens: &[Token]) -> Option<&[Token]>
+    ensures { option_copied result ≡ spec.past_length tokens.now }
+{
+    if begins_subscript(&Tokens::new(tokens)) {
+        past_subscript(tokens)
+    } else {
+        Some(tokens)
+    }
+}
+
+/// The tokens after the rest of a part, from its colon to its right parenthesis.
+fn past_part_from(tokens: &[Token]) -> Option<&[Token]>
+    ensures { option_copied result ≡ spec.past_part_from tokens.now }
+{
+    let rest = past_first(tokens, begins_colon(&Tokens::new(tokens)))?;
+    let rest = past_length(rest)?;
     past_first(rest, begins_right(&Tokens::new(rest)))
+}
+
+/// The tokens after a part in parentheses.
+fn past_part(tokens: &[Token]) -> Option<&[Token]>
+    ensures { option_copied result ≡ spec.past_part tokens.now }
+{
+    let rest = past_first(tokens, begins_left(&Tokens::new(tokens)))?;
+    let rest = past_subscript(rest)?;
+    past_part_from(rest)
+}
+
+/// The tokens after a part in parentheses, where one stands.
+fn past_part_behind(tokens: &[Token]) -> Option<&[Token]>
+    ensures { option_copied result ≡ spec.past_part_behind tokens.now }
+{
+    if begins_left(&Tokens::new(tokens)) {
+        past_part(tokens)
+    } else {
+        Some(tokens)
+    }
+}
+
+/// The tokens after the subscripts behind the first, and a part.
+fn past_subscripted(tokens: &[Token]) -> Option<&[Token]>
+    ensures { option_copied result ≡ spec.past_subscripted tokens.now }
+{
+    let rest = past_any(&Subscripts, tokens)?;
+    let rest = past_first(rest, begins_right(&Tokens::new(rest)))?;
+    past_part_behind(rest)
+}
+
+/// The tokens after what the first number in parentheses begins.
+fn past_after_number(tokens: &[Token]) -> Option<&[Token]>
+    ensures { option_copied result ≡ spec.past_after_number tokens.now }
+{
+    if begins_colon(&Tokens::new(tokens)) {
+        past_part_from(tokens)
+    } else {
+        past_subscripted(tokens)
+    }
+}
+
+fn past_enclosed(tokens: &[Token]) -> Option<&[Token]>
+    ensures { option_copied result ≡ spec.past_enclosed tokens.now }
+{
+    let rest = past_first(tokens, begins_left(&Tokens::new(tokens)))?;
+    let rest = past_subscript(rest)?;
+    past_after_number(rest)
+}
+
+/// The tokens after numbers in parentheses, where any stand.
+fn past_numbers(tokens: &[Token]) -> Option<&[Token]>
+    ensures { option_copied result ≡ spec.past_numbers tokens.now }
+{
+    if begins_left(&Tokens::new(tokens)) {
+        past_enclosed(tokens)
+    } else {
+        Some(tokens)
+    }
 }
 
 /// The tokens after the right parenthesis that closes the one that is open.

@@ -4,10 +4,11 @@ ghost use Rattle.std.specs.Prelude.{◌≡◌};
 ghost use Rattle.grammar.specs.Reading.{Reads};
 ghost use Rattle.expressions.specs.References as spec;
 
-use crate::marks::{begins_left, left, right};
-use crate::subscripts::{Subscripts, qualified};
-use grammar::{Part, ReadFault, Tokens, begins_name, several};
-use source_tree::{Reference, Subscript};
+use crate::item_parts::{part_behind, part_from};
+use crate::marks::{begins_colon, begins_left, left, right};
+use crate::subscripts::{Subscripts, qualified, subscript};
+use grammar::{Part, ReadFault, Tokens, any, begins_name};
+use source_tree::{BoxedPart, QualifiedName, Reference, Subscript};
 use sqlite_items::Items;
 use std::alloc::Global;
 
@@ -39,31 +40,93 @@ pub fn reference(alloc: Global, tokens: &mut Tokens<'_>) -> Result<Reference, Re
     ensures { Reads (spec.reference_reader tokens.old) result tokens.new }
 {
     let item = qualified(alloc, tokens)?;
-    let subscripts = subscripts(alloc, tokens)?;
-    Ok(Reference { item, subscripts })
+    after_name(item, alloc, tokens)
 }
 
-#[tactic(auto, unfolding(crate::specs::References::enclosed_subscripts_reader))]
-fn enclosed_subscripts(
+/// Numbers in parentheses, if there are any.
+#[tactic(auto, unfolding(crate::specs::References::after_name_reader))]
+fn after_name(
+    item: QualifiedName,
     alloc: Global,
     tokens: &mut Tokens<'_>,
-) -> Result<Items<Subscript>, ReadFault>
-    ensures { Reads (spec.enclosed_subscripts_reader tokens.old) result tokens.new }
-{
-    left(tokens)?;
-    let found = several(&Subscripts, alloc, tokens)?;
-    right(tokens)?;
-    Ok(found)
-}
-
-/// Subscripts in parentheses, where any come.
-#[tactic(auto, unfolding(crate::specs::References::subscripts_reader))]
-fn subscripts(alloc: Global, tokens: &mut Tokens<'_>) -> Result<Items<Subscript>, ReadFault>
-    ensures { Reads (spec.subscripts_reader tokens.old) result tokens.new }
+) -> Result<Reference, ReadFault>
+    ensures { Reads (spec.after_name_reader item tokens.old) result tokens.new }
 {
     if begins_left(tokens) {
-        enclosed_subscripts(alloc, tokens)
+        enclosed_numbers(item, alloc, tokens)
     } else {
-        Ok(Items::new(alloc))
+        Ok(Reference {
+            item,
+            subscripts: Items::new(alloc),
+            part: None,
+        })
     }
+}
+
+#[tactic(auto, unfolding(crate::specs::References::enclosed_numbers_reader))]
+fn enclosed_numbers(
+    item: QualifiedName,
+    alloc: Global,
+    tokens: &mut Tokens<'_>,
+) -> Result<Reference, ReadFault>
+    ensures { Reads (spec.enclosed_numbers_reader item tokens.old) result tokens.new }
+{
+    left(tokens)?;
+    let first = subscript(alloc, tokens)?;
+    after_number(item, first, alloc, tokens)
+}
+
+/// What the first number begins: a part, or subscripts.
+#[tactic(auto, unfolding(crate::specs::References::after_number_reader))]
+fn after_number(
+    item: QualifiedName,
+    first: Subscript,
+    alloc: Global,
+    tokens: &mut Tokens<'_>,
+) -> Result<Reference, ReadFault>
+    ensures { Reads (spec.after_number_reader item first tokens.old) result tokens.new }
+{
+    if begins_colon(tokens) {
+        item_part(item, first, alloc, tokens)
+    } else {
+        subscripted(item, first, alloc, tokens)
+    }
+}
+
+#[tactic(auto, unfolding(crate::specs::References::item_part_reader))]
+fn item_part(
+    item: QualifiedName,
+    first: Subscript,
+    alloc: Global,
+    tokens: &mut Tokens<'_>,
+) -> Result<Reference, ReadFault>
+    ensures { Reads (spec.item_part_reader item first tokens.old) result tokens.new }
+{
+    let part = part_from(first, alloc, tokens)?;
+    Ok(Reference {
+        item,
+        subscripts: Items::new(alloc),
+        part: Some(BoxedPart::new(alloc, part)?),
+    })
+}
+
+#[tactic(auto, unfolding(crate::specs::References::subscripted_reader))]
+fn subscripted(
+    item: QualifiedName,
+    first: Subscript,
+    alloc: Global,
+    tokens: &mut Tokens<'_>,
+) -> Result<Reference, ReadFault>
+    ensures { Reads (spec.subscripted_reader item first tokens.old) result tokens.new }
+{
+    let mut subscripts = Items::new(alloc);
+    subscripts.push(first)?;
+    subscripts.append(any(&Subscripts, alloc, tokens)?)?;
+    right(tokens)?;
+    let part = part_behind(alloc, tokens)?;
+    Ok(Reference {
+        item,
+        subscripts,
+        part,
+    })
 }

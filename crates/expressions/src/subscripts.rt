@@ -24,18 +24,32 @@ impl Part<Subscript> for Subscripts {
 
     ghost beginning = { λ _. spec.begins_subscript };
 
-    #[tactic(auto, unfolding(crate::specs::Subscripts::subscript_reader))]
     fn read(&self, alloc: Global, tokens: &mut Tokens<'_>) -> Result<Subscript, ReadFault> {
-        if begins_integer(tokens) {
-            literal_subscript(alloc, tokens)
-        } else {
-            item_subscript(alloc, tokens)
-        }
+        subscript(alloc, tokens)
     }
 
     fn begins(&self, tokens: &Tokens<'_>) -> bool {
-        begins_integer(tokens) || begins_name(tokens)
+        begins_subscript(tokens)
     }
+}
+
+/// A subscript, or a number of a part.
+#[tactic(auto, unfolding(crate::specs::Subscripts::subscript_reader))]
+pub fn subscript(alloc: Global, tokens: &mut Tokens<'_>) -> Result<Subscript, ReadFault>
+    ensures { Reads (spec.subscript_reader tokens.old) result tokens.new }
+{
+    if begins_integer(tokens) {
+        literal_subscript(alloc, tokens)
+    } else {
+        item_subscript(alloc, tokens)
+    }
+}
+
+/// A subscript, or a number of a part, comes next.
+pub fn begins_subscript(tokens: &Tokens<'_>) -> bool
+    ensures { result ≡ spec.begins_subscript tokens.now }
+{
+    begins_integer(tokens) || begins_name(tokens)
 }
 
 /// IN or OF comes next.

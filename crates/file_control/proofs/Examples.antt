@@ -17,8 +17,8 @@ use Rattle.grammar.specs.declared.fault.Halt.TheVariants.{Unexpected}
 use Rattle.grammar.specs.Reading as read
 use Rattle.expressions.specs.Subscripts as subscripts
 use Rattle.expressions.specs.References as references
-use Rattle.data_division.specs.ClauseReading as words
-use Rattle.data_division.specs.Gathering as gathering
+use Rattle.grammar.specs.OptionalWords as optional
+use Rattle.grammar.specs.Gathering as gathering
 use Rattle.file_control.specs.ClauseReading as c
 use Rattle.file_control.specs.Selects as s
 
@@ -42,7 +42,8 @@ abbrev name_at : ℕ → ℕ → Name
 name_at column one = record { characters = one ∷ []; place = in_column column }
 
 abbrev item_at : ℕ → ℕ → Reference
-item_at column one = record { item = record { name = name_at column one; qualifiers = [] }; subscripts = [] }
+item_at column one =
+    record { item = record { name = name_at column one; qualifiers = [] }; subscripts = []; part = None }
 
 -- SELECT F ASSIGN TO X
 abbrev head : List Token → List Token
@@ -68,7 +69,7 @@ unfolding
     same_word read.after_word read.past_word read.expect read.skip read.presence_reader read.period read.heading_reader
     read.one_token read.name
     read.several_from read.several read.any
-    subscripts.qualified_reader references.subscripts_reader references.reference_reader words.skip_led
+    subscripts.qualified_reader references.after_name_reader references.reference_reader optional.skip_led
     gathering.gathering_turns gathering.gathering_reader
     c.organization_reader c.access_reader c.key_reader c.relative_key_reader c.record_key_reader c.after_with_duplicates
     c.alternate_key_reader

@@ -3,7 +3,7 @@ use Rattle.tokens.specs.declared.reserved.Reserved.TheVariants as w
 use Rattle.source_tree.specs.declared.reference.Reference.{Reference}
 use Rattle.grammar.specs.Reading.{Parser, Words, ◌>>=◌, ◌>>◌, pure, after_word, past_word, expect, skip, presence_reader, one_token}
 use Rattle.expressions.specs.References.{reference_reader}
-use Rattle.data_division.specs.ClauseReading.{skip_led}
+use Rattle.grammar.specs.OptionalWords.{skip_led}
 use Rattle.file_control.specs.Clauses.{organization_in, access_in}
 use Rattle.file_control.specs.declared.clause.ClauseKind.{ClauseKind}
 use Rattle.file_control.specs.declared.clause.ClauseKind.TheVariants as kind

@@ -14,7 +14,7 @@ use Rattle.source_tree.specs.declared.select.AlternateKeyClause.{AlternateKeyCla
 use Rattle.grammar.specs.Parts.{Part, ◌then◌, ◌but◌, optional, optional_part, lookahead, word, token_with, begins_name}
 use Rattle.grammar.specs.Reading.{begins_word, after_word}
 use Rattle.expressions.specs.References.{reference}
-use Rattle.data_division.specs.Clauses.{led_by}
+use Rattle.grammar.specs.OptionalWords.{led_by}
 use Rattle.file_control.specs.declared.clause.ClauseKind.{ClauseKind}
 use Rattle.file_control.specs.declared.clause.ClauseKind.TheVariants as kind
 use Rattle.file_control.specs.declared.clause.Clause.{Clause}

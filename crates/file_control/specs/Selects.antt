@@ -16,8 +16,8 @@ use Rattle.source_tree.specs.declared.select.Select.{Select}
 use Rattle.grammar.specs.Parts.{Part, ◌then◌, optional, several, optional_part, lookahead, token_with, word, period, heading, name}
 use Rattle.grammar.specs.Reading as r
 use Rattle.grammar.specs.Reading.{Parser, ◌>>=◌, ◌>>◌, pure, begins_word, after_word, expect, skip, one_token}
-use Rattle.data_division.specs.Gathering.{clauses_from, gathering_reader}
-use Rattle.data_division.specs.Listed.{listed_from, list_from}
+use Rattle.grammar.specs.Gathering.{clauses_from, gathering_reader}
+use Rattle.grammar.specs.Listed.{listed_from, list_from}
 use Rattle.file_control.specs.declared.stated.Stated.{Stated}
 use Rattle.file_control.specs.Stated.{no_clauses, select_clauses}
 use Rattle.file_control.specs.ClauseReading.{clause_reader}

@@ -6,7 +6,7 @@ use Rattle.file_control.specs.declared.clause.Clause.{Clause}
 use Rattle.file_control.specs.declared.clause.Clause.TheVariants as clause_as
 use Rattle.file_control.specs.declared.stated.Stated.{Stated}
 use Rattle.file_control.specs.Clauses.{clause, kind_of, clause_at}
-use Rattle.data_division.specs.Gathering.{Clauses}
+use Rattle.grammar.specs.Gathering.{Clauses}
 
 abbrev pub no_clauses : Stated
 no_clauses = record { organization = None; access = None; relative_key = None; record_key = None; alternate_keys = []; status = None }

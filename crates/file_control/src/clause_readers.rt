@@ -9,9 +9,8 @@ ghost use Rattle.file_control.specs.ClauseReading as spec;
 
 use crate::clause::{Clause, ClauseKind};
 use crate::words::{access_in, organization_in};
-use data_division::skip_led;
 use expressions::reference;
-use grammar::{ReadFault, Tokens, after_word, past_word};
+use grammar::{ReadFault, Tokens, after_word, past_word, skip_led};
 use source_tree::{Access, AlternateKeyClause, OrganizationClause, Reference};
 use std::alloc::Global;
 use tokens::{Reserved, Token};

@@ -3,7 +3,7 @@
 ghost use Rattle.std.specs.Prelude.{◌≡◌, OnOk};
 ghost use Rattle.std.specs.Result.{result_map_both};
 ghost use Rattle.grammar.specs.Reading.{Reads};
-ghost use Rattle.data_division.specs.Gathering.{gathering_reader};
+ghost use Rattle.grammar.specs.Gathering.{gathering_reader};
 ghost use Rattle.file_control.specs.ClauseReading.{clause_reader};
 ghost use Rattle.file_control.specs.Stated as spec;
 
@@ -88,7 +88,7 @@ pub fn stated_clauses(alloc: Global, tokens: &mut Tokens<'_>) -> Result<Stated, 
 }
 
 /// Takes clauses in, up to where no more can begin.
-#[tactic(auto, unfolding(data_division::specs::Gathering::gathering_reader, data_division::specs::Gathering::gathering_turns))]
+#[tactic(auto, unfolding(grammar::specs::Gathering::gathering_reader, grammar::specs::Gathering::gathering_turns))]
 fn gather(stated: &mut Stated, alloc: Global, tokens: &mut Tokens<'_>) -> Result<(), ReadFault>
     ensures { Reads (gathering_reader spec.select_clauses clause_reader stated.old tokens.old)
         (result_map_both (λ _. stated.new) (λ fault. fault) result) tokens.new }

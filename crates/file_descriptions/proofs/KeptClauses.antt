@@ -23,7 +23,7 @@ use Rattle.source_tree.specs.Records.{storage_areas, record_length}
 use Rattle.source_tree.specs.ProgramFiles.{DescribedFile, described_file, key_place}
 use Rattle.source_tree.specs.Broken.{RuleBreach, where_so, each}
 use Rattle.source_tree.specs.EntryRules.{entry_rules, excess, most_entries}
-use Rattle.source_tree.specs.NameRules.{unique_name_rules}
+use Rattle.source_tree.specs.NameRules.{unique_name_rules, no_part_rules}
 use Rattle.source_tree.specs.FileRules.{most_record_bytes, most_key_bytes, most_alternate_keys, select_names}
 use Rattle.source_tree.specs.FileRules.{description_names, file_name_rules, file_entries, record_storage_rules}
 use Rattle.source_tree.specs.FileRules.{description_rules, descriptions_rules, is_plain, is_in_area, is_key_kind}
@@ -51,7 +51,10 @@ module _ (items : List LocatedItem) where
   one_named : (asked : Reference → LocatedItem → List RuleBreach) (reference : Reference)
       → clause_item items asked reference ≡ []
       → (one : LocatedItem) × (items_named items reference.item ≡ one ∷ []) × (asked reference one ≡ [])
-  one_named asked reference e = one_by items reference (asked reference) (items_named items reference.item) refl e
+  one_named asked reference e =
+      let found = one_by items reference (λ one. no_part_rules reference ++ asked reference one)
+      (items_named items reference.item) refl e in
+      (found.0, found.1, right_none (no_part_rules reference) (asked reference found.0) found.2)
 
   names_one : (asked : Reference → LocatedItem → List RuleBreach) (reference : Reference)
       → clause_item items asked reference ≡ [] → NamesOne items reference

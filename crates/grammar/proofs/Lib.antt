@@ -5,3 +5,6 @@ pub mod Lists
 pub mod Parts
 pub mod Past
 pub mod Phrases
+pub mod OptionalWords
+pub mod Gathering
+pub mod Listed

@@ -38,6 +38,7 @@ kind_is one (k.Picture characters) e = cc
 kind_is one k.Period e = cc
 kind_is one k.LeftParenthesis e = cc
 kind_is one k.RightParenthesis e = cc
+kind_is one k.Colon e = cc
 kind_is one (k.Operator operator) e = cc
 
 pub is_kind_of : (one : Reserved) (kind : Kind) → kind ≡ k.Reserved one → is_kind one kind ≡ true

@@ -171,6 +171,7 @@ period_is (k.Picture characters) e = cc
 period_is k.Period e = refl
 period_is k.LeftParenthesis e = cc
 period_is k.RightParenthesis e = cc
+period_is k.Colon e = cc
 period_is (k.Operator operator) e = cc
 
 pub period_sound : Sound (λ u. g.period) r.period

@@ -5,6 +5,7 @@
 mod cursor;
 mod fault;
 mod names;
+mod optional_words;
 mod part;
 mod passing;
 mod phrase;
@@ -14,6 +15,7 @@ pub use answers::beside;
 pub use cursor::Tokens;
 pub use fault::{Halt, ReadFault};
 pub use names::{begins_name, name};
+pub use optional_words::skip_led;
 pub use part::{Part, any, several};
 pub use passing::{Passing, past_any, past_several};
 pub use phrase::{Phrase, after_denied, after_opened, phrase_at, two_sided};

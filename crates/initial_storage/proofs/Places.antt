@@ -1,6 +1,6 @@
 -- The places that references name lie within their areas.
 use Rattle.std.proofs.Common.{◌≡◌, ℕ, ◌+◌, ◌-◌, ◌*◌, ◌≤◌, nat_le, Bool, true, false, ◌&&◌, if◌then◌else◌, List, [], ◌∷◌}
-use Rattle.std.proofs.Common.{get_or, Ok, Err, refl, subst, arith}
+use Rattle.std.proofs.Common.{get_or, Ok, Err, refl, sym, ap, subst, arith}
 use Rattle.std.specs.Prelude.{ℤ, pos, negsuc, filter, cond}
 use Rattle.std.specs.List.{AllByRecursion}
 use Rattle.std.proofs.Math.Nat.{mul-le-mul_right}
@@ -14,10 +14,14 @@ use Rattle.source_tree.specs.Places.{LocatedItem}
 use Rattle.source_tree.specs.Records.{program_items}
 use Rattle.source_tree.specs.LookUp.{is_item, items_named, first}
 use Rattle.source_tree.specs.References.{ItemPlace, place_after, occurrence_offset, subscript_value, bytes_before}
-use Rattle.source_tree.specs.References.{occurrence, place_of}
+use Rattle.source_tree.specs.References.{occurrence, part_in, referred_place, place_of, IsWithin}
 use Rattle.source_tree.specs.EntryRules.{entry_rules}
 use Rattle.source_tree.specs.FileRules.{descriptions_rules}
+use Rattle.source_tree.proofs.Parts.{part_within}
+use Rattle.initial_storage.specs.Formed.{IsFormed}
 use Rattle.initial_storage.specs.Reach.{reach, IsWithinArea, program_area_lengths}
+use Rattle.initial_storage.proofs.Pictures.{some_bytes}
+use Rattle.initial_storage.proofs.Formed.{formed_by_recursion}
 use Rattle.initial_storage.proofs.Records.{within_by_recursion}
 
 -- what two steps answer, both of them did
@@ -76,6 +80,22 @@ occurrence_within lengths items subscripts one storage place e h =
     let end : one.offset + found.0 + one.item.length ≤ get_or lengths one.area 0 = omega (arith, most, h) in
     subst (λ (p : ItemPlace). p.offset + p.item.length ≤ get_or lengths p.area 0) same end
 
+occurrence_some : (items : List LocatedItem) (subscripts : List written.Subscript) (one : LocatedItem)
+    (storage : Storage) (place : ItemPlace) → occurrence items subscripts one storage ≡ Ok place → IsFormed one
+    → 1 ≤ place.item.length
+occurrence_some items subscripts one storage place e formed =
+    let found = both (bytes_before items one.dimensions subscripts storage) _ place e in
+    let same : place_after one found.0 ≡ place = let told = found.2 in cc in
+    subst (λ (p : ItemPlace). 1 ≤ p.item.length) same (some_bytes one.item formed.form)
+
+part_of_whole : (lengths : List ℕ) (whole place : ItemPlace) → IsWithin place whole
+    → whole.offset + whole.item.length ≤ get_or lengths whole.area 0
+    → place.offset + place.item.length ≤ get_or lengths place.area 0
+part_of_whole lengths whole place within e =
+    let same : get_or lengths whole.area 0 ≡ get_or lengths place.area 0 =
+    ap (λ k. get_or lengths k 0) (sym within.area) in
+    omega (arith, e, within.end, same)
+
 first_if : (b : Bool) (P : LocatedItem → Type 0) (one : LocatedItem) (more : List LocatedItem) (x : LocatedItem) → P one
     → (evaluation_of (first more) ≡ Ok x → P x)
     → evaluation_of (first (cond b (one ∷ more) more)) ≡ Ok x → P x
@@ -94,7 +114,14 @@ pub places_within : (program : Program) (reference : Reference) (storage : Stora
 places_within program reference storage place kept files_kept e =
     let items : List LocatedItem = program_items program in
     let lengths : List ℕ = program_area_lengths program in
-    let found = both (evaluation_of (first (items_named items reference.item))) _ place e in
-    occurrence_within lengths items reference.subscripts found.0 storage place found.2
-    (named_so (IsWithinArea lengths) (is_item reference.item) items found.0
-    (within_by_recursion program kept files_kept) found.1)
+    let found = both (evaluation_of (first (items_named items reference.item)))
+    (λ one. referred_place items reference one storage) place e in
+    let named = named_so (IsWithinArea lengths) (is_item reference.item) items found.0
+    (within_by_recursion program kept files_kept) found.1 in
+    let formed = named_so IsFormed (is_item reference.item) items found.0
+    (formed_by_recursion program kept files_kept) found.1 in
+    let whole = both (occurrence items reference.subscripts found.0 storage)
+    (part_in items reference.part storage) place found.2 in
+    let some = occurrence_some items reference.subscripts found.0 storage whole.0 whole.1 formed in
+    part_of_whole lengths whole.0 place (part_within items reference.part storage whole.0 place some whole.2).0
+    (occurrence_within lengths items reference.subscripts found.0 storage whole.0 whole.1 named)

@@ -6,8 +6,8 @@ ghost use Rattle.source_tree.specs.Literals.{literal_sender};
 ghost use Rattle.initial_storage.specs.Fits.{HasKind, HasValue};
 
 use crate::value::write_sent;
+use data_entries::Sender;
 use items::Item;
-use literals::Sender;
 use source_tree::Literal;
 use sqlite_items::Items;
 use std::alloc::{AllocError, Global};

@@ -5,9 +5,9 @@ ghost use Rattle.source_tree.specs.Starts as spec;
 ghost use Rattle.items.specs.Items.{IsTaken};
 ghost use Rattle.initial_storage.specs.Fits.{HasKind, HasValue, Suits};
 
+use data_entries::Sender;
 use edited_move::move_into;
 use items::{Item, Kind, initialize, initialize_text};
-use literals::Sender;
 use source_tree::ItemEntry;
 use std::alloc::{AllocError, Global};
 

@@ -24,8 +24,8 @@ use code_image::{Code, Instruction};
 use data_instructions::{DataTables, ItemIndex};
 use data_machine::Areas;
 use file_image::{CodeFile, FileIndex};
-use records::{FileVerbs, Status, StoreFault, Verb};
-use station::{Device, Note, Station};
+use records::{FileVerbs, OpenMode, Status, StoreFault, Verb};
+use station::{Device, Note, Station, TracedStatement};
 
 /// A file statement: its step is done, what it leaves is stored, and its status is received. It is kept out of the run's loop,
 /// which has few registers to keep then.
@@ -82,7 +82,13 @@ pub(crate) fn file_statement<S: Station, F: FileVerbs>(
     match performed {
         Ok(status) => {
             registers.status = status;
-            note(station, file, status)
+            let statement = TracedStatement {
+                line: registers.line,
+                verb: words_of(verb),
+                file: one.name.as_slice(),
+                status: status.bytes(),
+            };
+            note(station, file, status, &statement)
         }
         Err(fault) => Err(Ended::Refused(refusal_of(fault))),
     }
@@ -204,8 +210,29 @@ fn perform<D: Device, F: FileVerbs>(
     }
 }
 
-/// The station hears that a status was received.
-fn note<S: Station>(station: &mut S, file: FileIndex, status: Status) -> Result<(), Ended>
+/// The verb as a program writes it, with the mode of an OPEN.
+fn words_of(verb: Verb) -> &'static str {
+    match verb {
+        Verb::Open(OpenMode::Input) => "OPEN INPUT",
+        Verb::Open(OpenMode::Output) => "OPEN OUTPUT",
+        Verb::Open(OpenMode::InputOutput) => "OPEN I-O",
+        Verb::Open(OpenMode::Extend) => "OPEN EXTEND",
+        Verb::Close => "CLOSE",
+        Verb::ReadNext | Verb::Read(_) => "READ",
+        Verb::Write => "WRITE",
+        Verb::Rewrite => "REWRITE",
+        Verb::Delete => "DELETE",
+        Verb::Start(..) => "START",
+    }
+}
+
+/// The station hears that a status was received, and may then tell a person of the statement.
+fn note<S: Station>(
+    station: &mut S,
+    file: FileIndex,
+    status: Status,
+    statement: &TracedStatement,
+) -> Result<(), Ended>
     ensures sectors { S.sectors station.new ≡ S.sectors station.old }
     ensures honest { S.is_honest station.old ↔ S.is_honest station.new }
     ensures cause { IsCaused result (S.failures station.old) (S.failures station.new) }
@@ -223,7 +250,10 @@ fn note<S: Station>(station: &mut S, file: FileIndex, status: Status) -> Result<
         status: status.bytes(),
     };
     match station.note(note) {
-        Ok(()) => Ok(()),
+        Ok(()) => {
+            station.trace(statement);
+            Ok(())
+        }
         Err(failed) => Err(Ended::Refused(Refusal::from(failed))),
     }
 }

@@ -11,6 +11,7 @@ mod leading;
 mod loaded;
 mod machine;
 mod outside;
+mod part_plan;
 mod plan;
 mod planned;
 mod registers;

@@ -103,7 +103,7 @@ pub enum Ended {
     Stopped,
     /// A statement was to begin, and the budget was used up.
     Budget,
-    /// 90 to 92: the statement that began in this line of the source did something wrong.
+    /// 90 to 93: the statement that began in this line of the source did something wrong.
     Faulted { fault: ProgramFault, line: u32 },
     /// The run was given up, or never began.
     Refused(Refusal),

@@ -1,6 +1,6 @@
 //! What is said of a fault.
 
-ghost use Rattle.std.specs.Prelude.{◌≡◌, true, OnOk};
+ghost use Rattle.std.specs.Prelude.{◌≡◌, false, true, IfOk, OnOk};
 ghost use Rattle.source_advice.specs.Advice as spec;
 
 use crate::lines::first_bytes;
@@ -9,6 +9,9 @@ use std::alloc::{AllocError, Global};
 
 /// How much of a word is shown.
 const MOST_SHOWN: usize = 40;
+
+/// A message where no other is known.
+const UNKNOWN_MESSAGE: &[u8] = b"the source has a fault";
 
 /// What is wrong, in one line without a line feed, and what to do, in lines that each end with one.
 #[derive(Drop)]
@@ -27,7 +30,11 @@ impl Advice {
         word: &[u8],
         message: &[u8],
         cure: &[u8],
-    ) -> Result<Advice, AllocError> {
+    ) -> Result<Advice, AllocError>
+        ensures message { IfOk result
+            (λ advice. advice.message.items ≡ spec.about word.now message.now) }
+        ensures cure { IfOk result (λ advice. advice.cure.items ≡ cure.now) }
+    {
         let mut text = Vec::new(alloc);
         if !word.is_empty() {
             text.push(b'`')?;
@@ -61,17 +68,28 @@ impl Advice {
     }
 
     /// What is said of each fault of a number.
-    pub fn for_number(alloc: Global, number: u8, word: &[u8]) -> Result<Advice, AllocError> {
+    pub fn for_number(alloc: Global, number: u8, word: &[u8]) -> Result<Advice, AllocError>
+        ensures about { IfOk result (λ advice. spec.IsAboutNumber number word.now
+            advice.message.items advice.cure.items) }
+        ensures number { IfOk result (λ advice. spec.IsAdviceOf number advice.message.items
+            advice.cure.items) }
+    {
         match explanation(alloc, u64::from(number))? {
-            Some(part) => {
-                let message = between(part, b"): ", b"\n").unwrap_or(b"the source has a fault");
-                let cure = between(part, b"What to do:\n", b"\n\n").unwrap_or(b"");
-                let mut advice = Advice::about(alloc, word, message, cure)?;
-                advice.end_line()?;
-                Ok(advice)
-            }
-            None => Advice::about(alloc, word, b"the source has a fault", b""),
+            Some(text) => Advice::explained(alloc, text, word),
+            None => Advice::about(alloc, word, UNKNOWN_MESSAGE, b""),
         }
+    }
+
+    /// What the explanation of a number says, about a word.
+    fn explained(alloc: Global, text: &[u8], word: &[u8]) -> Result<Advice, AllocError>
+        ensures { IfOk result (λ advice. spec.IsExplained (Some text.now) word.now
+            advice.message.items advice.cure.items) }
+    {
+        let message = between(text, b"): ", b"\n").unwrap_or(UNKNOWN_MESSAGE);
+        let cure = between(text, b"What to do:\n", b"\n\n").unwrap_or(b"");
+        let mut advice = Advice::about(alloc, word, message, cure)?;
+        advice.end_line()?;
+        Ok(advice)
     }
 
     /// Adds a line to what to do.
@@ -89,7 +107,9 @@ impl Advice {
 
     /// Ends the last line of what to do if it isn't ended.
     pub(crate) fn end_line(&mut self) -> Result<(), AllocError>
-        ensures { OnOk result (spec.HasLines self.new) }
+        ensures message { self.new.message ≡ self.old.message }
+        ensures cure { OnOk result (spec.IsEnded self.old.cure.items self.new.cure.items) }
+        ensures lines { OnOk result (spec.HasLines self.new) }
     {
         if are_lines(self.cure.as_slice()) {
             return Ok(());
@@ -100,7 +120,8 @@ impl Advice {
 
 /// Whether a text is empty or ends with a line feed.
 fn are_lines(text: &[u8]) -> bool
-    ensures { result ≡ true → spec.AreLines text.now }
+    ensures yes { result ≡ true → spec.AreLines text.now }
+    ensures no { result ≡ false → spec.AreLines text.now → ⊥ }
 {
     match text {
         [] | [.., b'\n'] => true,

@@ -18,6 +18,9 @@ const AFTER_IDENTIFICATION: usize = 3;
 const WITHOUT_EXPRESSIONS: &[u8] =
     b"ACCEPT ADD DISPLAY DIVIDE INITIALIZE MOVE MULTIPLY SET STRING SUBTRACT";
 
+/// Words that begin a relation.
+const RELATIONS: &[u8] = b"EQUAL GREATER LESS";
+
 /// Figurative constants.
 const FIGURATIVE: &[u8] =
     b"HIGH-VALUE HIGH-VALUES LOW-VALUE LOW-VALUES QUOTE QUOTES SPACE SPACES ZERO ZEROES ZEROS";
@@ -63,7 +66,7 @@ fn beginning_cause(alloc: Global, view: View<'_>) -> Found {
     Ok(None)
 }
 
-/// The advice about conditions that aren't written in full, expressions where none may be, and numbers with a sign.
+/// The advice about conditions that aren't written in full, numbers with a sign, and expressions and colons where none may be.
 fn expression_cause(alloc: Global, view: View<'_>) -> Found {
     let here = view.written(alloc, Some(view.at))?;
     if is_abbreviated(alloc, view)? {
@@ -71,6 +74,12 @@ fn expression_cause(alloc: Global, view: View<'_>) -> Found {
     }
     if is_signed(view.token(Some(view.at))) && view.before(1).is_some() {
         return Advice::for_cause(alloc, b"sign", here.as_slice());
+    }
+    if here.as_slice() == b":".as_slice() {
+        return Advice::for_cause(alloc, b"colon", b"");
+    }
+    if is_in_subscript(alloc, view)? {
+        return Advice::for_cause(alloc, b"subscript", b"");
     }
     let verb = view.text(alloc, verb_before(alloc, view)?)?;
     if view.is_operator(Some(view.at)) && has_word(WITHOUT_EXPRESSIONS, verb.as_slice()) {
@@ -81,15 +90,34 @@ fn expression_cause(alloc: Global, view: View<'_>) -> Found {
 
 /// Whether a literal or a figurative constant alone, or a relation without its left side, follows AND or OR.
 fn is_abbreviated(alloc: Global, view: View<'_>) -> Result<bool, AllocError> {
+    let here = view.text(alloc, Some(view.at))?;
     let before = view.text(alloc, view.before(1))?;
     let second = view.text(alloc, view.before(2))?;
+    let is_after_one = has_word(b"AND OR", second.as_slice());
+    if view.is_operator(Some(view.at)) || has_word(RELATIONS, here.as_slice()) {
+        return Ok(
+            has_word(b"AND OR", before.as_slice())
+                || is_after_one && before.as_slice() == b"NOT".as_slice(),
+        );
+    }
     let is_constant = view.is_literal(view.before(1)) || has_word(FIGURATIVE, before.as_slice());
-    Ok(
-        view.is_operator(Some(view.at)) && has_word(b"AND OR", before.as_slice())
-            || is_constant
-                && has_word(b"AND OR", second.as_slice())
-                && !view.is_operator(Some(view.at)),
-    )
+    Ok(is_constant && is_after_one)
+}
+
+/// Whether an operator is in parentheses after a name, after one operand or two.
+fn is_in_subscript(alloc: Global, view: View<'_>) -> Result<bool, AllocError> {
+    if !view.is_operator(Some(view.at)) {
+        return Ok(false);
+    }
+    for (open, name) in [
+        (view.before(2), view.before(3)),
+        (view.before(4), view.before(5)),
+    ] {
+        if view.is_word(name) && view.reads(alloc, open, b"(")? {
+            return Ok(true);
+        }
+    }
+    Ok(false)
 }
 
 /// Whether a token is a number with a sign.

@@ -52,7 +52,7 @@ pub fn undeclared_cause(alloc: Global, view: View<'_>, number: u8) -> Found {
     Ok(Some(advice))
 }
 
-/// The advice that an item is in the place of a condition.
+/// The advice that an item is in the place of a condition, or a condition name in the place of an item that is compared.
 pub fn condition_cause(alloc: Global, view: View<'_>) -> Found {
     let here = view.text(alloc, Some(view.at))?;
     let before = view.text(alloc, view.before(1))?;
@@ -61,7 +61,32 @@ pub fn condition_cause(alloc: Global, view: View<'_>) -> Found {
     if !is_name {
         return Ok(None);
     }
-    Advice::for_cause(alloc, b"condition needed", here.as_slice())
+    match item_cause(alloc, view, here.as_slice())? {
+        Some(advice) => Ok(Some(advice)),
+        None => Advice::for_cause(alloc, b"condition needed", here.as_slice()),
+    }
+}
+
+/// The advice that a condition name is in the place of an item. One that is followed by its group may have another mistake.
+fn item_cause(alloc: Global, view: View<'_>, name: &[u8]) -> Found {
+    let after = view.text(alloc, view.after(1))?;
+    if has_word(b"IN OF", after.as_slice()) || !is_condition_name(alloc, view, name)? {
+        return Ok(None);
+    }
+    Advice::for_cause(alloc, b"item needed", name)
+}
+
+/// Whether a name is declared at level 88.
+fn is_condition_name(alloc: Global, view: View<'_>, name: &[u8]) -> Result<bool, AllocError> {
+    for number in 0..view.tokens.len() {
+        if declared_kind(alloc, view, number)? == Some(NameKind::Item)
+            && view.reads(alloc, number.checked_sub(1), b"88")?
+            && view.reads(alloc, Some(number), name)?
+        {
+            return Ok(true);
+        }
+    }
+    Ok(false)
 }
 
 /// What a name is declared as.
@@ -84,7 +109,7 @@ fn kind_after(word: &[u8]) -> NameKind {
     }
 }
 
-/// The advice that a file, a record or a paragraph is needed here.
+/// The advice that a file, a record, a paragraph or an item is needed here.
 fn kind_cause(alloc: Global, view: View<'_>, name: &[u8]) -> Found {
     let before = view.text(alloc, view.before(1))?;
     let cause: &[u8] = if has_word(BEFORE_FILES, before.as_slice()) {
@@ -94,7 +119,7 @@ fn kind_cause(alloc: Global, view: View<'_>, name: &[u8]) -> Found {
     } else if has_word(BEFORE_PROCEDURES, before.as_slice()) {
         b"paragraph needed"
     } else {
-        return Ok(None);
+        return item_cause(alloc, view, name);
     };
     Advice::for_cause(alloc, cause, name)
 }

@@ -1,7 +1,7 @@
 //! What is said of any fault.
 
-ghost use Rattle.std.specs.Prelude.{IfOk};
-ghost use Rattle.source_advice.specs.Advice.{HasLines};
+ghost use Rattle.std.specs.Prelude.{◌≡◌, ◌≢◌, None, IfOk};
+ghost use Rattle.source_advice.specs.Advice.{HasLines, IsAdviceOf};
 
 use crate::advice::{Advice, Found};
 use crate::cut_lines::cut_cause;
@@ -27,7 +27,10 @@ const ITEM_FAULTS: [u8; 3] = [44, 45, 48];
 
 /// What is said of the fault of this number at this place of a source text: what is wrong, and what to do.
 pub fn advise(alloc: Global, source: &[u8], number: u8, place: Place) -> Result<Advice, AllocError>
-    ensures { IfOk result HasLines }
+    ensures lines { IfOk result HasLines }
+    // From fault 20 on, except for 30 and 40, it is the explanation of the number, about some word.
+    ensures number { IfOk result (λ advice. IsAdviceOf number advice.message.items
+        advice.cure.items) }
 {
     let mut advice = advice_about(alloc, source, number, place)?;
     advice.end_line()?;
@@ -39,10 +42,24 @@ fn advice_about(
     source: &[u8],
     number: u8,
     place: Place,
-) -> Result<Advice, AllocError> {
+) -> Result<Advice, AllocError>
+    ensures { IfOk result (λ advice. IsAdviceOf number advice.message.items advice.cure.items) }
+{
     if number < FIRST_OF_TREES {
         return format_cause(alloc, source, number, place);
     }
+    advice_at_token(alloc, source, number, place)
+}
+
+/// The advice about a fault that is found among tokens.
+fn advice_at_token(
+    alloc: Global,
+    source: &[u8],
+    number: u8,
+    place: Place,
+) -> Result<Advice, AllocError>
+    ensures { IfOk result (λ advice. IsAdviceOf number advice.message.items advice.cure.items) }
+{
     let Ok(lines) = logical(alloc, source) else {
         return Advice::for_number(alloc, number, b"");
     };
@@ -60,20 +77,33 @@ fn advice_about(
 }
 
 /// The advice about a fault at a token, if its cause is known.
-fn tree_cause(alloc: Global, source: &[u8], view: View<'_>, number: u8) -> Found {
-    if number != GRAMMAR && number != UNDECLARED {
-        return Ok(None);
+fn tree_cause(alloc: Global, source: &[u8], view: View<'_>, number: u8) -> Found
+    ensures { number ≢ 30 → number ≢ 40 → IfOk result (λ found. found ≡ None) }
+{
+    match number {
+        GRAMMAR => refused_cause(alloc, source, view),
+        UNDECLARED => unknown_cause(alloc, source, view),
+        _ => Ok(None),
     }
+}
+
+/// The advice about a token that the grammar refuses.
+fn refused_cause(alloc: Global, source: &[u8], view: View<'_>) -> Found {
+    match cut_around(alloc, source, view)? {
+        Some(advice) => Ok(Some(advice)),
+        None => grammar_cause(alloc, view, GRAMMAR),
+    }
+}
+
+/// The advice about a name that isn't declared.
+fn unknown_cause(alloc: Global, source: &[u8], view: View<'_>) -> Found {
     if let Some(advice) = cut_around(alloc, source, view)? {
         return Ok(Some(advice));
-    }
-    if number == GRAMMAR {
-        return grammar_cause(alloc, view, number);
     }
     if let Some(advice) = name_cause(alloc, view)? {
         return Ok(Some(advice));
     }
-    undeclared_cause(alloc, view, number)
+    undeclared_cause(alloc, view, UNDECLARED)
 }
 
 /// The advice about a name that is a word of other COBOLs, that follows a missing period, or that is an item and no condition.

@@ -2,7 +2,7 @@
 -- So each entry has its texts within those that are taken.
 use Rattle.std.proofs.Common.{◌≡◌, ℕ, suc, ◌+◌, ◌≤◌, Bool, true, false, cond, List, [], ◌∷◌, ◌++◌, length, Option, Some}
 use Rattle.std.proofs.Common.{None, refl, sym, ap, subst, ◌∙◌, arith}
-use Rattle.std.specs.Prelude.{◌==◌, not, filter, slice_get, nat_le, ◌&&◌}
+use Rattle.std.specs.Prelude.{◌==◌, not, map, filter, slice_get, nat_le, ◌&&◌}
 use Rattle.std.specs.List.{AllByRecursion}
 use Rattle.std.proofs.lemmas.Bool.Decides.{nat_tests}
 use Rattle.std.proofs.lemmas.List.{length-replicate}
@@ -13,6 +13,9 @@ use Rattle.lexical.specs.declared.place.Place.{Place}
 use Rattle.source_tree.specs.declared.literal.LiteralValue.{LiteralValue}
 use Rattle.source_tree.specs.declared.literal.LiteralValue.TheVariants as literal
 use Rattle.source_tree.specs.declared.literal.Literal.{Literal}
+use Rattle.source_tree.specs.declared.reference.Subscript.{Subscript}
+use Rattle.source_tree.specs.declared.reference.Subscript.TheVariants as subscript
+use Rattle.source_tree.specs.declared.reference.Part.{Part}
 use Rattle.source_tree.specs.declared.reference.Reference.{Reference}
 use Rattle.source_tree.specs.declared.expression.Operand.{Operand}
 use Rattle.source_tree.specs.declared.expression.Operand.TheVariants as operand
@@ -28,6 +31,9 @@ use Rattle.source_tree.specs.declared.inspect_statement.Replacing.{Replacing}
 use Rattle.source_tree.specs.declared.inspect_statement.Replacing.TheVariants as replacing
 use Rattle.source_tree.specs.declared.inspect_statement.InspectStatement.{InspectStatement}
 use Rattle.source_tree.specs.Broken.{RuleBreach, where_so, each}
+use Rattle.source_tree.specs.Clauses.{or_else}
+use Rattle.source_tree.specs.Integers.{number_of}
+use Rattle.source_tree.specs.Parts.{known_literal, known_length, length_from, seen_by, seen_through}
 use Rattle.source_tree.specs.Display.{figurative_byte, shown_literal}
 use Rattle.source_tree.specs.LookUp.{is_item, items_named, first}
 use Rattle.source_tree.specs.NameRules.{form_rule, unique_name_rules, reference_rules}
@@ -36,7 +42,9 @@ use Rattle.source_tree.specs.Storage.{Storage}
 use Rattle.source_tree.specs.ValueRules.{has_form, most_literal_characters}
 use Rattle.source_tree.specs.ConditionRules.{operand_place}
 use Rattle.source_tree.specs.InspectRules.{counter_item, inspected_item, inspected_literal, inspected_rules, only_size}
-use Rattle.source_tree.specs.InspectRules.{size_of, literal_size, replacing_size, same_size, by_rules, limit_rules}
+use Rattle.source_tree.specs.InspectRules.{TextSize, AnySize, Exactly, Unknown, size_by, size_seen, size_of}
+use Rattle.source_tree.specs.InspectRules.{literal_size, replacing_size, may_replace, by_rules, known_text_rules}
+use Rattle.source_tree.specs.InspectRules.{limit_rules}
 use Rattle.source_tree.specs.InspectRules.{limits_rules, ordered_limits, tallied_text_rules, tallied_rules}
 use Rattle.source_tree.specs.InspectRules.{tallying_rules, replaced_text_rules, replacing_rules, inspect_rules}
 use Rattle.source_tree.specs.Inspecting.{inspect}
@@ -47,8 +55,10 @@ use Rattle.source_tree.specs.InspectLayout.{replacing_entries, what_texts, by_te
 use Rattle.source_tree.specs.InspectLayout.{entry_texts, entries_texts, fit_of, span_at, what_fit, by_span, limit_span}
 use Rattle.source_tree.specs.InspectLayout.{before_at, after_at, by_at, limits_at, entry_at, entries_at, all_tallied}
 use Rattle.source_tree.specs.InspectLayout.{all_replaced, tallied_size, inspected_size, inspection, inspect_by_spans}
+use Rattle.source_tree.specs.InspectLayout.{InspectArgument, Counter, Text, Characters, takings, HasKnownLength}
+use Rattle.source_tree.specs.InspectLayout.{IsOfKnownSize, HasKnownTexts, HasNoPart}
 use Rattle.source_tree.proofs.SoundFiles.{left_none, right_none, kept}
-use Rattle.source_tree.proofs.InspectTaking.{sizes_append}
+use Rattle.source_tree.proofs.InspectTaking.{same_Some, sizes_append}
 use Rattle.source_tree.proofs.InspectMeaning.{whole_size, spans_mean}
 
 all_both : {A : Type 0} (P : A → Type 0) (xs ys : List A) → AllByRecursion P xs → AllByRecursion P ys
@@ -208,39 +218,67 @@ module _ (items : List LocatedItem) where
 
   -- ---- from the rules: sizes
 
+  -- what the rules know of a size
+  abbrev IsSizeOf : TextSize → ℕ → Type 0
+  IsSizeOf AnySize size = ⊥
+  IsSizeOf (Exactly n) size = n ≡ size
+  IsSizeOf Unknown size = Unit {0}
+
+  by_length : (known : Option ℕ) (size : ℕ) → IsSizeOf (size_by known) (or_else known size)
+  by_length None size = tt
+  by_length (Some n) size = refl
+
+  seen_size : (part : Option Part) (found : LocatedItem)
+      → IsSizeOf (size_seen found.item.length part) (seen_by part found).item.length
+  seen_size None found = refl
+  seen_size (Some part) found = by_length (known_length found.item.length part.first part.length) found.item.length
+
   item_size : (one : Reference) → reference_rules items inspected_item one ≡ []
-      → only_size (items_named items one.item) ≡ Some (text_size items (Bytes one))
+      → IsSizeOf (only_size one.part (items_named items one.item)) (text_size items (Bytes one))
   item_size one e =
       let found = only_named one.item.name.place _ (items_named items one.item) (left_none _ _ e) in
-      ap only_size found.1 ∙ sym (ap (λ l. Some (found_size (first l))) found.1)
+      subst (λ l. IsSizeOf (only_size one.part l) (found_size (first (map (seen_through one) l)))) (sym found.1)
+      (seen_size one.part found.0)
 
   known_size : (one : Operand) → inspected_rules items one ≡ []
-      → size_of items one ≡ Some (text_size items (source one))
+      → IsSizeOf (size_of items one) (text_size items (source one))
   known_size (operand.Item one) e = item_size one e
   known_size (operand.Literal one) e = refl
 
-  sizes_are_same : (place : Place) (known other : Option ℕ) (n m : ℕ) → known ≡ Some n → other ≡ Some m
-      → where_so (not (same_size known other)) 64 place ≡ [] → m ≡ n
-  sizes_are_same place known other n m e f h =
-      sym (same_numbers n m (kept (n == m) 64 place (sym (ap (λ o. where_so (not (same_size o other)) 64 place) e
-      ∙ ap (λ o. where_so (not (same_size (Some n) o)) 64 place) f) ∙ h)))
+  replaces_same : (one other : TextSize) (n m : ℕ) → IsSizeOf one n → IsSizeOf other m
+      → may_replace one other ≡ true → m ≡ n
+  replaces_same AnySize other n m e f h = absurd e
+  replaces_same (Exactly a) AnySize n m e f h = absurd f
+  replaces_same (Exactly a) (Exactly b) n m e f h = sym f ∙ sym (same_numbers a b h) ∙ e
+  replaces_same (Exactly a) Unknown n m e f h = absurd cc
+  replaces_same Unknown AnySize n m e f h = absurd f
+  replaces_same Unknown (Exactly b) n m e f h = absurd cc
+  replaces_same Unknown Unknown n m e f h = absurd cc
 
-  literal_same : (place : Place) (size : ℕ) (value : LiteralValue)
-      → where_so (not (same_size (Some size) (literal_size value))) 64 place ≡ []
+  sizes_are_same : (place : Place) (one other : TextSize) (n m : ℕ) → IsSizeOf one n → IsSizeOf other m
+      → where_so (not (may_replace one other)) 64 place ≡ [] → m ≡ n
+  sizes_are_same place one other n m e f h = replaces_same one other n m e f (kept (may_replace one other) 64 place h)
+
+  literal_same : (place : Place) (known : TextSize) (size : ℕ) (value : LiteralValue) → IsSizeOf known size
+      → where_so (not (may_replace known (literal_size value))) 64 place ≡ []
       → text_size items (replacing_literal size value) ≡ size
-  literal_same place size (literal.Figurative constant) h = length-replicate size (figurative_byte constant)
-  literal_same place size (literal.Numeric number) h = sizes_are_same place (Some size) _ size _ refl refl h
-  literal_same place size (literal.Nonnumeric bytes) h = sizes_are_same place (Some size) _ size _ refl refl h
-  literal_same place size (literal.All bytes) h = sizes_are_same place (Some size) _ size _ refl refl h
+  literal_same place known size (literal.Figurative constant) e h = length-replicate size (figurative_byte constant)
+  literal_same place known size (literal.Numeric number) e h = sizes_are_same place known
+      (literal_size (literal.Numeric number)) size _ e refl h
+  literal_same place known size (literal.Nonnumeric bytes) e h = sizes_are_same place known
+      (literal_size (literal.Nonnumeric bytes)) size _ e refl h
+  literal_same place known size (literal.All bytes) e h = sizes_are_same place known
+      (literal_size (literal.All bytes)) size _ e refl h
 
-  by_same : (size : ℕ) (by : Operand) → by_rules items (Some size) by ≡ []
+  by_same : (known : TextSize) (size : ℕ) (by : Operand) → IsSizeOf known size → by_rules items known by ≡ []
       → text_size items (replacing_text size by) ≡ size
-  by_same size (operand.Item one) e =
+  by_same known size (operand.Item one) is e =
       let rules = inspected_rules items (operand.Item one) in
-      sizes_are_same (operand_place (operand.Item one)) (Some size) (replacing_size items (operand.Item one)) size _
-      refl (item_size one (left_none rules _ e)) (right_none rules _ e)
-  by_same size (operand.Literal one) e = literal_same (operand_place (operand.Literal one)) size one.value
-      (right_none (inspected_rules items (operand.Literal one)) _ e)
+      sizes_are_same (operand_place (operand.Item one)) known (replacing_size items (operand.Item one)) size _
+      is (item_size one (left_none rules _ e)) (right_none rules _ e)
+  by_same known size (operand.Literal one) is e =
+      literal_same (operand_place (operand.Literal one)) known size one.value
+      is (right_none (inspected_rules items (operand.Literal one)) _ e)
 
   -- ---- from the rules: some characters
 
@@ -264,6 +302,38 @@ module _ (items : List LocatedItem) where
   form_kept one (literal.All bytes) e is = ap has_form (sym is)
       ∙ kept (has_form one.value) (form_rule one.value) one.place e
 
+  literal_some : (size m n : ℕ) (test : Bool) → (nat_le 1 m && nat_le m size) ≡ test
+      → cond test (Some m) None ≡ Some n → 1 ≤ n × n ≤ size
+  literal_some size m n false e is = absurd cc
+  literal_some size m n true e is =
+      let same = same_Some m n is in
+      (grind (arith, nat_tests, same), grind (arith, nat_tests, same))
+
+  known_some : (size : ℕ) (one : Subscript) (n : ℕ) → known_literal size one ≡ Some n → 1 ≤ n × n ≤ size
+  known_some size (subscript.Literal m) n e = literal_some size (number_of m) n
+      (nat_le 1 (number_of m) && nat_le (number_of m) size) refl e
+  known_some size (subscript.Item item adjustment) n e = absurd cc
+
+  from_some : (size : ℕ) (one : Subscript) (known : Option ℕ) → known_literal size one ≡ known → 1 ≤ size
+      → 1 ≤ or_else (length_from size known) size
+  from_some size one None e h = h
+  from_some size one (Some n) e h = let within = known_some size one n e in omega (arith, within.0, within.1)
+
+  literal_or : (size : ℕ) (one : Subscript) (known : Option ℕ) → known_literal size one ≡ known → 1 ≤ size
+      → 1 ≤ or_else known size
+  literal_or size one None e h = h
+  literal_or size one (Some n) e h = (known_some size one n e).0
+
+  length_some : (size : ℕ) (one : Subscript) (length : Option Subscript) → 1 ≤ size
+      → 1 ≤ or_else (known_length size one length) size
+  length_some size one None h = from_some size one (known_literal size one) refl h
+  length_some size one (Some length) h = literal_or size length (known_literal size length) refl h
+
+  seen_some : (part : Option Part) (found : LocatedItem) → 1 ≤ found.item.length
+      → 1 ≤ (seen_by part found).item.length
+  seen_some None found h = h
+  seen_some (Some part) found h = length_some found.item.length part.first part.length h
+
   module _ (sized : AllByRecursion (λ one. 1 ≤ one.item.length) items) where
     item_some : (one : Reference) → reference_rules items inspected_item one ≡ [] → IsSome (Bytes one)
     item_some one e =
@@ -271,15 +341,19 @@ module _ (items : List LocatedItem) where
         let P : LocatedItem → Type 0 = λ x. 1 ≤ x.item.length in
         let there : AllByRecursion P (found.0 ∷ []) = subst (AllByRecursion P) found.1
         (filtered P (is_item one.item) items sized) in
-        subst (λ n. 1 ≤ n) (sym (ap (λ l. found_size (first l)) found.1)) there.0
+        subst (λ l. 1 ≤ found_size (first (map (seen_through one) l))) (sym found.1)
+        (seen_some one.part found.0 there.0)
 
     operand_some : (one : Operand) → inspected_rules items one ≡ [] → IsSome (source one)
     operand_some (operand.Item one) e = item_some one e
     operand_some (operand.Literal one) e = value_some one one.value e (form_kept one one.value e refl)
 
+    text_some : (one : Operand) → known_text_rules items one ≡ [] → IsSome (source one)
+    text_some one e = operand_some one (left_none (inspected_rules items one) _ e)
+
     limit_some : (one : Option Operand) → limit_rules items one ≡ [] → SomeLimit one
     limit_some None e = tt
-    limit_some (Some one) e = operand_some one e
+    limit_some (Some one) e = text_some one e
 
     ordered_some : (before after : Option Operand) (turned : Bool) → ordered_limits items before after turned ≡ []
         → SomeLimit before × SomeLimit after
@@ -314,10 +388,10 @@ module _ (items : List LocatedItem) where
         → AreSized (tallied_text kind one ∷ [])
     tallied_text_sized kind one e =
         let limits = limits_some one.limits
-        (right_none (inspected_rules items one.text) (limits_rules items one.limits) e) in (
+        (right_none (known_text_rules items one.text) (limits_rules items one.limits) e) in (
           record {
-            what = operand_some one.text
-                (left_none (inspected_rules items one.text) (limits_rules items one.limits) e);
+            what = text_some one.text
+                (left_none (known_text_rules items one.text) (limits_rules items one.limits) e);
             by = tt;
             before = limits.0;
             after = limits.1;
@@ -340,17 +414,16 @@ module _ (items : List LocatedItem) where
     replaced_text_sized : (kind : Occurrences) (one : ReplacedText) → replaced_text_rules items one ≡ []
         → AreSized (replaced_text items kind one ∷ [])
     replaced_text_sized kind one e =
-        let a = inspected_rules items one.text in
+        let a = known_text_rules items one.text in
         let b = by_rules items (size_of items one.text) one.by in
         let c = limits_rules items one.limits in
         let f = left_none (a ++ b) c e in
         let size = text_size items (source one.text) in
-        let by = subst (λ o. by_rules items o one.by ≡ []) (known_size one.text (left_none a b f))
-        (right_none a b f) in
+        let known = known_size one.text (left_none (inspected_rules items one.text) _ (left_none a b f)) in
         let limits = limits_some one.limits (right_none (a ++ b) c e) in (
           record {
-            what = operand_some one.text (left_none a b f);
-            by = by_same size one.by by;
+            what = text_some one.text (left_none a b f);
+            by = by_same (size_of items one.text) size one.by known (right_none a b f);
             before = limits.0;
             after = limits.1;
           },
@@ -359,10 +432,11 @@ module _ (items : List LocatedItem) where
 
     replacing_sized : (one : Replacing) → replacing_rules items one ≡ [] → AreSized (replacing_entries items one)
     replacing_sized (replacing.Characters by limits) e =
-        let h = limits_some limits (right_none (by_rules items (Some 1) by) (limits_rules items limits) e) in (
+        let h = limits_some limits (right_none (by_rules items (Exactly 1) by) (limits_rules items limits) e) in (
           record {
             what = tt;
-            by = by_same 1 by (left_none (by_rules items (Some 1) by) (limits_rules items limits) e);
+            by =
+                by_same (Exactly 1) 1 by refl (left_none (by_rules items (Exactly 1) by) (limits_rules items limits) e);
             before = h.0;
             after = h.1;
           },
@@ -403,7 +477,29 @@ pub inspection_within : (items : List LocatedItem) → AreSomeBytes items → (o
 inspection_within items sized one e = kept_within items (by_number (λ item. 1 ≤ item.item.length) items sized) one e
 
 pub inspected_alike : (items : List LocatedItem) → AreSomeBytes items → (one : InspectStatement) (storage : Storage)
-    → inspect_rules items one ≡ [] → inspect items one storage ≡ inspect_by_spans items one storage
-inspected_alike items sized one storage e =
+    → inspect_rules items one ≡ [] → HasKnownTexts items one
+    → inspect items one storage ≡ inspect_by_spans items one storage
+inspected_alike items sized one storage e known =
     let within = inspection_within items sized one e in
-    sym (spans_mean items one storage within.tallying within.replacing)
+    sym (spans_mean items one storage within.tallying within.replacing known)
+
+-- ---- texts without parts
+
+without_part : (items : List LocatedItem) (one : InspectArgument) → HasNoPart one → IsOfKnownSize items one
+without_part items (Counter one) e = tt
+without_part items (Text (Bytes one)) e = known (first (items_named items one.item)) one.part e
+  where
+    known : (found : Option LocatedItem) (part : Option Part) → part ≡ None → HasKnownLength found part
+    known None part e = tt
+    known (Some found) None e = tt
+    known (Some found) (Some part) e = absurd cc
+without_part items (Text (Characters text)) e = tt
+
+each_without : (items : List LocatedItem) (all : List InspectArgument) → AllByRecursion HasNoPart all
+    → AllByRecursion (IsOfKnownSize items) all
+each_without items [] h = tt
+each_without items (one ∷ more) h = (without_part items one h.0, each_without items more h.1)
+
+pub without_parts : (items : List LocatedItem) (one : InspectStatement) → AllByRecursion HasNoPart (takings items one)
+    → HasKnownTexts items one
+without_parts items one h = each_without items (takings items one) h

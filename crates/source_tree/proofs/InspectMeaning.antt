@@ -27,11 +27,12 @@ use Rattle.source_tree.specs.InspectLayout.{taken_size, InspectEntry, replaced_t
 use Rattle.source_tree.specs.InspectLayout.{replacing_entries, entry_texts, entries_texts, tallying_takings, by_span}
 use Rattle.source_tree.specs.InspectLayout.{by_at, entries_at, entry_counts, all_replaced, tallied_size, inspected_size}
 use Rattle.source_tree.specs.InspectLayout.{inspection, InspectTaken, with_counter, with_text, take_each, fits_together}
-use Rattle.source_tree.specs.InspectLayout.{counted_fits, store_replaced, inspect_at, inspect_by_spans}
+use Rattle.source_tree.specs.InspectLayout.{counted_fits, store_replaced, inspect_at, inspect_by_spans, IsOfKnownSize}
+use Rattle.source_tree.specs.InspectLayout.{HasKnownTexts}
 use Rattle.source_tree.proofs.InspectWalks.{entry_of, of_each, HasBy, tallied_same, replaced_same}
 use Rattle.source_tree.proofs.InspectTaking.{Alike, okay, bind_same, bind_ok, sizes_append, texts_append, Reads}
 use Rattle.source_tree.proofs.InspectTaking.{reads_then, read_all, entries_in, entries_append, takes_counter}
-use Rattle.source_tree.proofs.InspectTaking.{takes_all_replaced}
+use Rattle.source_tree.proofs.InspectTaking.{takes_all_replaced, AreKnown, all_front, all_back}
 
 -- ---- the count of each counter
 
@@ -197,16 +198,23 @@ module _ (items : List LocatedItem) (storage : Storage) where
         (meaning.all_entries y) h k.entries;
   }
 
-  counters_taken : (all : List Tallying)
+  known_texts : (texts : List Source) → AllByRecursion (IsOfKnownSize items) (map Text texts) → AreKnown items texts
+  known_texts [] h = tt
+  known_texts (one ∷ more) h = (h.0, known_texts more h.1)
+
+  counters_taken : (all : List Tallying) → AllByRecursion (IsOfKnownSize items) (tallying_takings all)
       → Alike (CountersTaken all) (take_each items (tallying_takings all) storage)
       (take_all (take_counter items storage) all)
-  counters_taken [] = record {
+  counters_taken [] known = record {
     places = refl;
     sizes = refl;
     entries = record { size_is = refl; found = λ front back. refl };
   }
-  counters_taken (one ∷ more) =
+  counters_taken (one ∷ more) known =
       let texts = entries_texts (counter_entries one) in
+      let front = map Text texts in
+      let own = known_texts texts (all_front (IsOfKnownSize items) front (tallying_takings more) known.1) in
+      let others = all_back (IsOfKnownSize items) front (tallying_takings more) known.1 in
       let p = place_of items one.counter storage in
       let x = take_each items (tallying_takings more) storage in
       let u = read_all items storage texts in
@@ -219,7 +227,7 @@ module _ (items : List LocatedItem) (storage : Storage) where
       subst (λ (r : Evaluation InspectTaken). Alike (CountersTaken (one ∷ more))
       (p >>= (λ place. r >>= (λ t. okay (with_counter place t))))
       (take_all (take_counter items storage) (one ∷ more))) (sym same)
-      (one_more one more p u v x y (takes_counter items storage one) (counters_taken more))
+      (one_more one more p u v x y (takes_counter items storage one own) (counters_taken more others))
 
 -- ---- sizes
 
@@ -375,10 +383,14 @@ module _ (items : List LocatedItem) (one : InspectStatement) (storage : Storage)
   taken_same subject (Ok a) (Ok t) (Ok c) (Err g) h k = absurd k
   taken_same subject (Ok a) (Ok t) (Ok c) (Ok e) h k = inspected_same subject a (only t) c e h k refl
 
-  pub spans_mean : inspect_by_spans items one storage ≡ inspect items one storage
-  spans_mean = bind_same (place_of items one.subject storage) _ _ (λ subject.
+  pub spans_mean : HasKnownTexts items one → inspect_by_spans items one storage ≡ inspect items one storage
+  spans_mean known = bind_same (place_of items one.subject storage) _ _ (λ subject.
       let texts = entries_texts (all_replaced items one) in
-      let x = take_each items (tallying_takings one.tallying) storage in
+      let front = tallying_takings one.tallying in
+      let tallied_known = all_front (IsOfKnownSize items) front (map Text texts) known in
+      let replaced_known = known_texts items storage texts
+      (all_back (IsOfKnownSize items) front (map Text texts) known) in
+      let x = take_each items front storage in
       let u = read_all items storage texts in
       let how = λ (taken : InspectTaken). inspect_at (inspection items one) taken.texts taken.counters subject
       storage in
@@ -388,4 +400,5 @@ module _ (items : List LocatedItem) (one : InspectStatement) (storage : Storage)
       (only_texts items storage texts))
       ∙ taken_same subject x u (take_all (take_counter items storage) one.tallying)
       (take_all (take_replacing items storage) one.replacing)
-      (counters_taken items storage one.tallying) (takes_all_replaced items storage one.replacing))
+      (counters_taken items storage one.tallying tallied_known)
+      (takes_all_replaced items storage one.replacing replaced_known))

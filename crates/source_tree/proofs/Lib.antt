@@ -18,9 +18,11 @@ pub mod Computing
 pub mod PlaceExamples
 pub mod EntryExamples
 pub mod MoveExamples
+pub mod PartExamples
 pub mod StringExamples
 pub mod InspectWalks
 pub mod InspectTaking
+pub mod Parts
 pub mod InspectMeaning
 pub mod InspectKept
 pub mod InspectExamples

@@ -1,5 +1,5 @@
 -- References, MOVE, DISPLAY and ACCEPT.
-use Rattle.std.proofs.Common.{◌≡◌, ℕ, true, false, List, [], ◌∷◌, ◌++◌, refl}
+use Rattle.std.proofs.Common.{◌≡◌, ℕ, true, false, List, [], ◌∷◌, ◌++◌, None, refl}
 use Rattle.std.specs.Prelude.{codes, map, Ok, Err}
 use Rattle.source_tree.specs.declared.literal.Figurative.TheVariants as figurative
 use Rattle.lexical.specs.declared.number.Sign.TheVariants as sign
@@ -52,7 +52,7 @@ abbrev Broke : List (List ℕ × List (List ℕ) × List Subscript × List ℕ) 
 Broke [] = Unit {0}
 Broke (row ∷ more) =
     (rules (reference_rules (items_of some_entries) any_item
-    (record { item = qualified row.0 row.1; subscripts = row.2 })) ≡ row.3) × Broke more
+    (record { item = qualified row.0 row.1; subscripts = row.2; part = None })) ≡ row.3) × Broke more
 
 -- 40 unknown, or a condition name; 41 ambiguous; 50 number of subscripts; 51 decimals in a subscript
 names : Broke ((codes "Z", [], [], 40 ∷ [])

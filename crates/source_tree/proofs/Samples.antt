@@ -127,7 +127,7 @@ abbrev pub qualified : List ℕ → List (List ℕ) → QualifiedName
 qualified called groups = record { name = name called; qualifiers = map name groups }
 
 abbrev pub reference : List ℕ → List Subscript → Reference
-reference called subscripts = record { item = qualified called []; subscripts = subscripts }
+reference called subscripts = record { item = qualified called []; subscripts = subscripts; part = None }
 
 abbrev pub plain : List ℕ → Reference
 plain called = reference called []

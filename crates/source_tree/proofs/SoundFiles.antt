@@ -31,7 +31,7 @@ use Rattle.source_tree.specs.ValueRules.{are_some}
 use Rattle.records.specs.Tests.{is_sequential}
 use Rattle.source_tree.specs.Rooms.{area_lengths}
 use Rattle.source_tree.specs.EntryRules.{most_entries, outermost, level_rules, homeless, excess, forest_rules}
-use Rattle.source_tree.specs.NameRules.{unique_name_rules}
+use Rattle.source_tree.specs.NameRules.{unique_name_rules, no_part_rules}
 use Rattle.source_tree.specs.PerformRules.{is_among, given_once}
 use Rattle.source_tree.specs.FileRules.{most_files, most_record_bytes, most_key_bytes, most_alternate_keys, broken_at}
 use Rattle.source_tree.specs.FileRules.{select_names, description_names, broken_match_rule, file_name_rules}
@@ -51,6 +51,14 @@ left_none (x ∷ xs) ys e = absurd cc
 pub right_none : (xs ys : List RuleBreach) → xs ++ ys ≡ [] → ys ≡ []
 right_none [] ys e = e
 right_none (x ∷ xs) ys e = absurd cc
+
+-- a name without a part
+without_part : (key : Reference) (asked : LocatedItem → List RuleBreach) (found : List LocatedItem)
+    → unique_name_rules key.item.name.place (λ one. no_part_rules key ++ asked one) found ≡ []
+    → unique_name_rules key.item.name.place asked found ≡ []
+without_part key asked [] e = absurd cc
+without_part key asked (only ∷ []) e = right_none (no_part_rules key) (asked only) e
+without_part key asked (one ∷ other ∷ more) e = absurd cc
 
 pub kept : (test : Bool) (rule : ℕ) (place : Place) → where_so (not test) rule place ≡ [] → test ≡ true
 kept true rule place e = refl
@@ -184,7 +192,9 @@ found_keeps there taken key (one ∷ other ∷ more) e = absurd cc
 module _ (items : List LocatedItem) (there : DescribedFile) where
   key_keeps : (taken : List ℕ) (key : Reference) → clause_item items (key_item there taken) key ≡ []
       → KeepsRules there taken (key_place items key)
-  key_keeps taken key e = found_keeps there taken key (items_named items key.item) e
+  key_keeps taken key e =
+      let found = items_named items key.item in
+      found_keeps there taken key found (without_part key (key_item there taken key) found e)
 
   -- alternate keys behind keys at some places
   record AreSound (taken : List ℕ) (keys : List AlternateKey) : Type 0 where
@@ -364,7 +374,9 @@ module _ (items : List LocatedItem) where
   status_sound : (areas : ℕ) (clause : Option Reference) → in_clause (clause_item items (status_item areas)) clause ≡ []
       → IfSome (item_place items clause) (IsStatus areas)
   status_sound areas None e = tt
-  status_sound areas (Some one) e = status_found areas one (items_named items one.item) e
+  status_sound areas (Some one) e =
+      let found = items_named items one.item in
+      status_found areas one found (without_part one (status_item areas one) found e)
 
   no_item : (area : ℕ) (clause : Option Reference) → clause ≡ None
       → IfSome (item_place items clause) (IsRelativeKey area)
@@ -374,7 +386,9 @@ module _ (items : List LocatedItem) where
   relative_by : (there : DescribedFile) (one : Select) (clause : Option Reference)
       → relative_rules items there one clause ≡ [] → IfSome (item_place items clause) (IsRelativeKey there.area)
   relative_by there one None e = tt
-  relative_by there one (Some key) e = relative_found there key (items_named items key.item) e
+  relative_by there one (Some key) e =
+      let found = items_named items key.item in
+      relative_found there key found (without_part key (relative_item there key) found e)
 
   relative_sound : (there : DescribedFile) (organization : OrganizationClause) (one : Select) → organization_rules items
       there organization one ≡ [] → IfSome (item_place items one.relative_key) (IsRelativeKey there.area)

@@ -23,10 +23,11 @@ use Rattle.source_tree.specs.declared.condition.Condition.TheFolds.{fold-Conditi
 use Rattle.source_tree.specs.declared.until.Varying.{Varying}
 use Rattle.source_tree.specs.declared.until.Until.{Until}
 use Rattle.source_tree.specs.Places.{LocatedItem}
-use Rattle.source_tree.specs.LookUp.{NamedCondition, items_named, conditions_named}
+use Rattle.source_tree.specs.LookUp.{NamedCondition, conditions_named}
+use Rattle.source_tree.specs.Parts.{items_referred}
 use Rattle.source_tree.specs.Broken.{RuleBreach, where_so, each}
 use Rattle.source_tree.specs.MoveRules.{move_rules}
-use Rattle.source_tree.specs.NameRules.{unique_name_rules, subscript_rules, literal_rules, operand_rules, reference_rules, any_item}
+use Rattle.source_tree.specs.NameRules.{unique_name_rules, no_part_rules, number_rules_of, literal_rules, operand_rules, reference_rules, any_item}
 use Rattle.source_tree.specs.ArithmeticRules.{number_rules, expression_rules, operation_rules}
 use Rattle.source_tree.specs.Until.{vary_operation}
 use Rattle.source_tree.specs.Conditions.{alone_side}
@@ -57,7 +58,7 @@ compared_only (only ∷ []) = compared_kind only.item.kind
 compared_only _ = Either
 
 abbrev pub compared_alone : List LocatedItem → Option Operand → SideKind
-compared_alone items (Some (operand.Item one)) = compared_only (items_named items one.item)
+compared_alone items (Some (operand.Item one)) = compared_only (items_referred items one)
 compared_alone items (Some (operand.Literal one)) = compared_literal one.value
 compared_alone items None = Number false
 
@@ -88,13 +89,13 @@ abbrev pub side_place : Side → Place
 side_place (side.Expression one) = expression_place one
 side_place (side.Literal one) = one.place
 
--- a condition name has as many subscripts as its item has dimensions
+-- A condition name has as many subscripts as its item has dimensions, and no parts.
 abbrev pub condition_subscripts : Reference → NamedCondition → List RuleBreach
-condition_subscripts one found = where_so (not (length one.subscripts == length found.item.dimensions)) 50 one.item.name.place
+condition_subscripts one found = where_so (not (length one.subscripts == length found.item.dimensions)) 50 one.item.name.place ++ no_part_rules one
 
 abbrev pub condition_name_rules : List LocatedItem → Reference → List RuleBreach
 condition_name_rules items one =
-    unique_name_rules one.item.name.place (condition_subscripts one) (conditions_named items one.item) ++ each (subscript_rules items) one.subscripts
+    unique_name_rules one.item.name.place (condition_subscripts one) (conditions_named items one.item) ++ number_rules_of items one
 
 -- a side by itself: an operand alone of any kind, or numbers
 abbrev pub side_from : List LocatedItem → Option Operand → Side → List RuleBreach

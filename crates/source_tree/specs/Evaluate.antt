@@ -1,7 +1,7 @@
 -- EVALUATE (COBOL-85, Nucleus, "The EVALUATE statement"). First the subjects are taken. Which objects are met is then told by the
 -- conditions that they ask of the subjects (own choice): nothing is stored in between, so that a subject has the value with which it was
 -- taken at all of them.
-use Rattle.std.specs.Prelude.{ℕ, Bool, true, false, not, List, [], ◌∷◌, Option, Some, None, Ok}
+use Rattle.std.specs.Prelude.{Bool, true, false, not, List, [], ◌∷◌, Option, Some, None, Ok}
 use Rattle.source_tree.specs.declared.reference.Reference.{Reference}
 use Rattle.source_tree.specs.declared.expression.Operand.{Operand}
 use Rattle.source_tree.specs.declared.expression.Operand.TheVariants as operand

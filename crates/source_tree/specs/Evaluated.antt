@@ -1,10 +1,12 @@
 -- What statements find out from storage, or the fault that ends the run (own choice: COBOL-85 leaves open what happens then).
 use Rattle.std.specs.Prelude.{Option, Some, None, Result, Ok, Err}
 
--- What a program does wrong: bytes that are no number, a subscript out of range, or a file status that nothing in it takes.
+-- What a program does wrong: bytes that are no number, a subscript out of range, a part that its item lacks, or a file status that nothing
+-- in it takes.
 pub data Fault : Type 0 where
   Data : Fault
   Subscript : Fault
+  Part : Fault
   FileStatus : Fault
 
 abbrev pub Evaluation : Type 0 → Type 0

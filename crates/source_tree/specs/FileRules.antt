@@ -26,7 +26,7 @@ use Rattle.source_tree.specs.ProgramFiles.{DescribedFile, described_file, key_pl
 use Rattle.source_tree.specs.Broken.{RuleBreach, where_so, each}
 use Rattle.source_tree.specs.ValueRules.{are_some}
 use Rattle.source_tree.specs.EntryRules.{most_entries, most_storage, outermost, level_rules, homeless, excess, forest_rules}
-use Rattle.source_tree.specs.NameRules.{unique_name_rules}
+use Rattle.source_tree.specs.NameRules.{unique_name_rules, no_part_rules}
 use Rattle.source_tree.specs.PerformRules.{is_among, given_once}
 use Rattle.source_tree.specs.ConditionRules.{is_display}
 
@@ -161,7 +161,7 @@ in_clause rules (Some one) = rules one
 module _ (items : List LocatedItem) where
   -- what is asked of the item that a clause names
   abbrev pub clause_item : (Reference → LocatedItem → List RuleBreach) → Reference → List RuleBreach
-  clause_item asked one = unique_name_rules one.item.name.place (asked one) (items_named items one.item)
+  clause_item asked one = unique_name_rules one.item.name.place (λ found. no_part_rules one ++ asked one found) (items_named items one.item)
 
   -- alternate keys, behind keys at these places
   abbrev pub alternate_rules : DescribedFile → List ℕ → List AlternateKeyClause → List RuleBreach

@@ -36,7 +36,7 @@ use Rattle.source_tree.specs.LookUp.{is_item}
 use Rattle.source_tree.specs.ProgramFiles.{ProgramFile, files_named, files_with, place_in_record}
 use Rattle.source_tree.specs.Filing.{is_in_sequence}
 use Rattle.source_tree.specs.Broken.{RuleBreach, where_so, each}
-use Rattle.source_tree.specs.NameRules.{unique_name_rules, reference_rules}
+use Rattle.source_tree.specs.NameRules.{unique_name_rules, no_part_rules, reference_rules}
 use Rattle.source_tree.specs.MoveRules.{receives, move_rules}
 use Rattle.source_tree.specs.FileRules.{is_plain, clause_item}
 
@@ -177,7 +177,7 @@ module _ (items : List LocatedItem) (files : List ProgramFile) where
 
   -- WRITE and REWRITE
   abbrev pub record_rules : {S : Type 0} → Reference → Option Reference → FilePhrases S → List RuleBreach
-  record_rules one from phrases = reference_rules items (record_item phrases) one ++ from_rules one from
+  record_rules one from phrases = reference_rules items (λ place found. no_part_rules one ++ record_item phrases place found) one ++ from_rules one from
 
   abbrev pub delete_rules : {S : Type 0} → Place → FilePhrases S → ProgramFile → List RuleBreach
   delete_rules place phrases file =

@@ -21,7 +21,8 @@ use Rattle.source_tree.specs.Starts.{or_initial, with_value}
 use Rattle.source_tree.specs.Literals.{Sender, literal_sender}
 use Rattle.source_tree.specs.Storage.{Storage}
 use Rattle.source_tree.specs.Evaluated.{Evaluation, ◌>>=◌, evaluation_of}
-use Rattle.source_tree.specs.References.{ItemPlace, part_of, storage_with, occurrence}
+use Rattle.source_tree.specs.References.{ItemPlace, part_of, storage_with, occurrence, referred_place}
+use Rattle.source_tree.specs.Parts.{seen_through}
 use Rattle.source_tree.specs.LookUp.{NamedCondition, items_named, conditions_named, first}
 use Rattle.source_tree.specs.Moving.{moved_by}
 
@@ -90,8 +91,8 @@ abbrev pub initialize : List LocatedItem → List Reference → Storage → Eval
 initialize items [] storage = Ok storage
 initialize items (one ∷ more) storage =
     evaluation_of (first (items_named items one.item)) >>= (λ found.
-    occurrence items one.subscripts found storage >>= (λ place.
-    initialize items more (overlaid_storage (named_pattern found) place storage)))
+    referred_place items one found storage >>= (λ place.
+    initialize items more (overlaid_storage (named_pattern (seen_through one found)) place storage)))
 
 -- ---- SET of condition names TO TRUE
 

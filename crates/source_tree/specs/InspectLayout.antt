@@ -1,6 +1,7 @@
 -- INSPECT as a machine lays it out (own choice): the texts of all entries are joined in one buffer, and entries are spans of it, by the sizes
--- of items and literals alone. `inspect_law` says that this is what INSPECT means.
-use Rattle.std.specs.Prelude.{ℕ, zero, suc, ◌+◌, if◌then◌else◌, List, [], ◌∷◌, ◌++◌, length, map, replicate, Option, Some, None, Ok}
+-- of items and literals alone. `inspect_law` says that this is what INSPECT means if the size of each text is known before a run.
+use Rattle.std.specs.Prelude.{ℕ, zero, suc, ◌+◌, if◌then◌else◌, List, [], ◌∷◌, ◌++◌, length, map, replicate, ◌≡◌, ◌≢◌, Option, Some, None, Ok}
+use Rattle.std.specs.List.{AllByRecursion}
 use Rattle.text_ops.specs.declared.entry.Span.{Span}
 use Rattle.text_ops.specs.declared.entry.Fit.{Fit}
 use Rattle.text_ops.specs.declared.entry.Fit.TheVariants as fit
@@ -8,6 +9,7 @@ use Rattle.text_ops.specs.declared.entry.Entry.{Entry}
 use Rattle.text_ops.specs.Inspect.{tally, replaced_subject}
 use Rattle.source_tree.specs.declared.literal.LiteralValue.{LiteralValue}
 use Rattle.source_tree.specs.declared.literal.LiteralValue.TheVariants as literal
+use Rattle.source_tree.specs.declared.reference.Part.{Part}
 use Rattle.source_tree.specs.declared.reference.Reference.{Reference}
 use Rattle.source_tree.specs.declared.expression.Operand.{Operand}
 use Rattle.source_tree.specs.declared.expression.Operand.TheVariants as operand
@@ -25,6 +27,7 @@ use Rattle.source_tree.specs.declared.inspect_statement.InspectStatement.{Inspec
 use Rattle.source_tree.specs.Display.{figurative_byte, shown_literal}
 use Rattle.source_tree.specs.Places.{LocatedItem}
 use Rattle.source_tree.specs.LookUp.{items_named, first}
+use Rattle.source_tree.specs.Parts.{known_length, items_referred}
 use Rattle.source_tree.specs.Storage.{Storage}
 use Rattle.source_tree.specs.Evaluated.{Evaluation, ◌>>=◌}
 use Rattle.source_tree.specs.References.{ItemPlace, part_of, storage_with, place_of}
@@ -53,7 +56,7 @@ found_size None = 0
 found_size (Some found) = found.item.length
 
 abbrev pub text_size : List LocatedItem → Source → ℕ
-text_size items (Bytes one) = found_size (first (items_named items one.item))
+text_size items (Bytes one) = found_size (first (items_referred items one))
 text_size items (Characters text) = length text
 
 -- the size of all joined
@@ -227,6 +230,31 @@ module _ (items : List LocatedItem) where
     tallying = entries_at items 0 (all_tallied one);
     replacing = entries_at items (tallied_size one) (all_replaced one);
   }
+
+-- ---- statements whose texts have sizes that are known before a run
+
+-- A part has a known size if its literals say its length.
+abbrev pub HasKnownLength : Option LocatedItem → Option Part → Type 0
+HasKnownLength None part = Unit {0}
+HasKnownLength (Some found) None = Unit {0}
+HasKnownLength (Some found) (Some part) = known_length found.item.length part.first part.length ≢ None
+
+module _ (items : List LocatedItem) where
+  abbrev pub HasKnownSize : Source → Type 0
+  HasKnownSize (Bytes one) = HasKnownLength (first (items_named items one.item)) one.part
+  HasKnownSize (Characters text) = Unit {0}
+
+  abbrev pub IsOfKnownSize : InspectArgument → Type 0
+  IsOfKnownSize (Counter one) = Unit {0}
+  IsOfKnownSize (Text one) = HasKnownSize one
+
+  abbrev pub HasKnownTexts : InspectStatement → Type 0
+  HasKnownTexts one = AllByRecursion IsOfKnownSize (takings items one)
+
+-- whole items and literals alone
+abbrev pub HasNoPart : InspectArgument → Type 0
+HasNoPart (Text (Bytes one)) = one.part ≡ None
+HasNoPart _ = Unit {0}
 
 -- ---- taking, in the order of writing
 

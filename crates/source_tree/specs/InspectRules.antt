@@ -9,6 +9,7 @@ use Rattle.lexical.specs.declared.place.Place.{Place}
 use Rattle.source_tree.specs.declared.literal.LiteralValue.{LiteralValue}
 use Rattle.source_tree.specs.declared.literal.LiteralValue.TheVariants as literal
 use Rattle.source_tree.specs.declared.literal.Literal.{Literal}
+use Rattle.source_tree.specs.declared.reference.Part.{Part}
 use Rattle.source_tree.specs.declared.expression.Operand.{Operand}
 use Rattle.source_tree.specs.declared.expression.Operand.TheVariants as operand
 use Rattle.source_tree.specs.declared.inspect_statement.Limits.{Limits}
@@ -23,6 +24,7 @@ use Rattle.source_tree.specs.declared.inspect_statement.InspectStatement.{Inspec
 use Rattle.source_tree.specs.Display.{shown_literal}
 use Rattle.source_tree.specs.Places.{LocatedItem}
 use Rattle.source_tree.specs.LookUp.{items_named}
+use Rattle.source_tree.specs.Parts.{known_length}
 use Rattle.source_tree.specs.Broken.{RuleBreach, where_so, each}
 use Rattle.source_tree.specs.NameRules.{literal_rules, reference_rules}
 use Rattle.source_tree.specs.ConditionRules.{is_display, operand_place}
@@ -55,37 +57,65 @@ inspected_rules items (operand.Literal one) = inspected_literal one one.value
 
 -- ---- sizes
 
--- A name that names nothing, or several things, is another rule's.
-abbrev pub only_size : List LocatedItem → Option ℕ
-only_size (only ∷ []) = Some only.item.length
-only_size _ = None
+-- The size of a text as the rules know it. A figurative constant suits any, and so does a name that names nothing, or several things, which
+-- is another rule's.
+pub data TextSize : Type 0 where
+  AnySize : TextSize
+  Exactly : ℕ → TextSize
+  Unknown : TextSize
 
-abbrev pub size_of : List LocatedItem → Operand → Option ℕ
-size_of items (operand.Item one) = only_size (items_named items one.item)
-size_of items (operand.Literal one) = Some (length (shown_literal one.value))
+abbrev pub size_by : Option ℕ → TextSize
+size_by None = Unknown
+size_by (Some n) = Exactly n
 
-abbrev pub literal_size : LiteralValue → Option ℕ
-literal_size (literal.Figurative constant) = None
-literal_size value = Some (length (shown_literal value))
+-- the size of an item of so many bytes, or of its part
+abbrev pub size_seen : ℕ → Option Part → TextSize
+size_seen size None = Exactly size
+size_seen size (Some part) = size_by (known_length size part.first part.length)
+
+abbrev pub only_size : Option Part → List LocatedItem → TextSize
+only_size part (only ∷ []) = size_seen only.item.length part
+only_size part _ = AnySize
+
+abbrev pub size_of : List LocatedItem → Operand → TextSize
+size_of items (operand.Item one) = only_size one.part (items_named items one.item)
+size_of items (operand.Literal one) = Exactly (length (shown_literal one.value))
+
+abbrev pub literal_size : LiteralValue → TextSize
+literal_size (literal.Figurative constant) = AnySize
+literal_size value = Exactly (length (shown_literal value))
 
 -- A figurative constant as replacing text has any size.
-abbrev pub replacing_size : List LocatedItem → Operand → Option ℕ
-replacing_size items (operand.Item one) = only_size (items_named items one.item)
+abbrev pub replacing_size : List LocatedItem → Operand → TextSize
+replacing_size items (operand.Item one) = only_size one.part (items_named items one.item)
 replacing_size items (operand.Literal one) = literal_size one.value
 
-abbrev pub same_size : Option ℕ → Option ℕ → Bool
-same_size (Some one) (Some other) = one == other
-same_size _ _ = true
+-- Whether a text of the second size may replace one of the first. A text of unknown size replaces none, and a figurative constant alone
+-- replaces it.
+abbrev pub may_replace : TextSize → TextSize → Bool
+may_replace size AnySize = true
+may_replace AnySize (Exactly other) = true
+may_replace (Exactly one) (Exactly other) = one == other
+may_replace Unknown (Exactly other) = false
+may_replace size Unknown = false
 
 -- a replacing text, of a text of this size
-abbrev pub by_rules : List LocatedItem → Option ℕ → Operand → List RuleBreach
-by_rules items size by = inspected_rules items by ++ where_so (not (same_size size (replacing_size items by))) 64 (operand_place by)
+abbrev pub by_rules : List LocatedItem → TextSize → Operand → List RuleBreach
+by_rules items size by = inspected_rules items by ++ where_so (not (may_replace size (replacing_size items by))) 64 (operand_place by)
+
+abbrev pub is_unknown : TextSize → Bool
+is_unknown Unknown = true
+is_unknown size = false
+
+-- A text that is counted or replaced, or that limits. Its size is known before the run.
+abbrev pub known_text_rules : List LocatedItem → Operand → List RuleBreach
+known_text_rules items one = inspected_rules items one ++ where_so (is_unknown (size_of items one)) 64 (operand_place one)
 
 -- ---- entries, in the order of writing
 
 abbrev pub limit_rules : List LocatedItem → Option Operand → List RuleBreach
 limit_rules items None = []
-limit_rules items (Some one) = inspected_rules items one
+limit_rules items (Some one) = known_text_rules items one
 
 -- first one limit, then the other
 abbrev pub two_limits : List LocatedItem → Option Operand → Option Operand → List RuleBreach
@@ -99,7 +129,7 @@ abbrev pub limits_rules : List LocatedItem → Limits → List RuleBreach
 limits_rules items one = ordered_limits items one.before one.after one.after_first
 
 abbrev pub tallied_text_rules : List LocatedItem → TalliedText → List RuleBreach
-tallied_text_rules items one = inspected_rules items one.text ++ limits_rules items one.limits
+tallied_text_rules items one = known_text_rules items one.text ++ limits_rules items one.limits
 
 abbrev pub tallied_rules : List LocatedItem → Tallied → List RuleBreach
 tallied_rules items (tallied.Characters limits) = limits_rules items limits
@@ -109,10 +139,10 @@ abbrev pub tallying_rules : List LocatedItem → Tallying → List RuleBreach
 tallying_rules items one = reference_rules items counter_item one.counter ++ each (tallied_rules items) one.tallied
 
 abbrev pub replaced_text_rules : List LocatedItem → ReplacedText → List RuleBreach
-replaced_text_rules items one = inspected_rules items one.text ++ by_rules items (size_of items one.text) one.by ++ limits_rules items one.limits
+replaced_text_rules items one = known_text_rules items one.text ++ by_rules items (size_of items one.text) one.by ++ limits_rules items one.limits
 
 abbrev pub replacing_rules : List LocatedItem → Replacing → List RuleBreach
-replacing_rules items (replacing.Characters by limits) = by_rules items (Some 1) by ++ limits_rules items limits
+replacing_rules items (replacing.Characters by limits) = by_rules items (Exactly 1) by ++ limits_rules items limits
 replacing_rules items (replacing.Texts occurrences texts) = each (replaced_text_rules items) texts
 
 abbrev pub inspect_rules : List LocatedItem → InspectStatement → List RuleBreach

@@ -8,6 +8,7 @@ pub mod Names
 pub mod Levels
 pub mod Clauses
 pub mod Rooms
+pub mod Parts
 pub mod Places
 pub mod Literals
 pub mod Starts

@@ -11,7 +11,7 @@ use Rattle.source_tree.specs.declared.expression.Operand.{Operand}
 use Rattle.source_tree.specs.declared.expression.Operand.TheVariants as operand
 use Rattle.source_tree.specs.Places.{LocatedItem}
 use Rattle.source_tree.specs.Literals.{literal_sender}
-use Rattle.source_tree.specs.LookUp.{items_named}
+use Rattle.source_tree.specs.Parts.{items_referred}
 use Rattle.source_tree.specs.Broken.{RuleBreach, where_so, each}
 use Rattle.source_tree.specs.NameRules.{reference_rules, operand_rules}
 
@@ -25,7 +25,7 @@ only_item (only ∷ []) = Some (taken.Item only.item)
 only_item _ = None
 
 abbrev pub sent_by : List LocatedItem → Operand → Option Taken
-sent_by items (operand.Item one) = only_item (items_named items one.item)
+sent_by items (operand.Item one) = only_item (items_referred items one)
 sent_by items (operand.Literal one) = Some (literal_sender one.value).taken
 
 abbrev pub receives : Option Taken → Place → LocatedItem → List RuleBreach

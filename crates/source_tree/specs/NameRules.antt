@@ -1,6 +1,6 @@
 -- The rules of operands: 40 unknown name, or one of another kind, 41 ambiguous name, 50 number of subscripts, 51 numbers (COBOL-85,
 -- Nucleus, "Uniqueness of reference"); and the form of literals, which those of a source text have.
-use Rattle.std.specs.Prelude.{ℕ, ◌==◌, Bool, false, not, ◌&&◌, List, [], ◌∷◌, ◌++◌, length}
+use Rattle.std.specs.Prelude.{ℕ, ◌==◌, Bool, false, not, ◌&&◌, List, [], ◌∷◌, ◌++◌, length, Option, Some, None}
 use Rattle.std.specs.Char.{is_ascii_digit}
 use Rattle.std.specs.List.{list_all}
 use Rattle.items.specs.declared.item.Kind.{Kind}
@@ -18,7 +18,9 @@ use Rattle.source_tree.specs.declared.reference.Reference.{Reference}
 use Rattle.source_tree.specs.declared.expression.Operand.{Operand}
 use Rattle.source_tree.specs.declared.expression.Operand.TheVariants as operand
 use Rattle.source_tree.specs.Places.{LocatedItem}
+use Rattle.source_tree.specs.declared.reference.Part.{Part}
 use Rattle.source_tree.specs.LookUp.{items_named}
+use Rattle.source_tree.specs.Parts.{seen_through, may_have_parts, has_part}
 use Rattle.source_tree.specs.Broken.{RuleBreach, where_so, each}
 use Rattle.source_tree.specs.ValueRules.{most_literal_digits, are_some, has_form}
 
@@ -62,13 +64,34 @@ subscript_rules items (subscript.Literal n) = integer_rules n
 subscript_rules items (subscript.Item item adjusting) =
     unique_name_rules item.name.place (subscript_item item.name.place) (items_named items item) ++ adjustment_rules adjusting
 
--- A reference to an item, and what is asked of that item.
+-- 75: a part of an item that is neither a group nor in DISPLAY usage
+abbrev pub part_item_rules : Reference → LocatedItem → List RuleBreach
+part_item_rules one found = where_so (has_part one && not (may_have_parts found.item.kind)) 75 one.item.name.place
+
+-- 75: a part where none may be
+abbrev pub no_part_rules : Reference → List RuleBreach
+no_part_rules one = where_so (has_part one) 75 one.item.name.place
+
+abbrev pub length_rules : List LocatedItem → Option written.Subscript → List RuleBreach
+length_rules items None = []
+length_rules items (Some length) = subscript_rules items length
+
+abbrev pub part_rules : List LocatedItem → Option Part → List RuleBreach
+part_rules items None = []
+part_rules items (Some part) = subscript_rules items part.first ++ length_rules items part.length
+
+-- the numbers in parentheses behind a name
+abbrev pub number_rules_of : List LocatedItem → Reference → List RuleBreach
+number_rules_of items one = each (subscript_rules items) one.subscripts ++ part_rules items one.part
+
+-- A reference to an item, and what is asked of that item, or of its part.
 abbrev pub reference_rules : List LocatedItem → (Place → LocatedItem → List RuleBreach) → Reference → List RuleBreach
 reference_rules items asked one =
     unique_name_rules one.item.name.place
-    (λ found. where_so (not (length one.subscripts == length found.dimensions)) 50 one.item.name.place ++ asked one.item.name.place found)
+    (λ found. where_so (not (length one.subscripts == length found.dimensions)) 50 one.item.name.place
+    ++ part_item_rules one found ++ asked one.item.name.place (seen_through one found))
     (items_named items one.item)
-    ++ each (subscript_rules items) one.subscripts
+    ++ number_rules_of items one
 
 -- any item will do
 abbrev pub any_item : Place → LocatedItem → List RuleBreach

@@ -1,5 +1,6 @@
--- The place of a reference (COBOL-85, Nucleus, "Subscripting"). A subscript out of range is fault 91 (own choice).
-use Rattle.std.specs.Prelude.{ℕ, ◌+◌, ◌-◌, ◌*◌, ℤ, pos, negsuc, ◌+ℤ◌, ◌-ℤ◌, nat_le, ◌&&◌, if◌then◌else◌, List, [], ◌∷◌, Option, Some, None, Ok, Err}
+-- The place of a reference (ISO 1989:1985, Nucleus, "Subscripting", "Reference modification"). A subscript out of range is fault 91, and a
+-- part that its item lacks is fault 93 (own choice).
+use Rattle.std.specs.Prelude.{ℕ, zero, suc, ◌+◌, ◌-◌, ◌*◌, ℤ, pos, negsuc, ◌+ℤ◌, ◌-ℤ◌, nat_le, ◌≡◌, ◌≤◌, ◌&&◌, if◌then◌else◌, List, [], ◌∷◌, Option, Some, None, Ok, Err}
 use Rattle.decimal18.specs.Fraction.{Fraction}
 use Rattle.decimal18.specs.Digits.{integer_of}
 use Rattle.picture.specs.declared.picture.Picture.{Picture}
@@ -9,13 +10,16 @@ use Rattle.source_tree.specs.declared.reference.Adjustment.{Adjustment}
 use Rattle.source_tree.specs.declared.reference.Adjustment.TheVariants.{Nothing, Plus, Minus}
 use Rattle.source_tree.specs.declared.reference.Subscript as written
 use Rattle.source_tree.specs.declared.reference.Subscript.TheVariants as subscript
+use Rattle.source_tree.specs.declared.reference.Part.{Part}
 use Rattle.source_tree.specs.declared.reference.Reference.{Reference}
 use Rattle.source_tree.specs.Integers.{number_of}
 use Rattle.source_tree.specs.declared.table.Dimension.{Dimension}
 use Rattle.source_tree.specs.Places.{LocatedItem}
 use Rattle.source_tree.specs.Storage.{Storage, bytes_at, with_bytes}
 use Rattle.source_tree.specs.Evaluated.{Subscript, Evaluation, ◌>>=◌, evaluation_of}
+use Rattle.source_tree.specs.Evaluated as fault
 use Rattle.source_tree.specs.LookUp.{items_named, first}
+use Rattle.source_tree.specs.Parts.{part_item}
 
 -- An item where a statement finds it: so many bytes behind the start of its area.
 pub record ItemPlace : Type 0 where
@@ -72,6 +76,57 @@ abbrev pub occurrence : List LocatedItem → List written.Subscript → LocatedI
 occurrence items subscripts one storage =
     bytes_before items one.dimensions subscripts storage >>= (λ behind. Ok (place_after one behind))
 
+-- ---- parts
+
+-- so many characters of an item, after so many others
+abbrev pub part_after : ItemPlace → ℕ → ℕ → ItemPlace
+part_after place before length = record { item = part_item place.item.kind length; editing = None; area = place.area; offset = place.offset + before }
+
+-- A length is 1 or more, and no end is behind the item's.
+abbrev pub part_of_length : ItemPlace → ℕ → ℤ → Evaluation ItemPlace
+part_of_length place before (pos length) =
+    if nat_le 1 length && nat_le (before + length) place.item.length then Ok (part_after place before length) else Err fault.Part
+part_of_length place before (negsuc n) = Err fault.Part
+
+-- without a length, to the item's end
+abbrev pub part_by : ItemPlace → ℕ → Option ℤ → Evaluation ItemPlace
+part_by place before None = part_of_length place before (pos (place.item.length - before))
+part_by place before (Some length) = part_of_length place before length
+
+-- The first place counts from 1.
+abbrev pub part_from : ItemPlace → ℤ → Option ℤ → Evaluation ItemPlace
+part_from place (pos zero) length = Err fault.Part
+part_from place (pos (suc before)) length = part_by place before length
+part_from place (negsuc n) length = Err fault.Part
+
+abbrev pub length_value : List LocatedItem → Option written.Subscript → Storage → Evaluation (Option ℤ)
+length_value items None storage = Ok None
+length_value items (Some length) storage = subscript_value items length storage >>= (λ z. Ok (Some z))
+
+-- Both numbers are evaluated before either is compared with the item's size (own choice).
+abbrev pub part_in : List LocatedItem → Option Part → Storage → ItemPlace → Evaluation ItemPlace
+part_in items None storage place = Ok place
+part_in items (Some part) storage place =
+    subscript_value items part.first storage
+    >>= (λ from. length_value items part.length storage >>= (λ length. part_from place from length))
+
+-- the occurrence of an item that a reference names, and of it the part
+abbrev pub referred_place : List LocatedItem → Reference → LocatedItem → Storage → Evaluation ItemPlace
+referred_place items reference found storage =
+    occurrence items reference.subscripts found storage >>= part_in items reference.part storage
+
+-- of the whole item
+abbrev pub whole_place_of : List LocatedItem → Reference → Storage → Evaluation ItemPlace
+whole_place_of items reference storage =
+    evaluation_of (first (items_named items reference.item)) >>= (λ found. occurrence items reference.subscripts found storage)
+
 abbrev pub place_of : List LocatedItem → Reference → Storage → Evaluation ItemPlace
 place_of items reference storage =
-    evaluation_of (first (items_named items reference.item)) >>= (λ found. occurrence items reference.subscripts found storage)
+    evaluation_of (first (items_named items reference.item)) >>= (λ found. referred_place items reference found storage)
+
+-- ---- one place within another
+
+pub record IsWithin (place whole : ItemPlace) : Type 0 where
+  pub area : place.area ≡ whole.area
+  pub begin : whole.offset ≤ place.offset
+  pub end : place.offset + place.item.length ≤ whole.offset + whole.item.length

@@ -5,7 +5,7 @@ use Rattle.source_tree.specs.declared.reference.Reference.{Reference}
 use Rattle.source_tree.specs.Places.{LocatedItem}
 use Rattle.source_tree.specs.LookUp.{NamedCondition, items_named, conditions_named}
 use Rattle.source_tree.specs.Broken.{RuleBreach, each}
-use Rattle.source_tree.specs.NameRules.{unique_name_rules, subscript_rules, reference_rules, any_item}
+use Rattle.source_tree.specs.NameRules.{unique_name_rules, number_rules_of, reference_rules, any_item}
 use Rattle.source_tree.specs.ConditionRules.{condition_subscripts}
 
 abbrev pub initialize_rules : List LocatedItem → List Reference → List RuleBreach
@@ -22,7 +22,7 @@ set_name place one found (first ∷ more) = unique_name_rules place (condition_s
 
 abbrev pub set_one : List LocatedItem → Reference → List RuleBreach
 set_one items one =
-    set_name one.item.name.place one (items_named items one.item) (conditions_named items one.item) ++ each (subscript_rules items) one.subscripts
+    set_name one.item.name.place one (items_named items one.item) (conditions_named items one.item) ++ number_rules_of items one
 
 abbrev pub set_rules : List LocatedItem → List Reference → List RuleBreach
 set_rules items conditions = each (set_one items) conditions

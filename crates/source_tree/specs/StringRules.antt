@@ -14,7 +14,7 @@ use Rattle.source_tree.specs.declared.expression.Operand.TheVariants as operand
 use Rattle.source_tree.specs.declared.string_statement.Sending.{Sending}
 use Rattle.source_tree.specs.declared.string_statement.StringStatement.{StringStatement}
 use Rattle.source_tree.specs.Places.{LocatedItem}
-use Rattle.source_tree.specs.LookUp.{items_named}
+use Rattle.source_tree.specs.Parts.{items_referred}
 use Rattle.source_tree.specs.Broken.{RuleBreach, where_so, each}
 use Rattle.source_tree.specs.NameRules.{reference_rules}
 use Rattle.source_tree.specs.ConditionRules.{is_display}
@@ -80,4 +80,4 @@ abbrev pub string_rules : List LocatedItem → {S : Type 0} → StringStatement 
 string_rules items one =
     each (sending_rules items) one.sendings
     ++ reference_rules items receiver_item one.receiver
-    ++ pointer_rules items (only_length (items_named items one.receiver.item)) one.pointer
+    ++ pointer_rules items (only_length (items_referred items one.receiver)) one.pointer

@@ -1,6 +1,6 @@
 //! What holds of every program's meaning.
 
-ghost use Rattle.std.specs.Prelude.{◌≡◌, ◌≢◌, ◌≤◌, ◌<◌, ℕ, Bool, false, List, [], ◌∷◌, length, Option, Some, slice_get};
+ghost use Rattle.std.specs.Prelude.{◌≡◌, ◌≢◌, ◌≤◌, ◌<◌, ℕ, Bool, false, List, [], ◌∷◌, length, Option, Some, None, Ok, slice_get};
 ghost use Rattle.std.specs.List.{AllByRecursion};
 ghost use Rattle.lexical.specs.declared.place.Place.{Place};
 ghost use Rattle.records.specs.FileStep.{Suits};
@@ -14,6 +14,7 @@ ghost use Rattle.source_tree.specs.declared.file_statement.StartKey.{StartKey};
 ghost use Rattle.source_tree.specs.declared.inspect_statement.InspectStatement.{InspectStatement};
 ghost use Rattle.source_tree.specs.declared.literal.Integer.{Integer};
 ghost use Rattle.source_tree.specs.declared.program.Program.{Program};
+ghost use Rattle.source_tree.specs.declared.reference.Part.{Part};
 ghost use Rattle.source_tree.specs.declared.reference.Reference.{Reference};
 ghost use Rattle.source_tree.specs.declared.statement.Statement.{Statement};
 ghost use Rattle.source_tree.specs.ConditionRules.{is_literal_alone};
@@ -21,7 +22,7 @@ ghost use Rattle.source_tree.specs.Conditions.{without_value, alone_side, holds}
 ghost use Rattle.source_tree.specs.Evaluate.{Value, take_resolved};
 ghost use Rattle.source_tree.specs.Filing.{read_verb, start_verb};
 ghost use Rattle.source_tree.specs.Given.{RunInput, with_budget};
-ghost use Rattle.source_tree.specs.InspectLayout.{inspect_by_spans};
+ghost use Rattle.source_tree.specs.InspectLayout.{takings, HasKnownTexts, HasNoPart, inspect_by_spans};
 ghost use Rattle.source_tree.specs.InspectRules.{inspect_rules};
 ghost use Rattle.source_tree.specs.Inspecting.{inspect};
 ghost use Rattle.source_tree.specs.Integers.{number_of};
@@ -30,6 +31,11 @@ ghost use Rattle.source_tree.specs.ProgramFiles.{ProgramFile, files_of};
 ghost use Rattle.source_tree.specs.Records.{program_areas, storage_areas};
 ghost use Rattle.source_tree.specs.FileRules.{program_file_rules};
 ghost use Rattle.source_tree.specs.SoundFiles.{HasRecordArea, IsSound};
+ghost use Rattle.source_tree.specs.Broken.{each};
+ghost use Rattle.source_tree.specs.LookUp.{items_named};
+ghost use Rattle.source_tree.specs.NameRules.{subscript_rules, number_rules_of};
+ghost use Rattle.source_tree.specs.Parts.{items_referred};
+ghost use Rattle.source_tree.specs.References.{ItemPlace, IsWithin, part_in, whole_place_of, place_of};
 ghost use Rattle.source_tree.specs.Setting.{ProgramContext};
 ghost use Rattle.source_tree.specs.Storage.{Storage};
 ghost use Rattle.source_tree.specs.State.{State, Budget, in_turn, outcome_state};
@@ -109,11 +115,28 @@ pub fn turns_law()
         ≡ turns line (number_of count) (in_turn (exec around depth) statements) s }
 {}
 
-/// Where INSPECT keeps its rules, and each item has a byte or more, it does what entries do that are spans of all its texts
-/// joined, whatever is in storage.
+/// Where INSPECT keeps its rules, each item has a byte or more, and the size of each text is known before a run, it does what
+/// entries do that are spans of all its texts joined, whatever is in storage. Texts without parts have known sizes.
 pub fn inspect_law()
     ensures spans { (items : List LocatedItem)
         → ((n : ℕ) (item : LocatedItem) → slice_get items n ≡ Some item → 1 ≤ item.item.length) →
         (one : InspectStatement) (storage : Storage) → inspect_rules items one ≡ []
-        → inspect items one storage ≡ inspect_by_spans items one storage }
+        → HasKnownTexts items one → inspect items one storage ≡ inspect_by_spans items one storage }
+    ensures known { (items : List LocatedItem) (one : InspectStatement)
+        → AllByRecursion HasNoPart (takings items one) → HasKnownTexts items one }
+{}
+
+/// A reference without a part is what its item is: it means the same item, at the same place, with the same rules of its
+/// subscripts. The place of a part lies within that of its item, and has a byte or more where the item has.
+pub fn part_law()
+    ensures items { (items : List LocatedItem) (one : Reference) → one.part ≡ None
+        → items_referred items one ≡ items_named items one.item }
+    ensures place { (items : List LocatedItem) (one : Reference) (storage : Storage)
+        → one.part ≡ None → place_of items one storage ≡ whole_place_of items one storage }
+    ensures numbers { (items : List LocatedItem) (one : Reference) → one.part ≡ None
+        → number_rules_of items one ≡ each (subscript_rules items) one.subscripts }
+    ensures within { (items : List LocatedItem) (part : Option Part) (storage : Storage)
+        (whole place : ItemPlace) → 1 ≤ whole.item.length
+        → part_in items part storage whole ≡ Ok place
+        → (IsWithin place whole) × (1 ≤ place.item.length) }
 {}

@@ -41,7 +41,7 @@ pub use inspect_statement::{
     InspectStatement, Limits, Occurrences, ReplacedText, Replacing, Tallied, TalliedText, Tallying,
 };
 pub use laws::{
-    budget_law, depth_law, file_verb_law, output_law, record_areas_law, sound_files_law,
+    budget_law, depth_law, file_verb_law, output_law, part_law, record_areas_law, sound_files_law,
     subject_law, turns_law,
 };
 pub use lexical::{NumericLiteral, Place, Sign};
@@ -51,7 +51,7 @@ pub use perform_statement::{PerformStatement, Performed, Repetition};
 pub use phrases::{FilePhrases, Phrases};
 pub use program::{Paragraph, Program, Section, Sentence};
 pub use records::{Access, OpenMode};
-pub use reference::{Adjustment, QualifiedName, Reference, Subscript};
+pub use reference::{Adjustment, BoxedPart, Part, QualifiedName, Reference, Subscript};
 pub use select::{AlternateKeyClause, AssignedName, FileDescription, OrganizationClause, Select};
 pub use statement::{Statement, Verb};
 pub use string_statement::{Sending, StringStatement};

@@ -28,6 +28,7 @@ verb_no_name (k.Picture characters) place e = refl
 verb_no_name k.Period place e = refl
 verb_no_name k.LeftParenthesis place e = refl
 verb_no_name k.RightParenthesis place e = refl
+verb_no_name k.Colon place e = refl
 verb_no_name (k.Operator operator) place e = refl
 
 pub statement_no_name : (i : List Token) → begins_statement i ≡ true → begins_name i ≡ false

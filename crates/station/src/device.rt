@@ -7,7 +7,7 @@ ghost use Rattle.station.specs.State.{State, wrote, state_after_sync, state_afte
 ghost use Rattle.station.specs.History.{Moves, Shows, EndsIn};
 ghost use Rattle.station.specs.Failures.{CountsFailure};
 
-use crate::Note;
+use crate::{Note, TracedStatement};
 use thiserror::Error;
 
 /// Why a call on a device failed.
@@ -136,4 +136,13 @@ pub trait Station: Device {
             → OnErr result (Self.state self.new ≡ Self.state self.old) }
         ensures moves { Self.is_honest self.old → Moves (Self.history self.old)
             (Self.state self.old) (Self.history self.new) (Self.state self.new) };
+
+    /// May tell a person of a file statement. Nothing changes by it, and no failure of the telling counts.
+    fn trace(&mut self, _statement: &TracedStatement)
+        ensures honest { Self.is_honest self.old ↔ Self.is_honest self.new }
+        ensures sectors { Self.sectors self.new ≡ Self.sectors self.old }
+        ensures failures { Self.failures self.new ≡ Self.failures self.old }
+        ensures state { Self.is_honest self.old → Self.state self.new ≡ Self.state self.old }
+        ensures history { Self.is_honest self.old → Self.history self.new ≡ Self.history self.old }
+    {}
 }

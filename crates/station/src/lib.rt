@@ -15,6 +15,7 @@ mod memory;
 mod note;
 mod plan;
 mod sector_bytes;
+mod traced;
 mod two_phase;
 
 pub use blocks::{Block, write_blocks};
@@ -23,4 +24,5 @@ pub use laws::{crash_laws, moment_laws};
 pub use memory::MemoryStation;
 pub use note::Note;
 pub use sector_bytes::SectorBytes;
+pub use traced::TracedStatement;
 pub use two_phase::{two_phase_write, write_blocks_through, write_through};

@@ -136,7 +136,8 @@ unfolding tokens lexeme plain_lexeme word reserved_word look_up beginning_with n
     comparison context_after same_word
 empty_picture = refl
 
-pub colon : kinds (codes "A (1:2)") ≡ refuses fault.StrayCharacter 16
+pub colon : kinds (codes "A (1:-2)") ≡ are (k.Word (codes "A") ∷ k.LeftParenthesis ∷ number sign.Unsigned (codes "1") []
+    ∷ k.Colon ∷ number sign.Minus (codes "2") [] ∷ k.RightParenthesis ∷ [])
 unfolding tokens lexeme plain_lexeme word reserved_word look_up beginning_with numeric nonnumeric picture punctuation
     comparison context_after same_word
 colon = refl

@@ -490,6 +490,10 @@ right_of : (place : Place) (rest : List Character) → punctuation place 41 rest
 unfolding punctuation
 right_of place rest = refl
 
+colon_of : (place : Place) (rest : List Character) → punctuation place 58 rest ≡ Ok (token k.Colon 1)
+unfolding punctuation
+colon_of place rest = refl
+
 plus_of : (place : Place) (rest : List Character) → punctuation place 43 rest ≡ Ok (token (k.Operator o.Plus) 1)
 unfolding punctuation
 plus_of place rest = refl
@@ -661,4 +665,6 @@ fixed before c text rest (Some k.LeftParenthesis) is = alone_is before c text re
     refl refl refl (no_sign before 40 rest refl refl) (left_of c.place rest)
 fixed before c text rest (Some k.RightParenthesis) is = alone_is before c text rest 41 k.RightParenthesis is.0 is.1 refl
     refl refl refl (no_sign before 41 rest refl refl) (right_of c.place rest)
+fixed before c text rest (Some k.Colon) is = alone_is before c text rest 58 k.Colon is.0 is.1 refl
+    refl refl refl (no_sign before 58 rest refl refl) (colon_of c.place rest)
 fixed before c text rest (Some (k.Operator one)) is = operator_is before c text rest one is.0 is.1 is.2

@@ -279,6 +279,7 @@ punctuation_right before c more na plus minus =
     right_by (begins_with_class class.Nonblank more) (λ _. none) (λ blank. some (Some k.Period) 1 (first_is e, blank)))
     (λ _. right_by (eqb c.byte 40) (λ e. some (Some k.LeftParenthesis) 1 (na, first_is e))
     (λ _. right_by (eqb c.byte 41) (λ e. some (Some k.RightParenthesis) 1 (na, first_is e))
+    (λ _. right_by (eqb c.byte 58) (λ e. some (Some k.Colon) 1 (na, first_is e))
     (λ _. right_by (eqb c.byte 43) (λ e. some (Some (k.Operator o.Plus)) 1 (na, first_is e, plus e))
     (λ _. right_by (eqb c.byte 45) (λ e. some (Some (k.Operator o.Minus)) 1 (na, first_is e, minus e))
     (λ _. right_by (eqb c.byte 42) (λ e. some (Some (k.Operator o.Times)) 1 (na, first_is e, refl))
@@ -288,7 +289,7 @@ punctuation_right before c more na plus minus =
     (λ d f. (λ i. eqb-true c.byte 62 e i ∷ f i ∷ [])) (λ rest. refl) (λ rest. refl))
     (λ _. right_by (eqb c.byte 60) (λ e. comparison_right before o.Less o.LessOrEqual c more na (first_is e)
     (λ d f. (λ i. eqb-true c.byte 60 e i ∷ f i ∷ [])) (λ rest. refl) (λ rest. refl))
-    (λ _. none))))))))))
+    (λ _. none)))))))))))
 
 both_true : (a b : Bool) → (a && b) ≡ true → (a ≡ true) × (b ≡ true)
 both_true true b e = (refl, e)

@@ -73,13 +73,14 @@ punctuation_blames place first more =
     blames_by (eqb first 46) (λ _. blames_by (begins_with_class class.Nonblank more) (λ _. fault) (λ _. none))
     (λ _. blames_by (eqb first 40) (λ _. none)
     (λ _. blames_by (eqb first 41) (λ _. none)
+    (λ _. blames_by (eqb first 58) (λ _. none)
     (λ _. blames_by (eqb first 43) (λ _. none)
     (λ _. blames_by (eqb first 45) (λ _. none)
     (λ _. blames_by (eqb first 42) (λ _. none)
     (λ _. blames_by (eqb first 47) (λ _. none)
     (λ _. blames_by (eqb first 61) (λ _. none)
     (λ _. blames_by (eqb first 62) (λ _. comparison_blames place _ _ more)
-    (λ _. blames_by (eqb first 60) (λ _. comparison_blames place _ _ more) (λ _. fault))))))))))
+    (λ _. blames_by (eqb first 60) (λ _. comparison_blames place _ _ more) (λ _. fault)))))))))))
 
 -- what a plus or minus begins, by whether a number follows where a sign may stand
 abbrev signed_kind : Bool → ℕ → FaultKind

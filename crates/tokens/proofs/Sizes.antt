@@ -184,13 +184,14 @@ punctuation_sized place first more =
     sized_if (eqb first 46) (sized_if (begins_with_class class.Nonblank more) none (one_sized refl))
     (sized_if (eqb first 40) (one_sized refl)
     (sized_if (eqb first 41) (one_sized refl)
+    (sized_if (eqb first 58) (one_sized refl)
     (sized_if (eqb first 43) (one_sized refl)
     (sized_if (eqb first 45) (one_sized refl)
     (sized_if (eqb first 42) (one_sized refl)
     (sized_if (eqb first 47) (one_sized refl)
     (sized_if (eqb first 61) (one_sized refl)
     (sized_if (eqb first 62) (comparison_sized o.Greater o.GreaterOrEqual more)
-    (sized_if (eqb first 60) (comparison_sized o.Less o.LessOrEqual more) none)))))))))
+    (sized_if (eqb first 60) (comparison_sized o.Less o.LessOrEqual more) none))))))))))
 
 pub in_word : (b : ℕ) → is_in class.LetterOrDigit b ≡ true → is_in class.InWord b ≡ true
 in_word b e = rw e refl

@@ -171,7 +171,7 @@ picture_right before c more nonblank =
     both true b e = e
     both false b e = cc
 
--- ---- periods, parentheses and operators
+-- ---- periods, parentheses, colons and operators
 
 comparison_right : (alone both : Operator) (c : Character) (more : List Character)
     → IsKindOf (k.Operator alone) (c ∷ []) → ((d : Character) → d.byte ≡ 61 → IsKindOf (k.Operator both) (c ∷ d ∷ []))
@@ -189,6 +189,7 @@ punctuation_right place c more =
     (λ e. right_if (begins_with_class class.Nonblank more) none (some (Some k.Period) 1 (first_is e)))
     (λ _. right_by (eqb c.byte 40) (λ e. some (Some k.LeftParenthesis) 1 (first_is e))
     (λ _. right_by (eqb c.byte 41) (λ e. some (Some k.RightParenthesis) 1 (first_is e))
+    (λ _. right_by (eqb c.byte 58) (λ e. some (Some k.Colon) 1 (first_is e))
     (λ _. right_by (eqb c.byte 43) (λ e. some (Some (k.Operator o.Plus)) 1 (first_is e))
     (λ _. right_by (eqb c.byte 45) (λ e. some (Some (k.Operator o.Minus)) 1 (first_is e))
     (λ _. right_by (eqb c.byte 42) (λ e. some (Some (k.Operator o.Times)) 1 (first_is e))
@@ -198,7 +199,7 @@ punctuation_right place c more =
     (λ d f. (λ i. eqb-true c.byte 62 e i ∷ f i ∷ [])))
     (λ _. right_by (eqb c.byte 60) (λ e.
     comparison_right o.Less o.LessOrEqual c more (first_is e) (λ d f. (λ i. eqb-true c.byte 60 e i ∷ f i ∷ [])))
-    (λ _. none))))))))))
+    (λ _. none)))))))))))
 
 -- a plus or minus directly before a number
 sign_right : (before : Context) (c : Character) (more : List Character)

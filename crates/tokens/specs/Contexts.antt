@@ -35,6 +35,7 @@ after_token before k.RightParenthesis = context.Joined
 after_token before (k.Picture text) = context.Apart
 after_token before k.Period = context.Apart
 after_token before k.LeftParenthesis = context.Apart
+after_token before k.Colon = context.Apart
 after_token before (k.Operator one) = context.Apart
 
 -- a picture is still awaited after a separator

@@ -82,6 +82,7 @@ IsToken before (k.Picture picture) text rest = (awaits_picture before ≡ true) 
 IsToken before k.Period text rest = (bytes text ≡ 46 ∷ []) × (begins_with_class class.Nonblank rest ≡ false)
 IsToken before k.LeftParenthesis text rest = (awaits_picture before ≡ false) × (bytes text ≡ 40 ∷ [])
 IsToken before k.RightParenthesis text rest = (awaits_picture before ≡ false) × (bytes text ≡ 41 ∷ [])
+IsToken before k.Colon text rest = (awaits_picture before ≡ false) × (bytes text ≡ 58 ∷ [])
 IsToken before (k.Operator one) text rest = (awaits_picture before ≡ false) × (bytes text ≡ operator_text one) × (has_more before one rest ≡ false)
 
 -- A space, comma or semicolon; where a picture is awaited, a comma or semicolon only before a space or the end.

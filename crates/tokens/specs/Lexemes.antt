@@ -37,6 +37,7 @@ punctuation place first more =
     if first == 46 then period place more
     else (if first == 40 then Ok (token k.LeftParenthesis 1)
     else (if first == 41 then Ok (token k.RightParenthesis 1)
+    else (if first == 58 then Ok (token k.Colon 1)
     else (if first == 43 then operator o.Plus 1
     else (if first == 45 then operator o.Minus 1
     else (if first == 42 then operator o.Times 1
@@ -44,7 +45,7 @@ punctuation place first more =
     else (if first == 61 then operator o.Equal 1
     else (if first == 62 then comparison o.Greater o.GreaterOrEqual more
     else (if first == 60 then comparison o.Less o.LessOrEqual more
-    else refusal_at fault.StrayCharacter place)))))))))
+    else refusal_at fault.StrayCharacter place))))))))))
 
 -- ---- words, literals and pictures
 

@@ -64,6 +64,7 @@ IsKindOf (k.Picture picture) text = picture ≡ bytes text
 IsKindOf k.Period text = bytes text ≡ 46 ∷ []
 IsKindOf k.LeftParenthesis text = bytes text ≡ 40 ∷ []
 IsKindOf k.RightParenthesis text = bytes text ≡ 41 ∷ []
+IsKindOf k.Colon text = bytes text ≡ 58 ∷ []
 IsKindOf (k.Operator one) text = bytes text ≡ operator_text one
 IsKindOf (k.Numeric literal) text = IsNumberText literal text
 IsKindOf (k.Nonnumeric literal) text = (mark : ℕ) × IsQuoted mark literal text

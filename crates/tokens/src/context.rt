@@ -76,9 +76,11 @@ impl Context {
             Kind::Word(_) | Kind::Numeric(_) | Kind::Nonnumeric(_) | Kind::RightParenthesis => {
                 Context::Joined
             }
-            Kind::Picture(_) | Kind::Period | Kind::LeftParenthesis | Kind::Operator(_) => {
-                Context::Apart
-            }
+            Kind::Picture(_)
+            | Kind::Period
+            | Kind::LeftParenthesis
+            | Kind::Colon
+            | Kind::Operator(_) => Context::Apart,
         }
     }
 

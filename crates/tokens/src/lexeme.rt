@@ -67,7 +67,7 @@ fn period(place: Place, more: &[Character]) -> Result<Lexeme, TokenError>
     }
 }
 
-/// A period, a parenthesis or an operator.
+/// A period, a parenthesis, a colon or an operator.
 #[tactic(auto, unfolding(crate::specs::Lexemes::punctuation))]
 fn punctuation(place: Place, first: u8, more: &[Character]) -> Result<Lexeme, TokenError>
     ensures { Gives (λ lexeme. lexeme) fault_of result (spec.punctuation place first more.now) }
@@ -76,6 +76,7 @@ fn punctuation(place: Place, first: u8, more: &[Character]) -> Result<Lexeme, To
         b'.' => period(place, more),
         b'(' => Ok(token(Kind::LeftParenthesis, 1)),
         b')' => Ok(token(Kind::RightParenthesis, 1)),
+        b':' => Ok(token(Kind::Colon, 1)),
         b'+' => Ok(token(Kind::Operator(Operator::Plus), 1)),
         b'-' => Ok(token(Kind::Operator(Operator::Minus), 1)),
         b'*' => Ok(token(Kind::Operator(Operator::Times), 1)),

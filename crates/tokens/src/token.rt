@@ -31,6 +31,7 @@ pub enum Kind {
     Period,
     LeftParenthesis,
     RightParenthesis,
+    Colon,
     Operator(Operator),
 }
 

@@ -27,20 +27,26 @@ pub record IsReadBack (files : Files) (new : State) : Type 0 where
   pub durable : EachImage (λ image. HoldsFiles image copies) new
   pub same : AreSameFiles files copies
 
+-- whatever a crash leaves is a volume: it holds these files
+pub record IsVolume (new : State) : Type 0 where
+  pub files : Files
+  pub durable : EachImage (λ image. HoldsFiles image files) new
+
 -- the number that the product prints
 abbrev pub number_of : CopyError → ℕ
 number_of (Old fault) = fault_number fault
 number_of (New fault) = fault_number fault
 
--- Of the old volume a refusal says what recovery says of it.
+-- Of the old volume a refusal says what recovery says of it. If it holds files, its device or memory failed.
 abbrev pub IsCopyRefusal : List Sector → CopyError → Type 0
-IsCopyRefusal image (Old fault) = IsRecoveryRefusal image fault
+IsCopyRefusal image (Old fault) =
+    IsRecoveryRefusal image fault × ((files : Files) → HoldsFiles image files → IsReadCause fault)
 IsCopyRefusal image (New fault) = ⊤
 
--- where the old volume holds files, it is refused for its device and for memory alone
-abbrev pub IsOldCause : CopyError → Type 0
-IsOldCause (Old fault) = IsReadCause fault
-IsOldCause (New fault) = ⊤
+-- a refusal of the old volume leaves the new device as it was
+abbrev pub LeavesNew : {E : Type 0} → CopyError → E → E → Type 0
+LeavesNew (Old fault) old new = new ≡ old
+LeavesNew (New fault) old new = ⊤
 
 -- What a call keeps of a device that it makes a volume. Where `blamed` holds, the device failed.
 pub record KeepsDevice {D : Type 0} (d : Devices D) (blamed : Type 0) (old new : D) : Type 0 where

@@ -1,11 +1,9 @@
 //! The command `copy`.
 ghost use Rattle.std.specs.Prelude.{◌≡◌, ◌≤◌, true, Ok, Err, IfErr, IfOk, OnOk, OnErr};
 ghost use Rattle.station.specs.Calls.{OnlyWrites};
-ghost use Rattle.records.specs.Files.{Files};
-ghost use Rattle.file_recovery.specs.Recovered.{HoldsFiles};
 ghost use Rattle.file_bytes.specs.Stored.{files_of};
 ghost use Rattle.volume_copies.specs.Same.{AreSameFiles};
-ghost use Rattle.volume_copies.specs.Copied.{IsCopied, IsOpened, IsReadBack, IsCopyRefusal, KeepsDevice, IsOldCause};
+ghost use Rattle.volume_copies.specs.Copied.{IsCopied, IsOpened, IsReadBack, IsVolume, IsCopyRefusal, KeepsDevice, LeavesNew};
 
 use crate::copy_error::CopyError;
 use crate::file_writes::write_file;
@@ -30,7 +28,7 @@ pub enum VolumeCopy {
 }
 
 /// Makes the new device a volume of trees, of all its sectors, with the files of the old one, and
-/// reads it back. The old one is only read.
+/// reads it back. The old one is only read. After a refusal of the new one, anything may be there.
 pub fn copy_volume<D: Device, E: Device, P: Progress>(
     alloc: Global,
     old: &mut D,
@@ -46,14 +44,17 @@ pub fn copy_volume<D: Device, E: Device, P: Progress>(
     ensures opened { D.is_honest old.old → IsOpened D.Device old.old old.new }
     ensures refused { D.is_honest old.old
         → IfErr result (IsCopyRefusal (D.state old.old).disk.present) }
-    ensures opens { D.is_honest old.old → (files : Files) →
-        HoldsFiles (D.state old.old).disk.present files → IfErr result IsOldCause }
 
     // A copy that is done holds the same files, whatever a crash leaves of it.
     ensures keeps { KeepsDevice E.Device
         (result ≡ Err (CopyError.New StoreFault.Device)) new.old new.new }
     ensures copied { D.is_honest old.old → E.is_honest new.old → result ≡ Ok VolumeCopy.Done
         → IsCopied (D.state old.old) (E.state new.new) }
+
+    // A copy that was read back is a volume, even if its files differ. A refusal of the old volume
+    // leaves the new one as it was.
+    ensures volume { E.is_honest new.old → IfOk result (λ _. IsVolume (E.state new.new)) }
+    ensures untouched { IfErr result (λ error. LeavesNew error new.old new.new) }
 {
     let files = match recover(alloc, old) {
         Ok(files) => files,
@@ -77,6 +78,7 @@ fn copy_files<E: Device, P: Progress>(
     ensures keeps { KeepsDevice E.Device (result ≡ Err StoreFault.Device) new.old new.new }
     ensures copied { E.is_honest new.old → result ≡ Ok VolumeCopy.Done
         → IsReadBack (files_of files.now) (E.state new.new) }
+    ensures volume { E.is_honest new.old → IfOk result (λ _. IsVolume (E.state new.new)) }
 {
     write_files(alloc, files, new, progress)?;
     let copied = recover(alloc, new)?;

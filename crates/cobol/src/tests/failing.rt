@@ -1,5 +1,6 @@
 //! Writers that fail.
 
+use crate::progress::Reasons;
 use std::io;
 use std::io::Write;
 
@@ -14,6 +15,12 @@ impl Write for Full {
 
     fn flush(&mut self) -> io::Result<()> {
         Ok(())
+    }
+}
+
+impl Reasons for Full {
+    fn is_watched(&self) -> bool {
+        false
     }
 }
 

@@ -39,6 +39,7 @@ left_no_word word (k.Picture characters) u e = refl
 left_no_word word k.Period u e = refl
 left_no_word word k.LeftParenthesis u e = refl
 left_no_word word k.RightParenthesis u e = refl
+left_no_word word k.Colon u e = refl
 left_no_word word (k.Operator operator) u e = refl
 
 pub left_begins : (word : Reserved) (i rest : List Token) → left_parenthesis i rest → begins_word word i ≡ false

@@ -65,6 +65,7 @@ value_opens (k.Picture characters) place v e = absurd (none_not e)
 value_opens k.Period place v e = absurd (none_not e)
 value_opens k.LeftParenthesis place v e = absurd (none_not e)
 value_opens k.RightParenthesis place v e = absurd (none_not e)
+value_opens k.Colon place v e = absurd (none_not e)
 value_opens (k.Operator operator) place v e = absurd (none_not e)
 
 plain_value : (o : Option LiteralValue) (place : Place) (x : Literal) → option_map (literal_at place) o ≡ Some x
@@ -159,6 +160,7 @@ module _ (word : Reserved) (none : OpensNone word) where
   kind_no_word k.Period place e = refl
   kind_no_word k.LeftParenthesis place e = refl
   kind_no_word k.RightParenthesis place e = refl
+  kind_no_word k.Colon place e = refl
   kind_no_word (k.Operator operator) place e = refl
 
   pub expression_no_word : (i : List Token) → begins_expression i ≡ true → begins_word word i ≡ false
@@ -185,6 +187,7 @@ module _ (word : Reserved) (none : OpensNone word) where
   value_no_word k.Period v e = refl
   value_no_word k.LeftParenthesis v e = refl
   value_no_word k.RightParenthesis v e = refl
+  value_no_word k.Colon v e = refl
   value_no_word (k.Operator operator) v e = refl
 
   literal_no_word : (x : Literal) (i rest : List Token) → literal x i rest → begins_word word i ≡ false

@@ -272,6 +272,7 @@ operator_is (k.Picture characters) e = cc
 operator_is k.Period e = cc
 operator_is k.LeftParenthesis e = cc
 operator_is k.RightParenthesis e = cc
+operator_is k.Colon e = cc
 operator_is (k.Operator o) e = (o, refl)
 
 word_stays : (one : Reserved) (first : Token) (more : List Token) (o : Written) → first.kind ≡ k.Operator o

@@ -26,8 +26,11 @@ use Rattle.data_division.specs.Clauses.{picture_in}
 use Rattle.data_division.specs.ClauseReading as r
 use Rattle.data_division.specs.Stated.{kind_of}
 use Rattle.data_division.proofs.Exact.Optional.{either_sound, either_complete, either_shrinks, skip_either_sound}
-use Rattle.data_division.proofs.Exact.Optional.{skip_either_complete, skip_either_shrinks, skip_led_sound}
-use Rattle.data_division.proofs.Exact.Optional.{skip_led_complete, led_shrinks, finds_separate, separate_shrinks}
+use Rattle.grammar.specs.OptionalWords as optional
+use Rattle.grammar.proofs.OptionalWords.{skip_led_sound}
+use Rattle.data_division.proofs.Exact.Optional.{skip_either_complete, skip_either_shrinks}
+use Rattle.grammar.proofs.OptionalWords.{skip_led_complete, led_shrinks}
+use Rattle.data_division.proofs.Exact.Optional.{finds_separate, separate_shrinks}
 use Rattle.data_division.proofs.Exact.Words.{stands, usage_stands, position_stands}
 
 -- ---- words of one meaning differ
@@ -84,7 +87,7 @@ picture_sound x i rest e =
 usage_sound : Sound (IsClause kind.Usage) r.usage_reader
 unfolding r.usage_reader
 usage_sound x i rest e =
-    unstep (r.skip_led w.Usage i) _ e (λ u i1 is1 e1.
+    unstep (optional.skip_led w.Usage i) _ e (λ u i1 is1 e1.
     unstep (one_token usage_in i1) _ e1 (λ one i2 is2 e2.
     subst (λ y. IsClause kind.Usage y i rest) (value e2)
     ((i1, skip_led_sound w.Usage u i i1 is1, one_token_sound usage_in one i1 rest (last is2 e2)), refl)))
@@ -92,7 +95,7 @@ usage_sound x i rest e =
 sign_sound : Sound (IsClause kind.Sign) r.sign_reader
 unfolding r.sign_reader
 sign_sound x i rest e =
-    unstep (r.skip_led w.Sign i) _ e (λ u i1 is1 e1.
+    unstep (optional.skip_led w.Sign i) _ e (λ u i1 is1 e1.
     unstep (one_token position_in i1) _ e1 (λ position i2 is2 e2.
     unstep (read.presence_reader r.after_separate i2) _ e2 (λ separate i3 is3 e3.
     subst (λ y. IsClause kind.Sign y i rest) (value e3) (
@@ -193,10 +196,10 @@ clause_complete (clause_as.Picture text) i rest (i1, first, (i2, is, told)) =
     (step (read.skip w.Is i1) _ (skip_complete w.Is tt i1 i2 is)
     (step (one_token picture_in i2) _ (one_token_complete picture_in text i2 rest told) (Reached refl)))
 clause_complete (clause_as.Usage one) i rest (i1, led, told) =
-    step (r.skip_led w.Usage i) _ (skip_led_complete w.Usage tt i i1 led)
+    step (optional.skip_led w.Usage i) _ (skip_led_complete w.Usage tt i i1 led)
     (step (one_token usage_in i1) _ (one_token_complete usage_in one i1 rest told) (Reached refl))
 clause_complete (clause_as.Sign one) i rest (i1, led, (i2, told, separate)) =
-    step (r.skip_led w.Sign i) _ (skip_led_complete w.Sign tt i i1 led)
+    step (optional.skip_led w.Sign i) _ (skip_led_complete w.Sign tt i i1 led)
     (step (one_token position_in i1) _ (one_token_complete position_in one.position i1 i2 told)
     (step (read.presence_reader r.after_separate i2) _ (stands_complete finds_separate one.separate i2 rest separate)
     (Reached refl)))
@@ -228,7 +231,7 @@ either_stands : (one other : Reserved) (x : ClauseKind) → clause_of one ≡ So
 either_stands one last x is is' i rest (inl s) = stands one i rest s ∙ is
 either_stands one last x is is' i rest (inr s) = stands last i rest s ∙ is'
 
-led_stands : (one : Reserved) (x : ClauseKind) → clause_of one ≡ Some x → (i i1 : List Token) → g.led_by one i i1
+led_stands : (one : Reserved) (x : ClauseKind) → clause_of one ≡ Some x → (i i1 : List Token) → optional.led_by one i i1
     → clause_at i1 ≡ Some x → clause_at i ≡ Some x
 led_stands one x is i i1 (inl (i2, first, more)) e = stands one i i2 first ∙ is
 led_stands one x is i i1 (inr (same, absent)) e = ap clause_at same ∙ e

@@ -21,8 +21,8 @@ use Rattle.data_division.specs.Entries.{entry}
 use Rattle.data_division.specs.EntryReading.{entry_reader}
 use Rattle.data_division.specs.Files.{file_section_reader}
 use Rattle.data_division.specs.Division as g
-use Rattle.data_division.proofs.Exact.Optional.{tests_word}
-use Rattle.data_division.proofs.Exact.Listed.{BeginsWith, listed_sound, listed_complete}
+use Rattle.grammar.proofs.OptionalWords.{tests_word}
+use Rattle.grammar.proofs.Listed.{BeginsWith, listed_sound, listed_complete}
 use Rattle.data_division.proofs.Exact.Entries.{entry_sound, entry_complete, entry_shrinks, entry_starts}
 use Rattle.data_division.proofs.Exact.Files.{file_section_sound, file_section_complete}
 

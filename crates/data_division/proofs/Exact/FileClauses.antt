@@ -22,14 +22,14 @@ use Rattle.data_division.specs.declared.file_clauses.FileClause.TheVariants as c
 use Rattle.data_division.specs.declared.file_clauses.FileClauses.{FileClauses}
 use Rattle.data_division.specs.Clauses.{either}
 use Rattle.data_division.specs.ClauseReading.{either_reader, skip_either}
-use Rattle.data_division.specs.Gathering.{clauses_from, gathering_reader}
+use Rattle.grammar.specs.Gathering.{clauses_from, gathering_reader}
 use Rattle.data_division.specs.FileClauses as g
 use Rattle.data_division.specs.FileClauses.{file_clause, file_clauses, file_clause_of, file_clause_in, file_clause_at}
 use Rattle.data_division.specs.FileClauses.{no_file_clauses, file_clause_reader}
 use Rattle.data_division.proofs.Exact.Optional.{either_sound, either_complete, either_shrinks, skip_either_sound}
 use Rattle.data_division.proofs.Exact.Optional.{skip_either_complete, skip_either_shrinks}
-use Rattle.data_division.proofs.Exact.Listed.{unless_sound, unless_complete, unless_shrinks}
-use Rattle.data_division.proofs.Exact.Gathering.{gathering_sound, gathering_complete, gathering_shrinks}
+use Rattle.grammar.proofs.Listed.{unless_sound, unless_complete, unless_shrinks}
+use Rattle.grammar.proofs.Gathering.{gathering_sound, gathering_complete, gathering_shrinks}
 
 -- ---- words of one meaning differ
 

@@ -15,13 +15,13 @@ use Rattle.grammar.proofs.Lists.{Sound, Complete, Shrinks, Starts}
 use Rattle.grammar.proofs.Parts.{name_sound, name_complete, name_shrinks, word_sound, word_complete, word_shrinks}
 use Rattle.grammar.proofs.Parts.{period_sound, period_complete, period_shrinks, heading_sound, heading_complete}
 use Rattle.expressions.specs.Subscripts.{begins_integer}
-use Rattle.data_division.specs.Gathering.{gathering_reader}
+use Rattle.grammar.specs.Gathering.{gathering_reader}
 use Rattle.data_division.specs.FileClauses.{file_clauses, no_file_clauses, file_clause_reader}
 use Rattle.data_division.specs.Entries.{entry}
 use Rattle.data_division.specs.EntryReading.{entry_reader}
 use Rattle.data_division.specs.Files as g
 use Rattle.data_division.specs.Files.{begins_file}
-use Rattle.data_division.proofs.Exact.Listed.{BeginsWith, listed_sound, listed_complete}
+use Rattle.grammar.proofs.Listed.{BeginsWith, listed_sound, listed_complete}
 use Rattle.data_division.proofs.Exact.Entries.{entry_sound, entry_complete, entry_shrinks, entry_starts}
 use Rattle.data_division.proofs.Exact.FileClauses.{clauses_sound, clauses_complete, clauses_shrink}
 

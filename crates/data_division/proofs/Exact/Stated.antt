@@ -7,7 +7,7 @@ use Rattle.data_division.specs.declared.stated.Stated.{Stated}
 use Rattle.data_division.specs.Stated as g
 use Rattle.data_division.specs.Stated.{entry_clauses}
 use Rattle.data_division.specs.ClauseReading.{clause_reader}
-use Rattle.data_division.proofs.Exact.Gathering.{gathering_sound, gathering_complete, gathering_shrinks}
+use Rattle.grammar.proofs.Gathering.{gathering_sound, gathering_complete, gathering_shrinks}
 use Rattle.data_division.proofs.Exact.Clauses.{clause_sound, clause_complete, clause_stands, clause_shrinks}
 
 pub stated_sound : Sound g.stated_clauses g.stated_reader

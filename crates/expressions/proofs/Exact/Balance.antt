@@ -12,6 +12,7 @@ use Rattle.source_tree.specs.declared.reference.Adjustment.{Adjustment}
 use Rattle.source_tree.specs.declared.reference.Adjustment.TheVariants as adjustment
 use Rattle.source_tree.specs.declared.reference.Subscript.{Subscript}
 use Rattle.source_tree.specs.declared.reference.Subscript.TheVariants as subscript_as
+use Rattle.source_tree.specs.declared.reference.Part.{Part as ItemPart}
 use Rattle.source_tree.specs.declared.reference.Reference.{Reference}
 use Rattle.source_tree.specs.declared.expression.Operand.{Operand}
 use Rattle.source_tree.specs.declared.expression.Operand.TheVariants as operand_as
@@ -21,6 +22,7 @@ use Rattle.grammar.specs.Parts as parts
 use Rattle.grammar.specs.Parts.{Part, ◌then◌, ◌or◌, absence_of, optional, lookahead, token_with, begins_telling}
 use Rattle.grammar.specs.Parts.{named_by, word}
 use Rattle.grammar.proofs.Looking.{none_not}
+use Rattle.expressions.specs.Marks.{colon, colon_of, colon_in}
 use Rattle.expressions.specs.Marks.{left_parenthesis, right_parenthesis, left_of, right_of, sign_in, sign_by, sum_in}
 use Rattle.expressions.specs.Marks.{sum_by, product_in, product_by}
 use Rattle.expressions.specs.Subscripts as s
@@ -51,6 +53,7 @@ plain_kind by no_left no_right (k.Picture characters) a e unclosed = refl
 plain_kind by no_left no_right k.Period a e unclosed = refl
 plain_kind by no_left no_right k.LeftParenthesis a e unclosed = absurd (none_not (sym no_left ∙ e))
 plain_kind by no_left no_right k.RightParenthesis a e unclosed = absurd (none_not (sym no_right ∙ e))
+plain_kind by no_left no_right k.Colon a e unclosed = refl
 plain_kind by no_left no_right (k.Operator operator) a e unclosed = refl
 
 -- what tells something of a token by its kind and place
@@ -104,6 +107,7 @@ left_is (k.Picture characters) e unclosed = absurd (none_not e)
 left_is k.Period e unclosed = absurd (none_not e)
 left_is k.LeftParenthesis e unclosed = refl
 left_is k.RightParenthesis e unclosed = absurd (none_not e)
+left_is k.Colon e unclosed = absurd (none_not e)
 left_is (k.Operator operator) e unclosed = absurd (none_not e)
 
 right_is : (kind : Kind) → right_of kind ≡ Some tt → (unclosed : ℕ) → still_open kind unclosed ≡ unclosed
@@ -115,6 +119,7 @@ right_is (k.Picture characters) e unclosed = absurd (none_not e)
 right_is k.Period e unclosed = absurd (none_not e)
 right_is k.LeftParenthesis e unclosed = absurd (none_not e)
 right_is k.RightParenthesis e unclosed = refl
+right_is k.Colon e unclosed = absurd (none_not e)
 right_is (k.Operator operator) e unclosed = absurd (none_not e)
 
 pub left_opens : (i rest : List Token) → left_parenthesis i rest → (unclosed : ℕ)
@@ -178,15 +183,39 @@ subscript_even (subscript_as.Literal n) i rest e unclosed = integer_even n i res
 subscript_even (subscript_as.Item item by) i rest (i1, name, added) unclosed =
     qualified_even item i i1 name unclosed ∙ adjusted_even by i1 rest added unclosed
 
-subscripts_even : (all : List Subscript) → Even (r.subscripts all)
-subscripts_even [] i rest e unclosed = ap (λ j. past_closing j (suc unclosed)) e.0
-subscripts_even (one ∷ more) i rest e unclosed =
+colon_even : Even colon
+colon_even = plain_told colon_in (λ first a e. plain_kind colon_of refl refl first.kind a e) tt
+
+length_even : (one : Option Subscript) → Even (r.length one)
+length_even None i rest e unclosed = ap (λ j. past_closing j (suc unclosed)) e.0
+length_even (Some one) i rest e unclosed = subscript_even one i rest e unclosed
+
+-- what is in the parentheses of a part
+abbrev within : ItemPart → Part
+within part = s.subscript part.first then colon then r.length part.length
+
+within_even : (part : ItemPart) → Even (within part)
+within_even part i rest (i1, first, (i2, mark, size)) unclosed =
+    subscript_even part.first i i1 first unclosed ∙ colon_even i1 i2 mark unclosed
+    ∙ length_even part.length i2 rest size unclosed
+
+behind_even : (part : Option ItemPart) → Even (r.part_behind part)
+behind_even None i rest e unclosed = ap (λ j. past_closing j (suc unclosed)) e.0
+behind_even (Some part) i rest (i1, left, (i2, first, (i3, mark, (i4, size, right)))) unclosed =
+    enclosed_even {p = within part} (within_even part) i rest (i1, left, (i4, (i2, first, (i3, mark, size)), right))
+    unclosed
+
+numbers_even : (all : List Subscript) (part : Option ItemPart) → Even (r.numbers all part)
+numbers_even [] part i rest e unclosed = behind_even part i rest e unclosed
+numbers_even (one ∷ more) part i rest (i1, left, (i2, all, (i3, right, behind))) unclosed =
     enclosed_even {p = parts.several s.subscript (lookahead s.begins_subscript) (one ∷ more)}
-    (several_even s.subscript (lookahead s.begins_subscript) subscript_even (one ∷ more)) i rest e unclosed
+    (several_even s.subscript (lookahead s.begins_subscript) subscript_even (one ∷ more)) i i3
+    (i1, left, (i2, all, right)) unclosed
+    ∙ behind_even part i3 rest behind unclosed
 
 pub reference_even : (one : Reference) → Even (r.reference one)
 reference_even one i rest (i1, item, found) unclosed =
-    qualified_even one.item i i1 item unclosed ∙ subscripts_even one.subscripts i1 rest found unclosed
+    qualified_even one.item i i1 item unclosed ∙ numbers_even one.subscripts one.part i1 rest found unclosed
 
 -- ---- literals
 

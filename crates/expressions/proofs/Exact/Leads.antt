@@ -55,6 +55,7 @@ sign_no_name (k.Picture characters) place sign e = refl
 sign_no_name k.Period place sign e = refl
 sign_no_name k.LeftParenthesis place sign e = refl
 sign_no_name k.RightParenthesis place sign e = refl
+sign_no_name k.Colon place sign e = refl
 sign_no_name (k.Operator operator) place sign e = refl
 
 sign_name : Apart sign_in name_in
@@ -69,6 +70,7 @@ left_no_name (k.Picture characters) place u e = refl
 left_no_name k.Period place u e = refl
 left_no_name k.LeftParenthesis place u e = refl
 left_no_name k.RightParenthesis place u e = refl
+left_no_name k.Colon place u e = refl
 left_no_name (k.Operator operator) place u e = refl
 
 pub left_name : Apart left_in name_in

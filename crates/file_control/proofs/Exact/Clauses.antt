@@ -17,9 +17,9 @@ use Rattle.grammar.proofs.Parts.{one_token_sound, one_token_complete, telling_sh
 use Rattle.grammar.proofs.Parts.{stands_shrinks}
 use Rattle.expressions.specs.References.{reference_reader}
 use Rattle.expressions.proofs.Exact.References.{reference_sound, reference_complete, reference_shrinks}
-use Rattle.data_division.specs.ClauseReading.{skip_led}
-use Rattle.data_division.proofs.Exact.Optional.{skip_led_sound, skip_led_complete, led_shrinks}
-use Rattle.data_division.proofs.Exact.Gathering.{ClausesSound, ClausesStand, ClausesComplete}
+use Rattle.grammar.specs.OptionalWords.{skip_led}
+use Rattle.grammar.proofs.OptionalWords.{skip_led_sound, skip_led_complete, led_shrinks}
+use Rattle.grammar.proofs.Gathering.{ClausesSound, ClausesStand, ClausesComplete}
 use Rattle.file_control.specs.declared.clause.ClauseKind.{ClauseKind}
 use Rattle.file_control.specs.declared.clause.ClauseKind.TheVariants as kind
 use Rattle.file_control.specs.declared.clause.Clause.{Clause}

@@ -19,9 +19,9 @@ use Rattle.grammar.proofs.Parts.{name_sound, name_complete, name_shrinks, word_s
 use Rattle.grammar.proofs.Parts.{skip_sound, skip_complete, skip_shrinks, one_token_sound, one_token_complete}
 use Rattle.grammar.proofs.Parts.{telling_shrinks, stands_sound, stands_complete, stands_shrinks, period_sound}
 use Rattle.grammar.proofs.Parts.{period_complete, period_shrinks, heading_sound, heading_complete}
-use Rattle.data_division.specs.Gathering.{clauses_from, gathering_reader}
-use Rattle.data_division.proofs.Exact.Gathering.{gathering_sound, gathering_complete, gathering_shrinks}
-use Rattle.data_division.proofs.Exact.Listed.{BeginsWith, listed_sound, listed_complete}
+use Rattle.grammar.specs.Gathering.{clauses_from, gathering_reader}
+use Rattle.grammar.proofs.Gathering.{gathering_sound, gathering_complete, gathering_shrinks}
+use Rattle.grammar.proofs.Listed.{BeginsWith, listed_sound, listed_complete}
 use Rattle.file_control.specs.declared.stated.Stated.{Stated}
 use Rattle.file_control.specs.Stated.{no_clauses, select_clauses}
 use Rattle.file_control.specs.ClauseReading.{clause_reader}

@@ -10,7 +10,7 @@ use Rattle.tokens.specs.Reserved.{same_word}
 use Rattle.source_tree.specs.declared.reference.Reference.{Reference}
 use Rattle.source_tree.specs.declared.select.OrganizationClause.{OrganizationClause}
 use Rattle.grammar.specs.Parts.{word, token_with, begins_name}
-use Rattle.data_division.specs.Clauses.{led_by}
+use Rattle.grammar.specs.OptionalWords.{led_by}
 use Rattle.grammar.specs.Reading.{begins_word, after_word}
 use Rattle.grammar.proofs.Looking.{finds_word, is_missing, word_stands, word_begins, begins_no_other, tests_tested}
 use Rattle.expressions.proofs.Exact.References.{reference_starts}

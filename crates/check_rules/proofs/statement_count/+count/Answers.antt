@@ -14,11 +14,13 @@ after_statement-returns-in-Arithmetic t c =
 
 pub after_statement-returns-in-ConditionalStatement : goal.after_statement-returns-in-ConditionalStatement
 after_statement-returns-in-ConditionalStatement t c =
-    after_inside c.args.one.now _ c.args.room _ _ c.in-ConditionalStatement.is c.after-room.ensures c.after_branching.ensures
+    after_inside c.args.one.now _ c.args.room _ _ c.in-ConditionalStatement.is c.after-room.ensures
+    c.after_branching.ensures
 
 pub after_statement-returns-in-PerformStatement : goal.after_statement-returns-in-PerformStatement
 after_statement-returns-in-PerformStatement t c =
-    after_inside c.args.one.now _ c.args.room _ _ c.in-PerformStatement.is c.after-room.ensures c.after_performed.ensures
+    after_inside c.args.one.now _ c.args.room _ _ c.in-PerformStatement.is c.after-room.ensures
+    c.after_performed.ensures
 
 pub after_statement-returns-in-StringStatement : goal.after_statement-returns-in-StringStatement
 after_statement-returns-in-StringStatement t c = after_inside c.args.one.now _ c.args.room _ _ c.in-StringStatement.is

@@ -1,5 +1,5 @@
 use Rattle.std.proofs.Common.{◌∙◌}
-use Rattle.literals.proofs.Digits.{room, first_room, magnitude_of, number_of}
+use Rattle.data_entries.proofs.Digits.{room, first_room, magnitude_of, number_of}
 use Rattle.codegen.proofs.number.number_written.Goals as goal
 
 pub number_after-requires : goal.number_after-requires

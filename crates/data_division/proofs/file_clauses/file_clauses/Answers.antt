@@ -1,7 +1,7 @@
 use Rattle.std.proofs.Common.{rules, arith}
 use Rattle.std.proofs.lemmas.Grind.{common_steps}
 use Rattle.grammar.proofs.Turns.{one_more}
-use Rattle.data_division.specs.Gathering.{gathering_reader, gathering_turns}
+use Rattle.grammar.specs.Gathering.{gathering_reader, gathering_turns}
 use Rattle.data_division.specs.FileClauses.{file_clauses, file_clause_reader}
 use Rattle.data_division.proofs.file_clauses.file_clauses.Goals as goal
 

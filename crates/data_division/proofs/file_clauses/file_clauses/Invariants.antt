@@ -1,5 +1,5 @@
 use Rattle.std.proofs.Common.{◌≡◌, ◌-◌}
-use Rattle.data_division.specs.Gathering.{gathering_reader, gathering_turns}
+use Rattle.grammar.specs.Gathering.{gathering_reader, gathering_turns}
 use Rattle.data_division.specs.FileClauses.{file_clauses, no_file_clauses, file_clause_reader}
 use Rattle.data_division.proofs.file_clauses.file_clauses.Given as goal
 

@@ -1,7 +1,7 @@
 use Rattle.std.proofs.Common.{rules, arith}
 use Rattle.std.proofs.lemmas.Grind.{common_steps}
 use Rattle.grammar.proofs.Turns.{one_more}
-use Rattle.data_division.specs.Gathering.{gathering_reader, gathering_turns}
+use Rattle.grammar.specs.Gathering.{gathering_reader, gathering_turns}
 use Rattle.data_division.specs.Stated.{entry_clauses}
 use Rattle.data_division.specs.ClauseReading.{clause_reader}
 use Rattle.data_division.proofs.stated.gather.Goals as goal

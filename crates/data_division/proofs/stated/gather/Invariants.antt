@@ -1,5 +1,5 @@
 use Rattle.std.proofs.Common.{◌≡◌, ◌-◌}
-use Rattle.data_division.specs.Gathering.{gathering_reader, gathering_turns}
+use Rattle.grammar.specs.Gathering.{gathering_reader, gathering_turns}
 use Rattle.data_division.specs.Stated.{entry_clauses}
 use Rattle.data_division.specs.ClauseReading.{clause_reader}
 use Rattle.data_division.proofs.stated.gather.Given as goal

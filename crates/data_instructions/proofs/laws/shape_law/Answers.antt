@@ -1,3 +1,4 @@
+use Rattle.data_instructions.proofs.PartEntries.{part_in_order}
 use Rattle.data_instructions.proofs.Chains.{effects_append, move_known, display_known, accept_known, date_known}
 use Rattle.data_instructions.proofs.ArithmeticChains.{arithmetic_known}
 use Rattle.data_instructions.proofs.laws.shape_law.Goals as goal
@@ -20,3 +21,6 @@ returns-clause-dates c = date_known
 
 pub returns-clause-calculates : goal.returns-clause-calculates
 returns-clause-calculates c = λ items tables keep one code is lies. arithmetic_known items tables keep one code is lies
+
+pub returns-clause-parts : goal.returns-clause-parts
+returns-clause-parts c = λ tables found part item lies. part_in_order tables found part item lies

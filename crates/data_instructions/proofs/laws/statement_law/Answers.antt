@@ -1,4 +1,5 @@
-use Rattle.data_instructions.proofs.Codes.{works_append, place_taken, move_works, display_works, accept_works}
+use Rattle.data_instructions.proofs.Subscripts.{works_append}
+use Rattle.data_instructions.proofs.Codes.{place_taken, move_works, display_works, accept_works}
 use Rattle.data_instructions.proofs.Codes.{date_works}
 use Rattle.data_instructions.proofs.ArithmeticCodes.{arithmetic_works}
 use Rattle.data_instructions.proofs.laws.statement_law.Goals as goal

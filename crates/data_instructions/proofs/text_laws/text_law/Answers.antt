@@ -30,7 +30,7 @@ pub returns-clause-knows_string : goal.returns-clause-knows_string
 returns-clause-knows_string c = λ items tables one code is lies. string_known items tables one code is lies
 
 pub returns-clause-inspects : goal.returns-clause-inspects
-returns-clause-inspects c = λ items tables one code order is. inspect_does items tables order one code is
+returns-clause-inspects c = λ items tables one code order sized is. inspect_does items tables order one code sized is
 
 pub returns-clause-knows_inspect : goal.returns-clause-knows_inspect
 returns-clause-knows_inspect c = inspect_leaves

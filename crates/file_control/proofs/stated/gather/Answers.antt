@@ -1,7 +1,7 @@
 use Rattle.std.proofs.Common.{◌≡◌, ◌-◌, ◌∙◌, ap, rules, arith}
 use Rattle.std.proofs.lemmas.Grind.{common_steps}
 use Rattle.grammar.proofs.Turns.{one_more}
-use Rattle.data_division.specs.Gathering.{gathering_reader, gathering_turns}
+use Rattle.grammar.specs.Gathering.{gathering_reader, gathering_turns}
 use Rattle.file_control.specs.Stated.{select_clauses}
 use Rattle.file_control.specs.ClauseReading.{clause_reader}
 use Rattle.file_control.proofs.stated.gather.Goals as goal

@@ -1,5 +1,5 @@
 use Rattle.std.proofs.Common.{◌≡◌, ◌-◌}
-use Rattle.data_division.specs.Gathering.{gathering_reader, gathering_turns}
+use Rattle.grammar.specs.Gathering.{gathering_reader, gathering_turns}
 use Rattle.file_control.specs.Stated.{select_clauses}
 use Rattle.file_control.specs.ClauseReading.{clause_reader}
 use Rattle.file_control.proofs.stated.gather.Given as goal

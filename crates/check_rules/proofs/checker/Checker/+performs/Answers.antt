@@ -85,7 +85,9 @@ phrase_performs-returns-in-Some t c =
 pub statement_performs-returns-in_ok-phrase_performs-in-StringStatement :
     goal.statement_performs-returns-in_ok-phrase_performs-in-StringStatement
 statement_performs-returns-in_ok-phrase_performs-in-StringStatement t c =
-    adds_phrases c.args.all.now c.phrase_performs-in-StringStatement.new.all c.phrase_performs-in-StringStatement-2.new.all
+    adds_phrases c.args.all.now c.phrase_performs-in-StringStatement.new.all
+    c.phrase_performs-in-StringStatement-2.new.all
     (procedures_in c.args.self.now.declarations.now) c.args.number c.args.one.now
     c.phrase_performs-in-StringStatement-2.result _ _
-    c.in_ok-phrase_performs-in-StringStatement.ensures c.phrase_performs-in-StringStatement-2.ensures (grind (arith, statement_is))
+    c.in_ok-phrase_performs-in-StringStatement.ensures c.phrase_performs-in-StringStatement-2.ensures
+    (grind (arith, statement_is))

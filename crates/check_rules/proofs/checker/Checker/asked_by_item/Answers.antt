@@ -1,5 +1,5 @@
 use Rattle.std.proofs.Common.{ap, sym}
-use Rattle.source_tree.specs.LookUp.{items_named}
+use Rattle.source_tree.specs.Parts.{items_referred}
 use Rattle.entry_rules.specs.Checks.{broken_of}
 use Rattle.declarations.specs.Named.{items_in}
 use Rattle.check_rules.specs.Asking.{asked_by}
@@ -10,5 +10,5 @@ pub returns-in-Err : goal.returns-in-Err
 returns-in-Err c =
     let items = items_in c.args.self.now.declarations.now in
     let reference = c.args.sender.now in
-    sym (ap asked_by (sends_nothing reference.item.name.place (items_named items reference.item)
+    sym (ap asked_by (sends_nothing reference.item.name.place (items_referred items reference)
     (broken_of c.in-Err.field-0) c.in-Err.ensures))

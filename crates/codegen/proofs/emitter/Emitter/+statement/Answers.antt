@@ -8,6 +8,7 @@ use Rattle.source_tree.specs.declared.statement.Statement.{Statement, the_lemmas
 use Rattle.source_tree.specs.declared.file_statement.FileStatement.{FileStatement}
 use Rattle.source_tree.specs.declared.conditional_statement.ConditionalStatement.{ConditionalStatement}
 use Rattle.source_tree.specs.declared.conditional_statement.ConditionalStatement.TheVariants.{If}
+use Rattle.source_tree.specs.declared.perform_statement.Repetition.{Repetition}
 use Rattle.source_tree.specs.declared.until.TestTime.{TestTime}
 use Rattle.source_tree.specs.declared.condition.Condition.TheVariants.{Any}
 use Rattle.source_tree.specs.declared.evaluate_statement.Subject.{Subject}
@@ -28,6 +29,7 @@ use Rattle.source_tree.specs.Rules.{branching_rules, performing_rules, phrases_r
 use Rattle.source_tree.specs.Rules.{performed_rules, turns_rules, evaluate_rules, statement_rules}
 use Rattle.source_tree.specs.ArithmeticRules.{operation_rules}
 use Rattle.source_tree.specs.LookUp.{first, items_named}
+use Rattle.source_tree.specs.Parts.{items_referred}
 use Rattle.source_tree.specs.ProgramFiles.{ProgramFile, files_named}
 use Rattle.source_tree.specs.StringRules.{sending_rules, receiver_item, only_length, string_rules}
 use Rattle.file_descriptions.specs.Files.{file_in}
@@ -48,7 +50,8 @@ use Rattle.codegen.specs.UntilCode.{until_from_fragment, vary_begin_fragment, va
 use Rattle.codegen.specs.FileCode.{file_fragment, test_fragment, unheard_fragment, on_file_fragment, into_fragment}
 use Rattle.codegen.specs.FileCode.{from_fragment, on_name_fragment}
 use Rattle.codegen.specs.SubjectCode.{first_object, subjects_fragment}
-use Rattle.codegen.specs.Layout.{turn_end, count_begin, counted_turn, counted_fragment, turn_fragment, phrase_fragment}
+use Rattle.codegen.specs.Layout.{turn_end, count_begin, counted_turn, counted_fragment, turns_fragment, turn_fragment}
+use Rattle.codegen.specs.Layout.{phrase_fragment}
 use Rattle.codegen.specs.Layout.{phrases_fragment, selection_fragment, conditional_fragment, taken_fragment}
 use Rattle.codegen.specs.Layout.{success_fragment, failure_fragment, status_fragment, statement_on_fragment}
 use Rattle.codegen.specs.Layout.{alone_fragment, file_statement_fragment, statement_fragment}
@@ -168,7 +171,8 @@ emit_phrase-emit_statements-requires t c =
 pub emit_statement-emit_performing-requires : goal.emit_statement-emit_performing-requires
 emit_statement-emit_performing-requires t c =
     let scope = scope_in c.args.self.now.declarations.now in
-    let r : performing_rules scope all_permitted (statement_rules scope all_permitted) c.in-PerformStatement.performing ≡ [] =
+    let r : performing_rules scope all_permitted (statement_rules scope all_permitted) c.in-PerformStatement.performing
+    ≡ [] =
     sym (ap (verb_rules scope all_permitted (statement_rules scope all_permitted)) c.in-PerformStatement.is)
     ∙ sym (layers.statement_is scope all_permitted c.args.one.now) ∙ c.requires.rules in
     (search (rules, the_lemmas), (c.requires.declared, (c.requires.entries, r)))
@@ -196,6 +200,22 @@ emit_performing-emit_counted-requires t c =
       search (rules, the_lemmas),
       (c.requires.declared, (c.requires.entries, (item, back_kept often behind c.requires.rules))),
     )
+
+pub emit_performing-returns-in_ok-emit_tick-in-CountedBy : goal.emit_performing-returns-in_ok-emit_tick-in-CountedBy
+emit_performing-returns-in_ok-emit_tick-in-CountedBy t c =
+    let scope = scope_in c.args.self.now.declarations.now in
+    let old = c.args.code.now in
+    let line = c.args.line in
+    let tick = tick_fragment line in
+    let turn = turn_fragment scope (statement_fragment scope) line c.args.one.now.performed in
+    let counted = sequence (take_fragment scope.items i.Push c.in-CountedBy.item) (counted_fragment turn) in
+    let result = c.emit_counted.result in
+    let new = c.emit_counted.new.code in
+    is_so result new (append old (sequence tick counted old))
+    (append old (turns_fragment scope.items line c.args.one.now.turns turn old))
+    (ends_so result tick counted old c.emit_tick-in-CountedBy.new.code new c.in_ok-emit_tick-in-CountedBy.ensures
+    c.emit_counted.ensures)
+    (sym (ap (λ (often : Repetition). append old (turns_fragment scope.items line often turn old)) c.in-CountedBy.is))
 
 pub emit_counted-emit_taking-requires-clause-rules : goal.emit_counted-emit_taking-requires-clause-rules
 emit_counted-emit_taking-requires-clause-rules t c =
@@ -629,7 +649,7 @@ emit_stringing-emit_string-requires-clause-receiver t c =
 pub emit_stringing-emit_string-requires-clause-pointer : goal.emit_stringing-emit_string-requires-clause-pointer
 emit_stringing-emit_string-requires-clause-pointer t c =
     let items = (scope_in c.args.self.now.declarations.now).items in
-    pointer_kept items (only_length (items_named items c.args.one.now.receiver.item)) c.args.one.now.pointer
+    pointer_kept items (only_length (items_referred items c.args.one.now.receiver)) c.args.one.now.pointer
     (keeps_string items c.args.one.now c.requires.string).pointer
 
 pub emit_filing-emit_read-requires : goal.emit_filing-emit_read-requires

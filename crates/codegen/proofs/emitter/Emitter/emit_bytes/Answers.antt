@@ -11,5 +11,5 @@ emit_taking-requires-clause-rules c =
 pub returns : goal.returns
 returns c =
     bytes_made (items_in c.args.self.now.declarations.now) c.args.one.now c.args.code.now c.emit_taking.new.code
-    c.args.at c.length_of.result c.requires.rules c.in_ok-emit_taking.ensures
-    c.length_of.ensures
+    c.args.at c.length_shown.result c.requires.rules c.in_ok-emit_taking.ensures
+    c.length_shown.ensures

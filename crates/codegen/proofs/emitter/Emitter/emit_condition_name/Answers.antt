@@ -14,14 +14,14 @@ use Rattle.codegen.specs.ConditionCode.{condition_item, values_fragment, conditi
 use Rattle.codegen.specs.Values.{AreFormedValues}
 use Rattle.codegen.proofs.ConditionNames.{values_formed}
 use Rattle.codegen.proofs.ConditionValues.{descriptions_kept}
-use Rattle.codegen.proofs.Kept.{back_kept}
+use Rattle.codegen.proofs.Kept.{back_kept, subscripts_kept}
 use Rattle.codegen.proofs.Sequences.{is_so, ends_so}
 use Rattle.codegen.proofs.emitter.Emitter.emit_condition_name.Goals as goal
 
 pub emit_subscripts-requires-clause-rules : goal.emit_subscripts-requires-clause-rules
 emit_subscripts-requires-clause-rules c =
     ap (each (subscript_rules (items_in c.args.self.now.declarations.now))) c.as_slice.ensures
-    ∙ back_kept _ _ c.requires.rules
+    ∙ subscripts_kept (items_in c.args.self.now.declarations.now) c.args.one.now (back_kept _ _ c.requires.rules)
 
 pub emit_values-requires : goal.emit_values-requires
 emit_values-requires c =

@@ -3,10 +3,10 @@ use Rattle.source_tree.specs.declared.reference.Reference.{Reference}
 use Rattle.source_tree.specs.declared.expression.Operand.TheVariants.{Item}
 use Rattle.source_tree.specs.Broken.{each}
 use Rattle.source_tree.specs.FilingRules.{from_rules}
-use Rattle.source_tree.specs.NameRules.{subscript_rules, reference_rules, any_item, operand_rules}
+use Rattle.source_tree.specs.NameRules.{number_rules_of, reference_rules, any_item, operand_rules}
 use Rattle.source_tree.specs.MoveRules.{sent_by, receives, move_rules}
 use Rattle.declarations.specs.Named.{items_in, files_in}
-use Rattle.codegen.proofs.Kept.{front_kept, back_kept, item_kept, subscripts_kept}
+use Rattle.codegen.proofs.Kept.{front_kept, back_kept, item_kept, numbers_kept}
 use Rattle.codegen.proofs.emitter.Emitter.emit_from.Goals as goal
 
 pub emit_taking-requires-clause-rules : goal.emit_taking-requires-clause-rules
@@ -29,6 +29,6 @@ emit_receivers-requires-clause-rules c =
     let asked = receives (sent_by items (Item from)) in
     let r : move_rules items (Item from) (to ∷ []) ≡ [] =
     sym (ap (from_rules items files to) c.in-Some.is) ∙ c.requires.rules in
-    ap (each (λ (one : Reference). each (subscript_rules items) one.subscripts)) c.from_ref.ensures.value
-    ∙ subscripts_kept items asked (to ∷ [])
+    ap (each (number_rules_of items)) c.from_ref.ensures.value
+    ∙ numbers_kept items asked (to ∷ [])
     (back_kept (operand_rules items (Item from)) (each (reference_rules items asked) (to ∷ [])) r)

@@ -2,14 +2,26 @@ use Rattle.std.proofs.Common.{ap, ◌∙◌}
 use Rattle.declarations.specs.Named.{items_in}
 use Rattle.source_tree.specs.declared.arithmetic.Receiver.{Receiver}
 use Rattle.source_tree.specs.Broken.{each}
-use Rattle.source_tree.specs.NameRules.{subscript_rules}
+use Rattle.source_tree.specs.NameRules.{number_rules_of}
 use Rattle.source_tree.specs.ArithmeticRules.{number_receiver}
+use Rattle.codegen.specs.Fragments.{append}
+use Rattle.codegen.specs.ArithmeticCode.{give_fragment}
+use Rattle.codegen.proofs.Fragments.{goes_on}
 use Rattle.codegen.proofs.Kept.{receiver_kept}
 use Rattle.codegen.proofs.emitter.Emitter.emit_gives.Goals as goal
 
 pub emit_give-requires-clause-rules : goal.emit_give-requires-clause-rules
 emit_give-requires-clause-rules c =
     let items = items_in c.args.self.now.declarations.now in
-    ap (λ (r : Receiver). each (subscript_rules items) r.item.subscripts) c.one-item.is
+    ap (λ (r : Receiver). number_rules_of items r.item) c.one-item.is
     ∙ receiver_kept items number_receiver c.args.all.now c.loop-one.one-index c.one-item.result c.loop-one-test.true
     c.requires.rules
+
+pub loop-one-preserved : goal.loop-one-preserved
+loop-one-preserved c =
+    let code = c.loop-one.code in
+    let piece = give_fragment (items_in c.args.self.now.declarations.now) c.args.keep in
+    goes_on piece c.args.all.now c.loop-one.one-index c.one-item.result code c.emit_give.new.code _
+    c.loop-one-test.true
+    (c.in_ok-emit_give.ensures ∙ ap (λ (one : Receiver). append code (piece one code)) c.one-item.is)
+    c.loop-one.invariant

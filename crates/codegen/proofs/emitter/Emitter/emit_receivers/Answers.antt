@@ -1,14 +1,25 @@
 use Rattle.std.proofs.Common.{ap, ◌∙◌}
-use Rattle.declarations.specs.Named.{items_in}
 use Rattle.source_tree.specs.declared.reference.Reference.{Reference}
-use Rattle.source_tree.specs.Broken.{each}
-use Rattle.source_tree.specs.NameRules.{subscript_rules}
+use Rattle.source_tree.specs.NameRules.{number_rules_of}
+use Rattle.data_instructions.specs.declared.instruction.DataInstruction.TheVariants as i
+use Rattle.declarations.specs.Named.{items_in}
+use Rattle.codegen.specs.Fragments.{append}
+use Rattle.codegen.specs.DataCode.{take_fragment}
+use Rattle.codegen.proofs.Fragments.{goes_on}
 use Rattle.codegen.proofs.Kept.{one_kept}
 use Rattle.codegen.proofs.emitter.Emitter.emit_receivers.Goals as goal
 
 pub emit_taking-requires-clause-rules : goal.emit_taking-requires-clause-rules
 emit_taking-requires-clause-rules c =
-    ap (λ (r : Reference). each (subscript_rules (items_in c.args.self.now.declarations.now)) r.subscripts)
-    c.one-item.is
-    ∙ one_kept (λ (r : Reference). each (subscript_rules (items_in c.args.self.now.declarations.now)) r.subscripts)
-    c.args.all.now c.loop-one.one-index c.one-item.result c.loop-one-test.true c.requires.rules
+    let kept = number_rules_of (items_in c.args.self.now.declarations.now) in
+    ap kept c.one-item.is
+    ∙ one_kept kept c.args.all.now c.loop-one.one-index c.one-item.result c.loop-one-test.true c.requires.rules
+
+pub loop-one-preserved : goal.loop-one-preserved
+loop-one-preserved c =
+    let code = c.loop-one.code in
+    let piece = take_fragment (items_in c.args.self.now.declarations.now) i.Move in
+    goes_on piece c.args.all.now c.loop-one.one-index c.one-item.result code c.emit_taking.new.code _
+    c.loop-one-test.true
+    (c.in_ok-emit_taking.ensures ∙ ap (λ (one : Reference). append code (piece one code)) c.one-item.is)
+    c.loop-one.invariant

@@ -1,6 +1,6 @@
 use Rattle.declarations.specs.Named.{items_in}
 use Rattle.std.proofs.Common.{◌++◌}
-use Rattle.source_tree.specs.InspectRules.{inspected_rules, by_rules, size_of, limits_rules}
+use Rattle.source_tree.specs.InspectRules.{inspected_rules, known_text_rules, by_rules, size_of, limits_rules}
 use Rattle.codegen.proofs.Kept.{front_kept, back_kept}
 use Rattle.codegen.proofs.InspectMaking.{replaced_put}
 use Rattle.codegen.proofs.Sequences.{on_ok}
@@ -9,23 +9,27 @@ use Rattle.codegen.proofs.emitter.Emitter.emit_replaced_text.Goals as goal
 pub emit_source-requires-clause-rules : goal.emit_source-requires-clause-rules
 emit_source-requires-clause-rules c =
     let items = items_in c.args.self.now.declarations.now in
-    front_kept (inspected_rules items c.args.one.now.text) (by_rules items (size_of items c.args.one.now.text)
-    c.args.one.now.by) (front_kept (inspected_rules items c.args.one.now.text ++ by_rules items
-    (size_of items c.args.one.now.text) c.args.one.now.by) (limits_rules items c.args.one.now.limits) c.requires.rules)
+    let one = c.args.one.now in
+    let text = known_text_rules items one.text in
+    let by = by_rules items (size_of items one.text) one.by in
+    front_kept (inspected_rules items one.text) _ (front_kept text by
+    (front_kept (text ++ by) (limits_rules items one.limits) c.requires.rules))
 
 pub emit_by-requires-clause-rules : goal.emit_by-requires-clause-rules
 emit_by-requires-clause-rules c =
     let items = items_in c.args.self.now.declarations.now in
-    front_kept (inspected_rules items c.args.one.now.by) _ (back_kept (inspected_rules items c.args.one.now.text)
-    (by_rules items (size_of items c.args.one.now.text) c.args.one.now.by) (front_kept
-    (inspected_rules items c.args.one.now.text ++ by_rules items (size_of items c.args.one.now.text) c.args.one.now.by)
-    (limits_rules items c.args.one.now.limits) c.requires.rules))
+    let one = c.args.one.now in
+    let text = known_text_rules items one.text in
+    let by = by_rules items (size_of items one.text) one.by in
+    front_kept (inspected_rules items one.by) _ (back_kept text by
+    (front_kept (text ++ by) (limits_rules items one.limits) c.requires.rules))
 
 pub emit_limits-requires-clause-rules : goal.emit_limits-requires-clause-rules
 emit_limits-requires-clause-rules c =
     let items = items_in c.args.self.now.declarations.now in
-    back_kept (inspected_rules items c.args.one.now.text ++ by_rules items (size_of items c.args.one.now.text)
-    c.args.one.now.by) (limits_rules items c.args.one.now.limits) c.requires.rules
+    let one = c.args.one.now in
+    back_kept (known_text_rules items one.text ++ by_rules items (size_of items one.text) one.by)
+    (limits_rules items one.limits) c.requires.rules
 
 pub returns : goal.returns
 returns c =

@@ -13,7 +13,7 @@ use Rattle.codegen.specs.Fragments.{append, sequence}
 use Rattle.codegen.specs.DataCode.{dimensions_of, work_fragment, subscripts_fragment}
 use Rattle.codegen.specs.ConditionCode.{condition_number, condition_item}
 use Rattle.codegen.specs.PatternCode.{overlay_fragment, set_of, set_fragment}
-use Rattle.codegen.proofs.Kept.{back_kept}
+use Rattle.codegen.proofs.Kept.{back_kept, subscripts_kept}
 use Rattle.codegen.proofs.PatternCodes.{set_kept}
 use Rattle.codegen.proofs.Sequences.{is_so, ends_so}
 use Rattle.codegen.proofs.emitter.Emitter.emit_set.Goals as goal
@@ -22,7 +22,7 @@ pub emit_subscripts-requires-clause-rules : goal.emit_subscripts-requires-clause
 emit_subscripts-requires-clause-rules c =
     let items = items_in c.args.self.now.declarations.now in
     ap (each (subscript_rules items)) c.as_slice.ensures
-    ∙ back_kept _ _ (set_kept items c.args.one.now c.requires.rules)
+    ∙ subscripts_kept items c.args.one.now (back_kept _ _ (set_kept items c.args.one.now c.requires.rules))
 
 pub returns : goal.returns
 returns c =

@@ -1,0 +1,12 @@
+use Rattle.std.proofs.Common.{sym}
+use Rattle.source_tree.specs.LookUp.{items_named}
+use Rattle.entry_rules.specs.Checks.{broken_of}
+use Rattle.declarations.specs.Named.{items_in}
+use Rattle.check_rules.proofs.Parts.{no_size}
+use Rattle.check_rules.proofs.checker.Checker.size_shown.Goals as goal
+
+pub returns-in-Err : goal.returns-in-Err
+returns-in-Err c =
+    let one = c.args.one.now in
+    sym (no_size one.item.name.place (items_named (items_in c.args.self.now.declarations.now) one.item)
+    (broken_of c.in-Err.field-0) c.in-Err.ensures one.part)

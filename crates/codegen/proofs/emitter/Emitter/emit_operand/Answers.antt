@@ -1,0 +1,11 @@
+use Rattle.std.proofs.Common.{sym, ap, ◌∙◌}
+use Rattle.source_tree.specs.NameRules.{any_item}
+use Rattle.source_tree.specs.TextRules.{shown_rules}
+use Rattle.declarations.specs.Named.{items_in}
+use Rattle.codegen.proofs.Kept.{item_kept}
+use Rattle.codegen.proofs.emitter.Emitter.emit_operand.Goals as goal
+
+pub emit_taking-requires-clause-rules : goal.emit_taking-requires-clause-rules
+emit_taking-requires-clause-rules c =
+    let items = items_in c.args.self.now.declarations.now in
+    item_kept items any_item c.in-Item.reference (sym (ap (shown_rules items) c.in-Item.is) ∙ c.requires.rules)

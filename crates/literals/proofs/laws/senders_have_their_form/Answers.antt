@@ -1,5 +1,0 @@
-use Rattle.literals.proofs.Forms.{sender_formed}
-use Rattle.literals.proofs.laws.senders_have_their_form.Goals as goal
-
-pub returns : goal.returns
-returns c = sender_formed

@@ -1,0 +1,12 @@
+       IDENTIFICATION DIVISION.
+       PROGRAM-ID. TRIAL.
+       DATA DIVISION.
+       WORKING-STORAGE SECTION.
+       01  COUNTER PIC 9(3) VALUE 0.
+       01  STATE PIC X.
+           88  IS-DONE VALUE "D".
+       01  CUSTOMER-NAME PIC X(20).
+       PROCEDURE DIVISION.
+       MAIN-PARA.
+           MOVE "D" TO IS-DONE
+           STOP RUN.

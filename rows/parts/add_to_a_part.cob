@@ -1,0 +1,9 @@
+       IDENTIFICATION DIVISION.
+       PROGRAM-ID. P.
+       DATA DIVISION.
+       WORKING-STORAGE SECTION.
+       01  N PIC 9(4) VALUE 1985.
+       PROCEDURE DIVISION.
+       MAIN-1.
+           ADD 1 TO N (3:2).
+           STOP RUN.

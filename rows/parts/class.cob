@@ -1,0 +1,12 @@
+       IDENTIFICATION DIVISION.
+       PROGRAM-ID. P.
+       DATA DIVISION.
+       WORKING-STORAGE SECTION.
+       01 T PIC X(5) VALUE "12A b".
+       PROCEDURE DIVISION.
+       MAIN-1.
+           IF T (1:2) NUMERIC DISPLAY "1".
+           IF T (2:2) NUMERIC DISPLAY "2".
+           IF T (3:2) ALPHABETIC DISPLAY "3".
+           IF T (5:1) ALPHABETIC-LOWER DISPLAY "4".
+           STOP RUN.

@@ -1,0 +1,10 @@
+       IDENTIFICATION DIVISION.
+       PROGRAM-ID. P.
+       DATA DIVISION.
+       WORKING-STORAGE SECTION.
+       01 T PIC X(5) VALUE "ABCDE".
+       PROCEDURE DIVISION.
+       MAIN-1.
+           IF T (1:2) = "AB  " DISPLAY "Y" ELSE DISPLAY "N".
+           IF T (1:2) < T (1:3) DISPLAY "Y" ELSE DISPLAY "N".
+           STOP RUN.

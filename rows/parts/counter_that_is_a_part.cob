@@ -1,0 +1,10 @@
+       IDENTIFICATION DIVISION.
+       PROGRAM-ID. P.
+       DATA DIVISION.
+       WORKING-STORAGE SECTION.
+       01  S PIC X(6) VALUE "AABAAB".
+       01  N PIC 9(4) VALUE 0.
+       PROCEDURE DIVISION.
+       MAIN-1.
+           INSPECT S TALLYING N (1:2) FOR ALL "A".
+           STOP RUN.

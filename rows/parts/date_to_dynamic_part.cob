@@ -1,0 +1,11 @@
+       IDENTIFICATION DIVISION.
+       PROGRAM-ID. P.
+       DATA DIVISION.
+       WORKING-STORAGE SECTION.
+       01 T PIC X(8) VALUE "ABCDEFGH".
+       01 I PIC 9 VALUE 6.
+       PROCEDURE DIVISION.
+       MAIN-1.
+           ACCEPT T (2:I) FROM DATE
+           IF T (2:6) NUMERIC DISPLAY T (1:1) T (8:).
+           STOP RUN.

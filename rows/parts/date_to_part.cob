@@ -1,0 +1,10 @@
+       IDENTIFICATION DIVISION.
+       PROGRAM-ID. P.
+       DATA DIVISION.
+       WORKING-STORAGE SECTION.
+       01 T PIC X(5) VALUE "ABCDE".
+       PROCEDURE DIVISION.
+       MAIN-1.
+           ACCEPT T (2:3) FROM DATE
+           IF T (2:3) NUMERIC DISPLAY T (1:1) T (5:1).
+           STOP RUN.

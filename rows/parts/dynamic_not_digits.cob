@@ -1,0 +1,11 @@
+       IDENTIFICATION DIVISION.
+       PROGRAM-ID. P.
+       DATA DIVISION.
+       WORKING-STORAGE SECTION.
+       01 T PIC X(6) VALUE "12345A".
+       01 I PIC 9 VALUE 4.
+       01 N PIC 9(4).
+       PROCEDURE DIVISION.
+       MAIN-1.
+           MOVE T (I:3) TO N
+           STOP RUN.

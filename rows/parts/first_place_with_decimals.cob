@@ -1,0 +1,10 @@
+       IDENTIFICATION DIVISION.
+       PROGRAM-ID. P.
+       DATA DIVISION.
+       WORKING-STORAGE SECTION.
+       01  T PIC X(5) VALUE "ABCDE".
+       01  V PIC 9V9 VALUE 1.5.
+       PROCEDURE DIVISION.
+       MAIN-1.
+           DISPLAY T (V:1).
+           STOP RUN.

@@ -1,0 +1,11 @@
+       IDENTIFICATION DIVISION.
+       PROGRAM-ID. P.
+       DATA DIVISION.
+       WORKING-STORAGE SECTION.
+       01 T PIC X(5) VALUE "ABCDE".
+       01 I PIC 9 VALUE 3.
+       PROCEDURE DIVISION.
+       MAIN-1.
+           INITIALIZE T (I:) T (1:1)
+           DISPLAY "[" T "]"
+           STOP RUN.

@@ -1,0 +1,14 @@
+       IDENTIFICATION DIVISION.
+       PROGRAM-ID. P.
+       DATA DIVISION.
+       WORKING-STORAGE SECTION.
+       01 T PIC X(6) VALUE "AABAAB".
+       01 P PIC X(3) VALUE "BAA".
+       01 I PIC 9 VALUE 2.
+       01 N PIC 9 VALUE 0.
+       PROCEDURE DIVISION.
+       MAIN-1.
+           INSPECT T TALLYING N FOR ALL P (I:2)
+           INSPECT T REPLACING ALL P (I - 1:2) BY P (2:2)
+           DISPLAY T N
+           STOP RUN.

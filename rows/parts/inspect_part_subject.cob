@@ -1,0 +1,12 @@
+       IDENTIFICATION DIVISION.
+       PROGRAM-ID. P.
+       DATA DIVISION.
+       WORKING-STORAGE SECTION.
+       01 T PIC X(6) VALUE "AABAAB".
+       01 N PIC 9 VALUE 0.
+       PROCEDURE DIVISION.
+       MAIN-1.
+           INSPECT T (2:3) TALLYING N FOR ALL "A"
+             REPLACING ALL "A" BY "x"
+           DISPLAY T N
+           STOP RUN.

@@ -1,0 +1,11 @@
+       IDENTIFICATION DIVISION.
+       PROGRAM-ID. P.
+       DATA DIVISION.
+       WORKING-STORAGE SECTION.
+       01 T PIC X(6) VALUE "AABAAB".
+       01 I PIC 9 VALUE 3.
+       PROCEDURE DIVISION.
+       MAIN-1.
+           INSPECT T (I:I) REPLACING ALL "A" BY "x"
+           DISPLAY T
+           STOP RUN.

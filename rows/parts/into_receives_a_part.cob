@@ -1,0 +1,11 @@
+       IDENTIFICATION DIVISION.
+       PROGRAM-ID. P.
+       DATA DIVISION.
+       WORKING-STORAGE SECTION.
+       01 T PIC X(8) VALUE "........".
+       01 I PIC 9 VALUE 3.
+       PROCEDURE DIVISION.
+       MAIN-1.
+           STRING "AB" DELIMITED BY SIZE INTO T (I:)
+           DISPLAY T
+           STOP RUN.

@@ -1,0 +1,9 @@
+       IDENTIFICATION DIVISION.
+       PROGRAM-ID. P.
+       DATA DIVISION.
+       WORKING-STORAGE SECTION.
+       01 T PIC X(5) VALUE "ABCDE".
+       PROCEDURE DIVISION.
+       MAIN-1.
+           DISPLAY T (5:2)
+           STOP RUN.

@@ -1,0 +1,10 @@
+       IDENTIFICATION DIVISION.
+       PROGRAM-ID. P.
+       DATA DIVISION.
+       WORKING-STORAGE SECTION.
+       01 N PIC 99 VALUE 12.
+       01 T PIC X(5) VALUE "A12DE".
+       PROCEDURE DIVISION.
+       MAIN-1.
+           IF N = T (2:2) DISPLAY "Y".
+           STOP RUN.

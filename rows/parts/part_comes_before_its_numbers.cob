@@ -1,0 +1,10 @@
+       IDENTIFICATION DIVISION.
+       PROGRAM-ID. P.
+       DATA DIVISION.
+       WORKING-STORAGE SECTION.
+       01  C PIC 9(4) COMP.
+       01  V PIC 9V9.
+       PROCEDURE DIVISION.
+       MAIN-1.
+           DISPLAY C (V:1).
+           STOP RUN.

@@ -1,0 +1,9 @@
+       IDENTIFICATION DIVISION.
+       PROGRAM-ID. P.
+       DATA DIVISION.
+       WORKING-STORAGE SECTION.
+       01  C PIC 9(4) COMP.
+       PROCEDURE DIVISION.
+       MAIN-1.
+           IF C (1:1) = "1" CONTINUE.
+           STOP RUN.

@@ -1,0 +1,12 @@
+       IDENTIFICATION DIVISION.
+       PROGRAM-ID. P.
+       DATA DIVISION.
+       WORKING-STORAGE SECTION.
+       01  T PIC X(5) VALUE "ABCDE".
+           88  OKAY VALUE "ABCDE".
+       PROCEDURE DIVISION.
+       MAIN-1.
+           EVALUATE OKAY (1:2)
+               WHEN TRUE CONTINUE
+           END-EVALUATE.
+           STOP RUN.

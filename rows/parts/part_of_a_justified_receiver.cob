@@ -1,0 +1,10 @@
+       IDENTIFICATION DIVISION.
+       PROGRAM-ID. P.
+       DATA DIVISION.
+       WORKING-STORAGE SECTION.
+       01  R PIC X(8) JUSTIFIED VALUE "........".
+       PROCEDURE DIVISION.
+       MAIN-1.
+           STRING "AB" DELIMITED BY SIZE INTO R (3:3).
+           DISPLAY R.
+           STOP RUN.

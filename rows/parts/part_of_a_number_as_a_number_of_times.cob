@@ -1,0 +1,11 @@
+       IDENTIFICATION DIVISION.
+       PROGRAM-ID. P.
+       DATA DIVISION.
+       WORKING-STORAGE SECTION.
+       01  N PIC 9(4) VALUE 1985.
+       PROCEDURE DIVISION.
+       MAIN-1.
+           PERFORM N (4:1) TIMES
+               CONTINUE
+           END-PERFORM.
+           STOP RUN.

@@ -1,0 +1,10 @@
+       IDENTIFICATION DIVISION.
+       PROGRAM-ID. P.
+       DATA DIVISION.
+       WORKING-STORAGE SECTION.
+       01  N PIC 9(4) VALUE 1985.
+       PROCEDURE DIVISION.
+       MAIN-1.
+           STRING "20" DELIMITED BY SIZE INTO N (1:2).
+           DISPLAY N.
+           STOP RUN.

@@ -1,0 +1,11 @@
+       IDENTIFICATION DIVISION.
+       PROGRAM-ID. P.
+       DATA DIVISION.
+       WORKING-STORAGE SECTION.
+       01  N PIC S9(2)V9(2) VALUE -12.34.
+       01  R PIC X(4) VALUE "....".
+       PROCEDURE DIVISION.
+       MAIN-1.
+           STRING N (1:3) DELIMITED BY SIZE INTO R.
+           DISPLAY R.
+           STOP RUN.

@@ -1,0 +1,10 @@
+       IDENTIFICATION DIVISION.
+       PROGRAM-ID. P.
+       DATA DIVISION.
+       WORKING-STORAGE SECTION.
+       01  S PIC X(6) VALUE "AABAAB".
+       01  P PIC X(3) VALUE "BAA".
+       PROCEDURE DIVISION.
+       MAIN-1.
+           INSPECT S REPLACING ALL P (1:2) BY "---".
+           STOP RUN.

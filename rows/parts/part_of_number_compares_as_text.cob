@@ -1,0 +1,10 @@
+       IDENTIFICATION DIVISION.
+       PROGRAM-ID. P.
+       DATA DIVISION.
+       WORKING-STORAGE SECTION.
+       01 N PIC 9(4) VALUE 0085.
+       PROCEDURE DIVISION.
+       MAIN-1.
+           IF N (3:2) = 85 DISPLAY "Y" ELSE DISPLAY "N".
+           IF N (1:2) = "0" DISPLAY "Y" ELSE DISPLAY "N".
+           STOP RUN.

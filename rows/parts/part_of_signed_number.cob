@@ -1,0 +1,9 @@
+       IDENTIFICATION DIVISION.
+       PROGRAM-ID. P.
+       DATA DIVISION.
+       WORKING-STORAGE SECTION.
+       01 N PIC S9(3) VALUE -12.
+       PROCEDURE DIVISION.
+       MAIN-1.
+           DISPLAY N (1:2)
+           STOP RUN.

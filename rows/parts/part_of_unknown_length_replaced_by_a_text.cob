@@ -1,0 +1,11 @@
+       IDENTIFICATION DIVISION.
+       PROGRAM-ID. P.
+       DATA DIVISION.
+       WORKING-STORAGE SECTION.
+       01  S PIC X(6) VALUE "AABAAB".
+       01  P PIC X(3) VALUE "BAA".
+       01  I PIC 9 VALUE 2.
+       PROCEDURE DIVISION.
+       MAIN-1.
+           INSPECT S REPLACING ALL P (1:I) BY "---".
+           STOP RUN.

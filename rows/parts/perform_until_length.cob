@@ -1,0 +1,12 @@
+       IDENTIFICATION DIVISION.
+       PROGRAM-ID. P.
+       DATA DIVISION.
+       WORKING-STORAGE SECTION.
+       01 T PIC X(6) VALUE "AB    ".
+       01 L PIC 9 VALUE 6.
+       PROCEDURE DIVISION.
+       MAIN-1.
+           PERFORM UNTIL T (L:1) NOT = SPACE OR L = 1
+             SUBTRACT 1 FROM L END-PERFORM
+           DISPLAY T (1:L) "."
+           STOP RUN.

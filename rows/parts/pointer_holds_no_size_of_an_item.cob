@@ -1,0 +1,12 @@
+       IDENTIFICATION DIVISION.
+       PROGRAM-ID. P.
+       DATA DIVISION.
+       WORKING-STORAGE SECTION.
+       01  R PIC X(20).
+       01  N PIC 9 VALUE 1.
+       01  I PIC 9 VALUE 3.
+       PROCEDURE DIVISION.
+       MAIN-1.
+           STRING "AB" DELIMITED BY SIZE INTO R (3:I)
+               WITH POINTER N.
+           STOP RUN.

@@ -1,0 +1,11 @@
+       IDENTIFICATION DIVISION.
+       PROGRAM-ID. P.
+       DATA DIVISION.
+       WORKING-STORAGE SECTION.
+       01  R PIC X(8).
+       01  N PIC 9(4) VALUE 1.
+       PROCEDURE DIVISION.
+       MAIN-1.
+           STRING "AB" DELIMITED BY SIZE INTO R
+               WITH POINTER N (1:2).
+           STOP RUN.

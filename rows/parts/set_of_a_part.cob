@@ -1,0 +1,10 @@
+       IDENTIFICATION DIVISION.
+       PROGRAM-ID. P.
+       DATA DIVISION.
+       WORKING-STORAGE SECTION.
+       01  T PIC X(5) VALUE "ABCDE".
+           88  OKAY VALUE "ABCDE".
+       PROCEDURE DIVISION.
+       MAIN-1.
+           SET OKAY (1:2) TO TRUE.
+           STOP RUN.

@@ -1,0 +1,12 @@
+       IDENTIFICATION DIVISION.
+       PROGRAM-ID. P.
+       DATA DIVISION.
+       WORKING-STORAGE SECTION.
+       01 T PIC X(8) VALUE "........".
+       01 P PIC 9 VALUE 2.
+       PROCEDURE DIVISION.
+       MAIN-1.
+           STRING "ABCD" DELIMITED BY SIZE INTO T (3:3)
+             WITH POINTER P ON OVERFLOW DISPLAY "O".
+           DISPLAY T P
+           STOP RUN.

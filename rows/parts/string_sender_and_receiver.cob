@@ -1,0 +1,12 @@
+       IDENTIFICATION DIVISION.
+       PROGRAM-ID. P.
+       DATA DIVISION.
+       WORKING-STORAGE SECTION.
+       01 T PIC X(8) VALUE "........".
+       01 S PIC X(6) VALUE "AB CDE".
+       01 I PIC 9 VALUE 3.
+       PROCEDURE DIVISION.
+       MAIN-1.
+           STRING S (1:I) S (4:2) DELIMITED BY SPACE INTO T (2:6)
+           DISPLAY T
+           STOP RUN.

@@ -1,0 +1,12 @@
+       IDENTIFICATION DIVISION.
+       PROGRAM-ID. P.
+       DATA DIVISION.
+       WORKING-STORAGE SECTION.
+       01 T PIC X(5) VALUE "AB.CD".
+       01 I PIC 9.
+       PROCEDURE DIVISION.
+       MAIN-1.
+           PERFORM VARYING I FROM 1 BY 1 UNTIL T (I:1) = "."
+             CONTINUE END-PERFORM
+           DISPLAY I T (I:)
+           STOP RUN.

@@ -1,0 +1,51 @@
+       IDENTIFICATION DIVISION.
+       PROGRAM-ID. TRACES.
+       ENVIRONMENT DIVISION.
+       INPUT-OUTPUT SECTION.
+       FILE-CONTROL.
+           SELECT OPTIONAL GOODS ASSIGN TO "GOODS" ORGANIZATION INDEXED
+               ACCESS DYNAMIC RECORD KEY GOODS-KEY STATUS S.
+           SELECT LOG-FILE ASSIGN TO "A\B C" STATUS S.
+           SELECT NONE ASSIGN TO "NONE" STATUS S.
+       DATA DIVISION.
+       FILE SECTION.
+       FD  GOODS.
+       01  GOODS-ROW.
+           02 GOODS-KEY PIC X(2).
+           02 FILLER PIC X(4).
+       FD  LOG-FILE.
+       01  LOG-ROW PIC X(4).
+       FD  NONE.
+       01  NONE-ROW PIC X(4).
+       WORKING-STORAGE SECTION.
+       01  S PIC XX.
+       PROCEDURE DIVISION.
+       MAIN.
+           DISPLAY "FIRST".
+           OPEN OUTPUT LOG-FILE
+                I-O GOODS.
+           DISPLAY "SECOND".
+           MOVE "ROW1" TO LOG-ROW
+           IF S = "05" WRITE LOG-ROW.
+           CLOSE LOG-FILE.
+           OPEN EXTEND LOG-FILE.
+           CLOSE LOG-FILE.
+           OPEN INPUT LOG-FILE NONE.
+           PERFORM READ-LOG 2 TIMES.
+           READ LOG-FILE.
+           MOVE "K1ROW1" TO GOODS-ROW.
+           WRITE GOODS-ROW.
+           WRITE GOODS-ROW INVALID KEY DISPLAY "THERE".
+           REWRITE GOODS-ROW.
+           START GOODS KEY > GOODS-KEY.
+           READ GOODS.
+           DELETE GOODS.
+           READ GOODS.
+           DELETE GOODS.
+           REWRITE GOODS-ROW.
+           CLOSE GOODS LOG-FILE NONE.
+           DISPLAY "LAST".
+           STOP RUN.
+       READ-LOG.
+           READ LOG-FILE AT END
+               READ GOODS NEXT.
