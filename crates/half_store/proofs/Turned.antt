@@ -1,5 +1,6 @@
 -- What a change of a file asks of the files after it.
-use Rattle.std.proofs.Common.{◌≢◌, ⊎_elim, ◌≤◌, ◌+◌, Bool, true, false, ◌||◌, cond, ℕ, List, arith}
+use Rattle.std.proofs.Common.{◌≡◌, ◌≢◌, ⊎_elim, ◌≤◌, ◌+◌, ◌∙◌, Bool, true, false, ◌||◌, cond, ℕ, List, length, ap}
+use Rattle.std.proofs.Common.{arith}
 use Rattle.std.specs.Prelude.{Option, Some, None, Result, Ok, Err, IfErr, filter}
 use Rattle.std.specs.List.{list_any}
 use Rattle.std.proofs.lemmas.Bool.{cond_both}
@@ -7,11 +8,21 @@ use Rattle.records.specs.declared.answer.Outcome.TheVariants.{Taken}
 use Rattle.records.specs.declared.fault.StoreFault.{StoreFault}
 use Rattle.records.specs.declared.fault.StoreFault.TheVariants.{Damaged}
 use Rattle.records.specs.Rows.{Row, Pair, named_pair}
-use Rattle.records.specs.Files.{File}
+use Rattle.records.specs.Files.{File, Files, AreFiles, with_file, empty_file}
+use Rattle.records.specs.Stores.{spec_of}
+use Rattle.records.specs.declared.file_spec.FileSpec.{FileSpec}
+use Rattle.records.proofs.Changed.{created_are_files}
 use Rattle.records.specs.Changes.{FileChange, without_change, done_outcome, has_prime, new_row, is_taken, is_duplicate}
 use Rattle.records.specs.Changes.{changes, changed_row, with_row, row_at, in_place, without_pair, insertion}
 use Rattle.records.specs.Changes.{replacement, replaced_row, removal, removed_row}
+use Rattle.station.specs.Disk.{Disk}
+use Rattle.file_bytes.specs.Stored.{files_of}
+use Rattle.file_bytes.specs.declared.stored.StoredFile.{StoredFile}
+use Rattle.half_store.specs.Half.{AreEarly}
+use Rattle.half_store.specs.Stands.{Represents}
 use Rattle.half_store.specs.Write.{IsCause}
+use Rattle.half_store.specs.declared.store.HalfStore.{HalfStore}
+use Rattle.half_store.proofs.Placed.{early_with, counted}
 
 -- a change gives one arrival at most
 pub inserted_next : (number : ℕ) (bytes : List ℕ) (file : File)
@@ -59,6 +70,28 @@ removed_next pair file = by (row_at file.spec.organization pair file.rows)
     by : (found : Option Row) → (removed_row pair file found).file.next_arrival ≤ file.next_arrival + 1
     by None = omega arith
     by (Some row) = omega arith
+
+-- a new file in memory makes files of those that the store stands for
+pub created : (store : HalfStore) (disk : Disk) (file : FileSpec) (files : Files) (new : List StoredFile)
+    → Represents store disk files
+    → files_of new ≡ with_file file.name.items (empty_file (spec_of file)) (files_of store.files.items)
+    → (length store.files.items ≤ 255 → length new ≤ 255)
+    → (files_of new ≡ with_file file.name.items (empty_file (spec_of file)) files)
+    × AreFiles (with_file file.name.items (empty_file (spec_of file)) files)
+    × AreEarly (store.generation + 1) (with_file file.name.items (empty_file (spec_of file)) files)
+created store disk file files new stands made few =
+    let sound = stands.rests.holds.sound in
+    let memory : files_of new ≡ with_file file.name.items (empty_file (spec_of file)) files =
+    made ∙ ap (λ (l : Files). with_file file.name.items (empty_file (spec_of file)) l) stands.memory in
+    let held : length store.files.items ≤ 255 =
+    omega (arith, counted store.files.items, ap length stands.memory, sound.count) in
+    let count : length (with_file file.name.items (empty_file (spec_of file)) files) ≤ 255 =
+    omega (arith, few held, counted new, ap length memory) in (
+      memory,
+      created_are_files file.name.items (spec_of file) files sound file.named file.sound count,
+      early_with store.generation file.name.items (empty_file (spec_of file)) files (omega arith)
+          stands.rests.holds.early,
+    )
 
 -- a write is never refused for damage
 pub cause_sound : {T : Type 0} (result : Result T StoreFault) → IfErr result IsCause → result ≢ Err Damaged

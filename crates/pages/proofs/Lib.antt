@@ -23,3 +23,4 @@ pub mod Refused
 pub mod Crowded
 pub mod Filling
 pub mod Bounds
+pub mod Passing

@@ -1,4 +1,4 @@
-use Rattle.std.proofs.Common.{◌≡◌, ℕ, get_or, sym, ◌∙◌, subst}
+use Rattle.std.proofs.Common.{◌≡◌, ℕ, get_or, sym, ◌∙◌, ap, subst}
 use Rattle.std.specs.Prelude.{Some, None, nat_eq}
 use Rattle.std.specs.Map.{lookup}
 use Rattle.station.specs.Disk.{Sector}
@@ -6,6 +6,10 @@ use Rattle.lru.specs.LruCache.{LruCache}
 use Rattle.pages.specs.Image.{pages_in}
 use Rattle.pages.specs.Cache.{IsCacheOf, CachesPage}
 use Rattle.pages.proofs.Caches.{hit_page, after_promoted, after_kept, recalls_kept}
+use Rattle.std.specs.Prelude.{Err, OnErr}
+use Rattle.station.proofs.Calls.{reads_nothing}
+use Rattle.pages.specs.declared.error.PagesError.TheVariants.{Device}
+use Rattle.pages.proofs.Passing.{passed, never_ok, still_error, none_some, anyway_err, reads_where, reads_passed}
 use Rattle.pages.proofs.cache.recall_page.Goals as goal
 
 pub returns-in-Some-clause-page : goal.returns-in-Some-clause-page
@@ -37,3 +41,29 @@ returns-in-Some-found-clause-recalls g c =
     recalls_kept c.args.cache.now c.keep_page.new.cache c.args.page c.in-Some-found.bytes none
     (subst (λ (l : LruCache ℕ Sector). CachesPage c.args.page c.in-Some-found.bytes l c.keep_page.new.cache) same
     c.keep_page.ensures)
+
+pub returns-in-Some-clause-only : goal.returns-in-Some-clause-only
+returns-in-Some-clause-only g c =
+    reads_where g.D.Device ⊥ _ _ _ (λ is. never_ok is) (reads_nothing g.D.Device c.args.device.now)
+
+pub returns-in_err-found-clause-only : goal.returns-in_err-found-clause-only
+returns-in_err-found-clause-only g c = reads_passed g.D.Device c.from_residual.result c.in_err-found.field-0.0 _ _ _
+    c.from_residual.ensures.1 (λ is. ap Err is) c.in_err-found.ensures.only
+
+pub returns-in-Some-found-clause-only : goal.returns-in-Some-found-clause-only
+returns-in-Some-found-clause-only g c =
+    reads_where g.D.Device _ _ _ _ (λ is. never_ok is) c.in_ok-found.ensures.only
+
+pub returns-in_err-found-clause-cause : goal.returns-in_err-found-clause-cause
+returns-in_err-found-clause-cause g c =
+    passed c.from_residual.result c.in_err-found.field-0.0 c.from_residual.ensures.1 (λ r. OnErr r (r ≡ Err Device))
+    (still_error c.in_err-found.ensures.cause)
+
+pub returns-in_err-found-clause-err : goal.returns-in_err-found-clause-err
+returns-in_err-found-clause-err g c = anyway_err c.from_residual.result c.in_default.ensures.none
+
+pub returns-in_err-found-clause-hit : goal.returns-in_err-found-clause-hit
+returns-in_err-found-clause-hit g c = λ some. none_some _ (sym c.in_default.ensures.value) some
+
+pub returns-in-Some-found-clause-hit : goal.returns-in-Some-found-clause-hit
+returns-in-Some-found-clause-hit g c = λ some. none_some _ (sym c.in_default.ensures.value) some

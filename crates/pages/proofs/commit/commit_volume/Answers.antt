@@ -9,6 +9,14 @@ use Rattle.pages.specs.Use.{IsUse, use_after}
 use Rattle.pages.specs.Image.{map_of}
 use Rattle.pages.specs.Volumes.{volume_of}
 use Rattle.pages.proofs.Committed.{at_rest, amid_maps_as, now_committed, now_is_as}
+use Rattle.std.proofs.Common.{◌⊎◌, inl, inr, ⊎_elim, refl}
+use Rattle.std.specs.Prelude.{Err}
+use Rattle.station.specs.Failures.{Blames}
+use Rattle.pages.specs.Errors.{IsCommitError}
+use Rattle.pages.specs.Needed.{LacksSectors}
+use Rattle.pages.specs.declared.error.PagesError.TheVariants.{Device, Full, Memory}
+use Rattle.pages.proofs.Passing.{passed, never_ok, same_error, still_error, other_error, device_or_full, plan_or_device}
+use Rattle.pages.proofs.Passing.{blames_where, blames_none, blames_passed}
 use Rattle.pages.proofs.commit.commit_volume.Goals as goal
 
 pub two_phase_write-requires-clause-blocks : goal.two_phase_write-requires-clause-blocks
@@ -91,3 +99,59 @@ returns-clause-sound g c =
           after.in_use;
       free = c.mark_turns.ensures.free;
     }
+
+pub returns-in_err-draft-clause-failures : goal.returns-in_err-draft-clause-failures
+returns-in_err-draft-clause-failures g c = passed c.from_residual.result c.in_err-draft.field-0.0 c.from_residual.ensures.1
+    (λ r. Blames (r ≡ Err Device) (g.D.Device.failures c.args.device.now) (g.D.Device.failures c.args.device.now))
+    (blames_none _ _ (λ is. plan_or_device c.in_err-draft.field-0.0 c.in_err-draft.ensures.cause (same_error is)))
+
+pub returns-in_err-draft-clause-cause : goal.returns-in_err-draft-clause-cause
+returns-in_err-draft-clause-cause g c = passed c.from_residual.result c.in_err-draft.field-0.0 c.from_residual.ensures.1
+    (λ r. IsCommitError r) (inr c.in_err-draft.ensures.cause)
+
+pub returns-in_err-draft-clause-short : goal.returns-in_err-draft-clause-short
+returns-in_err-draft-clause-short g c = passed c.from_residual.result c.in_err-draft.field-0.0 c.from_residual.ensures.1
+    (λ r. r ≡ Err Full → LacksSectors (volume_of c.args.volume.now) c.args.changes.now)
+    (λ is. c.in_err-draft.ensures.full (still_error is))
+
+pub returns-in_err-draft-clause-told : goal.returns-in_err-draft-clause-told
+returns-in_err-draft-clause-told g c = λ lacks. passed c.from_residual.result c.in_err-draft.field-0.0 c.from_residual.ensures.1
+    (λ r. (r ≡ Err Full) ⊎ (r ≡ Err Memory))
+    (⊎_elim (λ full. inl (ap Err full)) (λ memory. inr (ap Err memory)) c.in_err-draft.ensures.cause)
+
+pub returns-in_err-two_phase_write-clause-failures : goal.returns-in_err-two_phase_write-clause-failures
+returns-in_err-two_phase_write-clause-failures g c =
+    blames_passed c.from_residual-in_err-two_phase_write.result Device _ _ _
+    c.from_residual-in_err-two_phase_write.ensures.1 (λ is. refl) c.in_err-two_phase_write.ensures.only.failures
+
+pub returns-in_err-two_phase_write-clause-cause : goal.returns-in_err-two_phase_write-clause-cause
+returns-in_err-two_phase_write-clause-cause g c = passed c.from_residual-in_err-two_phase_write.result Device
+    c.from_residual-in_err-two_phase_write.ensures.1 (λ r. IsCommitError r) (inl refl)
+
+pub returns-in_err-two_phase_write-clause-short : goal.returns-in_err-two_phase_write-clause-short
+returns-in_err-two_phase_write-clause-short g c = passed c.from_residual-in_err-two_phase_write.result Device
+    c.from_residual-in_err-two_phase_write.ensures.1
+    (λ r. r ≡ Err Full → LacksSectors (volume_of c.args.volume.now) c.args.changes.now)
+    (λ is. other_error device_or_full is)
+
+pub returns-in_err-two_phase_write-clause-told : goal.returns-in_err-two_phase_write-clause-told
+returns-in_err-two_phase_write-clause-told g c = λ lacks. absurd (c.in_ok-draft.ensures.room lacks)
+
+pub returns-in_err-two_phase_write-clause-full : goal.returns-in_err-two_phase_write-clause-full
+returns-in_err-two_phase_write-clause-full g c = λ is honest. passed c.from_residual-in_err-two_phase_write.result Device
+    c.from_residual-in_err-two_phase_write.ensures.1 (λ r. r ≡ Err Full
+    → (g.D.Device.state c.two_phase_write.new.device ≡ g.D.Device.state c.args.device.now)
+    × (g.D.Device.history c.two_phase_write.new.device ≡ g.D.Device.history c.args.device.now))
+    (λ same. other_error device_or_full same) is
+
+pub returns-clause-failures : goal.returns-clause-failures
+returns-clause-failures g c = blames_where _ _ _ _ (λ is. never_ok is) c.in_ok-two_phase_write.ensures.only.failures
+
+pub returns-clause-short : goal.returns-clause-short
+returns-clause-short g c = λ is. never_ok is
+
+pub returns-clause-told : goal.returns-clause-told
+returns-clause-told g c = λ lacks. absurd (c.in_ok-draft.ensures.room lacks)
+
+pub returns-clause-full : goal.returns-clause-full
+returns-clause-full g c = λ is. never_ok is

@@ -11,6 +11,13 @@ use Rattle.pages.specs.declared.volume.VolumeMap.{VolumeMap}
 use Rattle.pages.specs.Volumes.{volume_of, unused_count, IsSound}
 use Rattle.pages.proofs.Opened.{reads_now, sound_now}
 use Rattle.pages.proofs.Refused.{bad_maps, bad_table, bad_first}
+use Rattle.std.proofs.Common.{inl, inr, refl}
+use Rattle.std.specs.Prelude.{Err, IfErr}
+use Rattle.station.proofs.Calls.{reads_then}
+use Rattle.pages.specs.Errors.{RefusesImage, IsOpenError}
+use Rattle.pages.specs.declared.error.PagesError.TheVariants.{Memory}
+use Rattle.pages.proofs.Passing.{passed, never_ok, other_error, memory_or_device, damaged_or_device}
+use Rattle.pages.proofs.Passing.{reads_where, reads_passed, read_is_open, read_refuses}
 use Rattle.pages.proofs.open.read_volume.Goals as goal
 
 pub read_table-requires : goal.read_table-requires
@@ -163,3 +170,99 @@ returns-then-first-ne0-clause-refused g c = λ honest.
     (c.in_ok-root.ensures.only.state honest) (c.in_ok-table.ensures.entries honest')))
     (λ none.
     c.if-first-ne0.true (get_or_read table.items 0 c.index-first.result.now some c.index-first.ensures 0 ∙ none))
+
+pub returns-in_err-root-clause-only : goal.returns-in_err-root-clause-only
+returns-in_err-root-clause-only g c =
+    reads_passed g.D.Device c.from_residual.result c.in_err-root.field-0.0 _ _ _ c.from_residual.ensures.1 (λ is. ap Err is) c.in_err-root.ensures.only
+
+pub returns-in_err-used-clause-only : goal.returns-in_err-used-clause-only
+returns-in_err-used-clause-only g c =
+    reads_passed g.D.Device c.from_residual-in_err-used.result Memory _ _ _ c.from_residual-in_err-used.ensures.1 (λ is. absurd (memory_or_device is)) c.in_ok-root.ensures.only
+
+pub returns-then-not-mark_names-clause-only : goal.returns-then-not-mark_names-clause-only
+returns-then-not-mark_names-clause-only g c =
+    reads_where g.D.Device _ _ _ _ (λ is. other_error damaged_or_device is) c.in_ok-root.ensures.only
+
+pub returns-in_err-table-clause-only : goal.returns-in_err-table-clause-only
+returns-in_err-table-clause-only g c =
+    reads_passed g.D.Device c.from_residual-in_err-table.result c.in_err-table.field-0.0 _ _ _
+    c.from_residual-in_err-table.ensures.1 (λ is. ap Err is)
+    (reads_then g.D.Device _ _ _ _ _ _ (λ is. inr is) c.in_ok-root.ensures.only c.in_err-table.ensures.only)
+
+pub returns-then-not-mark_names-2-clause-only : goal.returns-then-not-mark_names-2-clause-only
+returns-then-not-mark_names-2-clause-only g c =
+    reads_then g.D.Device _ _ _ _ _ _ (λ is. other_error damaged_or_device is) c.in_ok-root.ensures.only
+    c.in_ok-table.ensures.only
+
+pub returns-then-first-ne0-clause-only : goal.returns-then-first-ne0-clause-only
+returns-then-first-ne0-clause-only g c =
+    reads_then g.D.Device _ _ _ _ _ _ (λ is. other_error damaged_or_device is) c.in_ok-root.ensures.only
+    c.in_ok-table.ensures.only
+
+pub returns-in_err-used-2-clause-only : goal.returns-in_err-used-2-clause-only
+returns-in_err-used-2-clause-only g c =
+    reads_passed g.D.Device c.from_residual-in_err-used-2.result Memory _ _ _ c.from_residual-in_err-used-2.ensures.1
+    (λ is. absurd (memory_or_device is))
+    (reads_then g.D.Device _ _ ⊥ _ _ _ (λ never. absurd never) c.in_ok-root.ensures.only c.in_ok-table.ensures.only)
+
+pub returns-in_err-table-2-clause-only : goal.returns-in_err-table-2-clause-only
+returns-in_err-table-2-clause-only g c =
+    reads_passed g.D.Device c.from_residual-in_err-table-2.result Memory _ _ _ c.from_residual-in_err-table-2.ensures.1
+    (λ is. absurd (memory_or_device is))
+    (reads_then g.D.Device _ _ ⊥ _ _ _ (λ never. absurd never) c.in_ok-root.ensures.only c.in_ok-table.ensures.only)
+
+pub returns-clause-only : goal.returns-clause-only
+returns-clause-only g c = reads_then g.D.Device _ _ _ _ _ _ (λ is. never_ok is) c.in_ok-root.ensures.only
+    c.in_ok-table.ensures.only
+
+pub returns-in_err-root-clause-refused : goal.returns-in_err-root-clause-refused
+returns-in_err-root-clause-refused g c = λ honest.
+    passed c.from_residual.result c.in_err-root.field-0.0 c.from_residual.ensures.1
+    (λ r. IfErr r (λ error. RefusesImage (g.D.Device.state c.args.device.now).disk.present error))
+    (c.in_err-root.ensures.refused honest)
+
+pub returns-in_err-table-clause-refused : goal.returns-in_err-table-clause-refused
+returns-in_err-table-clause-refused g c = λ honest.
+    passed c.from_residual-in_err-table.result c.in_err-table.field-0.0 c.from_residual-in_err-table.ensures.1
+    (λ r. IfErr r (λ error. RefusesImage (g.D.Device.state c.args.device.now).disk.present error))
+    (read_refuses (g.D.Device.state c.args.device.now).disk.present c.in_err-table.field-0.0
+    c.in_err-table.ensures.cause)
+
+pub returns-in_err-used-clause-refused : goal.returns-in_err-used-clause-refused
+returns-in_err-used-clause-refused g c = λ honest.
+    passed c.from_residual-in_err-used.result Memory c.from_residual-in_err-used.ensures.1
+    (λ r. IfErr r (λ error. RefusesImage (g.D.Device.state c.args.device.now).disk.present error)) tt
+
+pub returns-in_err-used-2-clause-refused : goal.returns-in_err-used-2-clause-refused
+returns-in_err-used-2-clause-refused g c = λ honest.
+    passed c.from_residual-in_err-used-2.result Memory c.from_residual-in_err-used-2.ensures.1
+    (λ r. IfErr r (λ error. RefusesImage (g.D.Device.state c.args.device.now).disk.present error)) tt
+
+pub returns-in_err-table-2-clause-refused : goal.returns-in_err-table-2-clause-refused
+returns-in_err-table-2-clause-refused g c = λ honest.
+    passed c.from_residual-in_err-table-2.result Memory c.from_residual-in_err-table-2.ensures.1
+    (λ r. IfErr r (λ error. RefusesImage (g.D.Device.state c.args.device.now).disk.present error)) tt
+
+pub returns-in_err-root-clause-cause : goal.returns-in_err-root-clause-cause
+returns-in_err-root-clause-cause g c = passed c.from_residual.result c.in_err-root.field-0.0 c.from_residual.ensures.1
+    (λ r. IsOpenError r) c.in_err-root.ensures.cause
+
+pub returns-in_err-table-clause-cause : goal.returns-in_err-table-clause-cause
+returns-in_err-table-clause-cause g c =
+    passed c.from_residual-in_err-table.result c.in_err-table.field-0.0 c.from_residual-in_err-table.ensures.1
+    (λ r. IsOpenError r) (read_is_open c.in_err-table.field-0.0 c.in_err-table.ensures.cause)
+
+pub returns-in_err-used-clause-cause : goal.returns-in_err-used-clause-cause
+returns-in_err-used-clause-cause g c =
+    passed c.from_residual-in_err-used.result Memory c.from_residual-in_err-used.ensures.1 (λ r. IsOpenError r)
+    (inr (inr (inl refl)))
+
+pub returns-in_err-used-2-clause-cause : goal.returns-in_err-used-2-clause-cause
+returns-in_err-used-2-clause-cause g c =
+    passed c.from_residual-in_err-used-2.result Memory c.from_residual-in_err-used-2.ensures.1 (λ r. IsOpenError r)
+    (inr (inr (inl refl)))
+
+pub returns-in_err-table-2-clause-cause : goal.returns-in_err-table-2-clause-cause
+returns-in_err-table-2-clause-cause g c =
+    passed c.from_residual-in_err-table-2.result Memory c.from_residual-in_err-table-2.ensures.1 (λ r. IsOpenError r)
+    (inr (inr (inl refl)))

@@ -5,6 +5,10 @@ use Rattle.station.proofs.Calls.{reads_then}
 use Rattle.pages.specs.Image.{map_at}
 use Rattle.pages.specs.declared.error.PagesError.TheVariants.{Device}
 use Rattle.pages.proofs.Tables.{table_next}
+use Rattle.std.proofs.Common.{inr, refl}
+use Rattle.pages.specs.Errors.{IsReadError}
+use Rattle.pages.specs.declared.error.PagesError.TheVariants.{Memory}
+use Rattle.pages.proofs.Passing.{passed, never_ok, memory_or_device, reads_where, reads_passed}
 use Rattle.pages.proofs.reading.read_table.Goals as goal
 
 pub loop-map-preserved : goal.loop-map-preserved
@@ -24,3 +28,28 @@ loop-map-preserved g c =
           ∙ ap (λ (s : State). map_at s.disk.present (get_or c.args.maps.now c.loop-map.map-index 0))
           (before.only.state h)) c.in_ok-extend_from_slice.ensures.items;
     }
+
+pub returns-in_err-entries-clause-only : goal.returns-in_err-entries-clause-only
+returns-in_err-entries-clause-only g c =
+    reads_passed g.D.Device c.from_residual.result c.in_err-entries.field-0.0 _ _ _ c.from_residual.ensures.1
+    (λ is. ap Err is)
+    (reads_then g.D.Device _ _ _ _ _ _ (λ is. inr is) c.loop-map.invariant.only c.in_err-entries.ensures.only)
+
+pub returns-in_err-extend_from_slice-clause-only : goal.returns-in_err-extend_from_slice-clause-only
+returns-in_err-extend_from_slice-clause-only g c =
+    reads_passed g.D.Device c.from_residual-in_err-extend_from_slice.result Memory _ _ _
+    c.from_residual-in_err-extend_from_slice.ensures.1 (λ is. absurd (memory_or_device is))
+    (reads_then g.D.Device _ _ ⊥ _ _ _ (λ never. absurd never) c.loop-map.invariant.only c.in_ok-entries.ensures.only)
+
+pub returns-clause-only : goal.returns-clause-only
+returns-clause-only g c = reads_where g.D.Device _ _ _ _ (λ is. never_ok is) c.loop-map.invariant.only
+
+pub returns-in_err-entries-clause-cause : goal.returns-in_err-entries-clause-cause
+returns-in_err-entries-clause-cause g c =
+    passed c.from_residual.result c.in_err-entries.field-0.0 c.from_residual.ensures.1 (λ r. IsReadError r)
+    c.in_err-entries.ensures.cause
+
+pub returns-in_err-extend_from_slice-clause-cause : goal.returns-in_err-extend_from_slice-clause-cause
+returns-in_err-extend_from_slice-clause-cause g c =
+    passed c.from_residual-in_err-extend_from_slice.result Memory c.from_residual-in_err-extend_from_slice.ensures.1
+    (λ r. IsReadError r) (inr refl)

@@ -7,6 +7,11 @@ use Rattle.pages.specs.Image.{map_part}
 use Rattle.pages.proofs.Drafts.{kept_mapped, blank_mapped, written_mapped}
 use Rattle.pages.proofs.Words.{all_zeros}
 use Rattle.pages.proofs.Taking.{kept_counted, blank_counted, written_counted, now_written, full_map}
+use Rattle.std.proofs.Common.{inr, refl}
+use Rattle.pages.specs.Errors.{IsPlanError}
+use Rattle.pages.specs.Volumes.{SetsMap}
+use Rattle.pages.specs.declared.error.PagesError.TheVariants.{Memory}
+use Rattle.pages.proofs.Passing.{passed, never_ok, memory_alone, memory_is_plan, memory_not_full}
 use Rattle.pages.proofs.stage.stage_map.Goals as goal
 
 pub returns-then-not-index-clause-mapped : goal.returns-then-not-index-clause-mapped
@@ -71,3 +76,46 @@ returns-in_err-sector-clause-full c = λ v changes counted full.
     (sym (ap (list_all (λ entry. entry == 0)) entries) ∙ sym c.is_blank.ensures ∙ c.if-is_blank.false) in
     full_map v c.args.volume.now c.args.draft.now changes c.args.map counted c.requires.changed_maps written
     (c.in_err-sector.ensures.full (cc (told)))
+
+pub returns-then-not-index-clause-full : goal.returns-then-not-index-clause-full
+returns-then-not-index-clause-full c = λ v changes counted is. never_ok is
+
+pub returns-then-is_blank-clause-full : goal.returns-then-is_blank-clause-full
+returns-then-is_blank-clause-full c = λ v changes counted is.
+    memory_not_full c.set_map.result c.set_map.ensures.cause is
+
+pub returns-in_err-bytes-clause-full : goal.returns-in_err-bytes-clause-full
+returns-in_err-bytes-clause-full c = λ v changes counted is.
+    memory_not_full c.from_residual.result (memory_alone c.from_residual.result c.from_residual.ensures.1) is
+
+pub returns-clause-full : goal.returns-clause-full
+returns-clause-full c = λ v changes counted is. memory_not_full c.set_map-2.result c.set_map-2.ensures.cause is
+
+pub returns-then-is_blank-clause-cause : goal.returns-then-is_blank-clause-cause
+returns-then-is_blank-clause-cause c = memory_is_plan c.set_map.result c.set_map.ensures.cause
+
+pub returns-in_err-bytes-clause-cause : goal.returns-in_err-bytes-clause-cause
+returns-in_err-bytes-clause-cause c = passed c.from_residual.result Memory c.from_residual.ensures.1 (λ r. IsPlanError r) (inr refl)
+
+pub returns-in_err-sector-clause-cause : goal.returns-in_err-sector-clause-cause
+returns-in_err-sector-clause-cause c =
+    passed c.from_residual-in_err-sector.result c.in_err-sector.field-0.0 c.from_residual-in_err-sector.ensures.1
+    (λ r. IsPlanError r) c.in_err-sector.ensures.cause
+
+pub returns-clause-cause : goal.returns-clause-cause
+returns-clause-cause c = memory_is_plan c.set_map-2.result c.set_map-2.ensures.cause
+
+pub returns-clause-start : goal.returns-clause-start
+returns-clause-start c = on_ok c.set_map-2.result
+    (λ (sets : SetsMap c.args.volume.now c.set_map-2.new.volume c.place_block.new.draft c.set_map-2.new.draft c.args.map
+    c.in_ok-sector.sector). sets.start ∙ c.in_ok-sector.ensures.placed.start) c.set_map-2.ensures.set
+
+pub returns-clause-size : goal.returns-clause-size
+returns-clause-size c = on_ok c.set_map-2.result
+    (λ (sets : SetsMap c.args.volume.now c.set_map-2.new.volume c.place_block.new.draft c.set_map-2.new.draft c.args.map
+    c.in_ok-sector.sector). sets.size) c.set_map-2.ensures.set
+
+pub returns-clause-changed_maps : goal.returns-clause-changed_maps
+returns-clause-changed_maps c = on_ok c.set_map-2.result
+    (λ (sets : SetsMap c.args.volume.now c.set_map-2.new.volume c.place_block.new.draft c.set_map-2.new.draft c.args.map
+    c.in_ok-sector.sector). sets.changed_maps ∙ c.in_ok-sector.ensures.placed.changed_maps) c.set_map-2.ensures.set

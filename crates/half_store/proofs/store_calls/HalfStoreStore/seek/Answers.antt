@@ -13,6 +13,10 @@ use Rattle.file_bytes.specs.Stored.{row_of, file_of}
 use Rattle.file_bytes.specs.declared.stored.StoredRow.{StoredRow}
 use Rattle.file_bytes.specs.declared.stored.StoredFile.{StoredFile}
 use Rattle.half_store.proofs.Placed.{one_file, found_there, records_held, rows_ascend}
+use Rattle.std.proofs.Common.{refl}
+use Rattle.std.specs.Prelude.{Err}
+use Rattle.records.specs.declared.fault.StoreFault.TheVariants.{Damaged}
+use Rattle.half_store.proofs.Passing.{looks_in, spent_reads}
 use Rattle.half_store.proofs.store_calls.HalfStoreStore.seek.Goals as goal
 
 pub returns-in-Some-clause-damaged : goal.returns-in-Some-clause-damaged
@@ -79,3 +83,13 @@ returns-in-Some-clause-bytes g c = λ files held stands has.
     let b = bound_at c.args.side c.args.value.now c.args.number in
     subst (λ (l : List Row). OnOk c.seek_in.result (c.seek_in.new.bytes
     ≡ record_of c.args.bytes.now (sought_row spec c.args.key b l))) (sym rows) (c.seek_in.ensures.bytes ascend)
+
+pub returns-then-self-clause-reads : goal.returns-then-self-clause-reads
+returns-then-self-clause-reads g c = spent_reads _ g.D.Device c.args.self.now c.args._device.now c.if-self.true
+
+pub returns-in-None-clause-reads : goal.returns-in-None-clause-reads
+returns-in-None-clause-reads g c = looks_in _ g.D.Device (Err Damaged) c.args.self.now c.args._device.now refl
+
+pub returns-in-Some-clause-reads : goal.returns-in-Some-clause-reads
+returns-in-Some-clause-reads g c =
+    looks_in _ g.D.Device c.seek_in.result c.args.self.now c.args._device.now c.seek_in.ensures.cause

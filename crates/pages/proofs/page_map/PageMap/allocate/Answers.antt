@@ -7,6 +7,12 @@ use Rattle.pages.specs.Image.{NamesOnce}
 use Rattle.pages.specs.Changes.{changed_pages, mapped_after, ArePlaced}
 use Rattle.pages.specs.declared.change.Change.{Change}
 use Rattle.pages.proofs.Edits.{unused_none, used_some}
+use Rattle.std.proofs.Common.{◌↔◌, inl, inr, true}
+use Rattle.std.specs.Prelude.{Ok, Err}
+use Rattle.pages.specs.Errors.{IsAllocateRefusal}
+use Rattle.pages.specs.declared.error.PagesError.TheVariants.{Full, Memory, Spent}
+use Rattle.pages.proofs.Passing.{passed, never_ok, still_error, other_error, full_or_spent, edit_or_full, anyway_err}
+use Rattle.pages.proofs.Passing.{not_spent, memory_not_spent, keeps_aside}
 use Rattle.pages.proofs.page_map.PageMap.allocate.Goals as goal
 
 pub unused_page-requires : goal.unused_page-requires
@@ -89,3 +95,50 @@ returns-in_err-kept-clause-full c = λ is.
 pub returns-clause-map : goal.returns-clause-map
 returns-clause-map c = λ image. c.in_ok-change.ensures.map image
     ∙ ap (λ (b : Sector). slice_set (map_now c.args.self.now image).pages c.in-Some.page (Some b)) c.in_ok-kept.ensures
+
+pub returns-then-self-clause-spent : goal.returns-then-self-clause-spent
+returns-then-self-clause-spent c = (λ is. c.if-self.true, λ was. refl)
+
+pub returns-in-None-clause-spent : goal.returns-in-None-clause-spent
+returns-in-None-clause-spent c =
+    not_spent (Err Full) c.args.self.now.spent c.if-self.false (λ is. other_error full_or_spent is)
+
+pub returns-in_err-kept-clause-spent : goal.returns-in_err-kept-clause-spent
+returns-in_err-kept-clause-spent c = not_spent c.from_residual.result c.args.self.now.spent c.if-self.false
+    (memory_not_spent c.from_residual.result c.from_residual.ensures.1)
+
+pub returns-in_err-kept-clause-cause : goal.returns-in_err-kept-clause-cause
+returns-in_err-kept-clause-cause c =
+    passed c.from_residual.result Memory c.from_residual.ensures.1 (λ r. IsAllocateRefusal r) (inr (inl refl))
+
+pub returns-in_err-change-clause-spent : goal.returns-in_err-change-clause-spent
+returns-in_err-change-clause-spent c = passed c.from_residual-in_err-change.result c.in_err-change.field-0.0 c.from_residual-in_err-change.ensures.1
+    (λ r. (r ≡ Err Spent) ↔ (c.args.self.now.spent ≡ true))
+    (λ is. c.in_err-change.ensures.spent.0 (still_error is), λ was. still_error (c.in_err-change.ensures.spent.1 was))
+
+pub returns-in_err-change-clause-cause : goal.returns-in_err-change-clause-cause
+returns-in_err-change-clause-cause c = passed c.from_residual-in_err-change.result c.in_err-change.field-0.0 c.from_residual-in_err-change.ensures.1 (λ r. IsAllocateRefusal r)
+    (inr c.in_err-change.ensures.cause)
+
+pub returns-in_err-change-clause-same : goal.returns-in_err-change-clause-same
+returns-in_err-change-clause-same c = passed c.from_residual-in_err-change.result c.in_err-change.field-0.0 c.from_residual-in_err-change.ensures.1
+    (λ r. r ≡ Err Full → c.change.new.self ≡ c.args.self.now)
+    (λ is. other_error (edit_or_full c.in_err-change.field-0.0 c.in_err-change.ensures.cause) is)
+
+pub returns-in_err-change-clause-unchanged : goal.returns-in_err-change-clause-unchanged
+returns-in_err-change-clause-unchanged c = anyway_err c.from_residual-in_err-change.result c.in_err-change.ensures.unchanged
+
+pub returns-in_err-change-clause-unfilled : goal.returns-in_err-change-clause-unfilled
+returns-in_err-change-clause-unfilled c = anyway_err c.from_residual-in_err-change.result c.in_err-change.ensures.unfilled
+
+pub returns-in_err-change-clause-err : goal.returns-in_err-change-clause-err
+returns-in_err-change-clause-err c = anyway_err c.from_residual-in_err-change.result c.in_err-change.ensures.err
+
+pub returns-in_err-change-clause-cache : goal.returns-in_err-change-clause-cache
+returns-in_err-change-clause-cache c = anyway_err c.from_residual-in_err-change.result c.in_err-change.ensures.cache
+
+pub returns-clause-spent : goal.returns-clause-spent
+returns-clause-spent c = not_spent (Ok c.in-Some.page) c.args.self.now.spent c.if-self.false (λ is. never_ok is)
+
+pub returns-clause-keeps : goal.returns-clause-keeps
+returns-clause-keeps c = keeps_aside c.args.self.now c.change.new.self _ _ c.change.ensures.keeps

@@ -7,6 +7,8 @@ use Rattle.pages.specs.Changes.{changed_pages, ChangesPage}
 use Rattle.pages.specs.Cache.{IsCacheOf}
 use Rattle.pages.specs.declared.change.Change.{Change}
 use Rattle.pages.proofs.Caches.{after_removed}
+use Rattle.std.proofs.lemmas.Bool.{false≢true}
+use Rattle.pages.proofs.Passing.{memory_alone}
 use Rattle.pages.proofs.page_map.PageMap.rewrite.Goals as goal
 
 pub returns-clause-keeps : goal.returns-clause-keeps
@@ -40,3 +42,41 @@ returns-clause-keeps c =
                 c.in_ok-set_change.ensures.changes_page) agrees.cache);
           };
     }
+
+pub returns-in_err-set_change-clause-unchanged : goal.returns-in_err-set_change-clause-unchanged
+returns-in_err-set_change-clause-unchanged c =
+    let room = c.in_ok-reserve_change.ensures.room in
+    absurd (false≢true (c.in_err-set_change.ensures.sure room.0 room.1))
+
+pub returns-in_err-set_change-clause-filled : goal.returns-in_err-set_change-clause-filled
+returns-in_err-set_change-clause-filled c =
+    let room = c.in_ok-reserve_change.ensures.room in
+    absurd (false≢true (c.in_err-set_change.ensures.sure room.0 room.1))
+
+pub returns-in_err-set_change-clause-unfilled : goal.returns-in_err-set_change-clause-unfilled
+returns-in_err-set_change-clause-unfilled c =
+    let room = c.in_ok-reserve_change.ensures.room in
+    absurd (false≢true (c.in_err-set_change.ensures.sure room.0 room.1))
+
+pub returns-in_err-set_change-clause-err : goal.returns-in_err-set_change-clause-err
+returns-in_err-set_change-clause-err c =
+    let room = c.in_ok-reserve_change.ensures.room in
+    absurd (false≢true (c.in_err-set_change.ensures.sure room.0 room.1))
+
+pub returns-in_err-set_change-clause-cache : goal.returns-in_err-set_change-clause-cache
+returns-in_err-set_change-clause-cache c =
+    let room = c.in_ok-reserve_change.ensures.room in
+    absurd (false≢true (c.in_err-set_change.ensures.sure room.0 room.1))
+
+pub returns-in_err-set_change-clause-keeps : goal.returns-in_err-set_change-clause-keeps
+returns-in_err-set_change-clause-keeps c =
+    let room = c.in_ok-reserve_change.ensures.room in
+    absurd (false≢true (c.in_err-set_change.ensures.sure room.0 room.1))
+
+pub returns-in_err-set_change-clause-cause : goal.returns-in_err-set_change-clause-cause
+returns-in_err-set_change-clause-cause c =
+    let room = c.in_ok-reserve_change.ensures.room in
+    absurd (false≢true (c.in_err-set_change.ensures.sure room.0 room.1))
+
+pub returns-in_err-reserve_change-clause-cause : goal.returns-in_err-reserve_change-clause-cause
+returns-in_err-reserve_change-clause-cause c = memory_alone c.from_residual.result c.from_residual.ensures.1
