@@ -6,6 +6,7 @@ ghost use Rattle.entry_rules.specs.Checks.{IsFirstBreach};
 ghost use Rattle.source_tree.specs.Broken.{each};
 ghost use Rattle.source_tree.specs.Display.{shown_literal};
 ghost use Rattle.source_tree.specs.LookUp.{items_named};
+ghost use Rattle.source_tree.specs.Converting.{convert_rules};
 ghost use Rattle.source_tree.specs.InspectRules as spec;
 ghost use Rattle.check_rules.specs.TextSizes.{text_size_of};
 ghost use Rattle.declarations.specs.Named.{IsDeclared, items_in};
@@ -17,8 +18,8 @@ use crate::sides::operand_place;
 use crate::text_size::TextSize;
 use entry_rules::{BrokenRule, Rule};
 use source_tree::{
-    InspectStatement, Limits, Literal, LiteralValue, Operand, Reference, ReplacedText, Replacing,
-    Tallied, TalliedText, Tallying,
+    Converting, InspectStatement, Limits, Literal, LiteralValue, Operand, Reference, ReplacedText,
+    Replacing, Tallied, TalliedText, Tallying,
 };
 
 impl<'a> Checker<'a> {
@@ -248,6 +249,17 @@ impl<'a> Checker<'a> {
         self.item_rules(Asked::Inspected, &one.subject)?;
         self.counters_rules(one.tallying.as_slice())?;
         self.all_replacing_rules(one.replacing.as_slice())
+    }
+
+    /// INSPECT CONVERTING: its subject, and the texts, of which the second has the size of the first.
+    pub fn convert_rules(&self, one: &Converting) -> Result<(), BrokenRule>
+        requires { IsDeclared self.now.declarations.now }
+        ensures { IsFirstBreach result
+            (convert_rules (items_in self.now.declarations.now) one.now) }
+    {
+        let subject = &one.subject;
+        self.item_rules(Asked::Inspected, subject)?;
+        self.replaced_text_rules(&one.texts)
     }
 }
 

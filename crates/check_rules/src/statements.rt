@@ -45,6 +45,7 @@ impl<'a> Checker<'a> {
             TextStatement::Accept { receiver } => self.accept_line_rules(receiver),
             TextStatement::AcceptDate { receiver } => self.accept_date_rules(receiver),
             TextStatement::Inspect(one) => self.inspect_rules(one),
+            TextStatement::Convert(one) => self.convert_rules(one),
         }
     }
 

@@ -898,6 +898,22 @@ part_again : code_at (code_bytes with_part) ≡ Ok with_part
 unfolding reading
 part_again = refl
 
+-- so does code with a conversion
+abbrev with_conversion : Code
+with_conversion = record {
+  tables = with_texts [];
+  files = [];
+  starts = [];
+  instructions = Data (i.Convert (record { number = 0 })) ∷ [];
+}
+
+mark_of_a_conversion : take 8 (code_bytes with_conversion) ≡ codes "COBIMG02"
+mark_of_a_conversion = refl
+
+conversion_again : code_at (code_bytes with_conversion) ≡ Ok with_conversion
+unfolding reading
+conversion_again = refl
+
 -- not under the first mark, and code without one not under the second
 part_of_the_first : code_at (mark false ++ drop 8 (code_bytes with_part)) ≡ Err faults.Value
 unfolding reading

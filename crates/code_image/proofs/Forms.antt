@@ -319,6 +319,7 @@ begins_data (i.Part (p.Fixed size)) rest = refl
 begins_data (i.Part p.Counted) rest = refl
 begins_data (i.Part p.Rest) rest = refl
 begins_data (i.Inspect inspection) rest = refl
+begins_data (i.Convert inspection) rest = refl
 
 data_again : (one : DataInstruction) (rest : List ℕ) → HasShorts one
     → instruction_at (data_instruction_bytes one ++ rest) ≡ Ok (Data one, rest)

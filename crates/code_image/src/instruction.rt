@@ -92,7 +92,10 @@ impl Instruction {
     pub(crate) fn needs_second(self) -> bool
         ensures { result ≡ needs_second self }
     {
-        matches!(self, Instruction::Data(DataInstruction::Part(_)))
+        matches!(
+            self,
+            Instruction::Data(DataInstruction::Part(_) | DataInstruction::Convert { .. })
+        )
     }
 
     /// Each entry of the tables of data that it names is there.

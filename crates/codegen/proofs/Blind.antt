@@ -15,9 +15,11 @@ use Rattle.source_tree.specs.declared.expression.Operand.TheVariants as operand
 use Rattle.source_tree.specs.declared.table.Dimension.{Dimension}
 use Rattle.source_tree.specs.declared.data_statement.DataStatement.{DataStatement}
 use Rattle.source_tree.specs.declared.data_statement.DataStatement.TheVariants.{Move, Initialize, Set}
+use Rattle.source_tree.specs.declared.inspect_statement.Converting.{Converting}
 use Rattle.source_tree.specs.declared.inspect_statement.InspectStatement.{InspectStatement}
+use Rattle.source_tree.specs.Converting.{as_replacing}
 use Rattle.source_tree.specs.declared.text_statement.TextStatement.{TextStatement}
-use Rattle.source_tree.specs.declared.text_statement.TextStatement.TheVariants.{Display, Accept, AcceptDate, Inspect}
+use Rattle.source_tree.specs.declared.text_statement.TextStatement.TheVariants.{Display, Accept, AcceptDate, Inspect, Convert}
 use Rattle.source_tree.specs.Display.{shown_literal, line_end}
 use Rattle.source_tree.specs.Initializing.{Pattern}
 use Rattle.source_tree.specs.InspectLayout as layout
@@ -51,7 +53,7 @@ use Rattle.codegen.specs.ConditionCode.{condition_number, condition_item}
 use Rattle.codegen.specs.PatternCode.{overlay_fragment, pattern_fragment, pattern_of, set_of, initialize_fragment}
 use Rattle.codegen.specs.PatternCode.{set_fragment}
 use Rattle.codegen.specs.InspectCode.{inspection_fragment, inspection_entry, taken_fragment, takings_fragment}
-use Rattle.codegen.specs.InspectCode.{inspect_fragment}
+use Rattle.codegen.specs.InspectCode.{inspect_fragment, conversion_fragment, convert_fragment}
 use Rattle.codegen.specs.Layout.{data_fragment, texts_fragment}
 
 -- Two codes that no piece tells apart: the same tables, and as many instructions.
@@ -158,6 +160,14 @@ inspection_blind one = tables_blind (λ (t : DataTables). record {
   files = [];
   starts = [];
   instructions = instruction.Data (i.Inspect (record { number = length t.inspections })) ∷ [];
+})
+
+conversion_blind : (one : Inspection) → Blind (conversion_fragment one)
+conversion_blind one = tables_blind (λ (t : DataTables). record {
+  tables = record no_tables { inspections = one ∷ [] };
+  files = [];
+  starts = [];
+  instructions = instruction.Data (i.Convert (record { number = length t.inspections })) ∷ [];
 })
 
 literal_blind : (value : LiteralValue) → Blind (literal_fragment value)
@@ -287,6 +297,16 @@ module _ (items : List LocatedItem) where
       (both_blind parts last (in_order_blind (taken_fragment items) (λ one. taken_blind one) (takings items one))
       (inspection_blind (inspection_entry items one)))
 
+  convert_blind : (one : Converting) → Blind (convert_fragment items one)
+  convert_blind one =
+      let replacing = as_replacing one in
+      let subject = reference_fragment items one.subject in
+      let parts = takings_fragment items (takings items replacing) in
+      let last = conversion_fragment (inspection_entry items replacing) in
+      both_blind subject (sequence parts last) (reference_blind one.subject)
+      (both_blind parts last (in_order_blind (taken_fragment items) (λ one. taken_blind one) (takings items replacing))
+      (conversion_blind (inspection_entry items replacing)))
+
   pub texts_blind : (one : TextStatement) → Blind (texts_fragment items one)
   texts_blind (Display operands advancing) =
       both_blind (sequence (operands_fragment items operands) (line_end_fragment advancing)) show_fragment
@@ -300,3 +320,4 @@ module _ (items : List LocatedItem) where
       both_blind (reference_fragment items receiver) (λ before. plain_code (instruction.Date ∷ []))
       (reference_blind receiver) (constant_blind (plain_code (instruction.Date ∷ [])))
   texts_blind (Inspect one) = inspect_blind one
+  texts_blind (Convert one) = convert_blind one

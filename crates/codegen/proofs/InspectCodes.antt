@@ -5,13 +5,16 @@ use Rattle.std.specs.Prelude.{slice_get}
 use Rattle.std.specs.List.{AllByRecursion}
 use Rattle.lexical.specs.declared.place.Place.{Place}
 use Rattle.source_tree.specs.declared.reference.Reference.{Reference}
+use Rattle.source_tree.specs.declared.inspect_statement.Converting.{Converting}
 use Rattle.source_tree.specs.declared.inspect_statement.InspectStatement.{InspectStatement}
+use Rattle.source_tree.specs.Converting.{as_replacing, convert_rules}
 use Rattle.source_tree.specs.Broken.{RuleBreach}
 use Rattle.source_tree.specs.InspectRules.{counter_item, inspected_item, inspect_rules}
 use Rattle.source_tree.specs.InspectLayout.{Source, Bytes, Characters, InspectArgument, Counter, Text, takings}
 use Rattle.source_tree.specs.InspectLayout.{inspection, inspected_size}
 use Rattle.source_tree.specs.NameRules.{reference_rules}
 use Rattle.source_tree.specs.Places.{LocatedItem}
+use Rattle.source_tree.proofs.InspectConverting.{as_replacing_rules}
 use Rattle.data_instructions.specs.declared.index.InspectionIndex.{InspectionIndex}
 use Rattle.data_instructions.specs.declared.gather.Gather.TheVariants as g
 use Rattle.data_instructions.specs.declared.instruction.DataInstruction.{DataInstruction}
@@ -19,12 +22,12 @@ use Rattle.data_instructions.specs.declared.instruction.DataInstruction.TheVaria
 use Rattle.data_instructions.specs.Codes.{data_item, IsReferenceCode}
 use Rattle.data_instructions.specs.Chains.{LiesWhole}
 use Rattle.data_instructions.specs.InspectCodes.{IsTakenCode, AreTakenCode, HasInspection, IsInspectCode, LiesTaking}
-use Rattle.data_instructions.specs.InspectCodes.{LieTakings, LiesInspect}
+use Rattle.data_instructions.specs.InspectCodes.{LieTakings, LiesInspect, IsConvertCode}
 use Rattle.code_image.specs.declared.code.Code.{Code}
 use Rattle.codegen.specs.Fragments.{sequence}
 use Rattle.codegen.specs.DataCode.{reference_fragment}
 use Rattle.codegen.specs.InspectCode.{inspection_fragment, taken_fragment, takings_fragment, inspection_entry}
-use Rattle.codegen.specs.InspectCode.{inspect_fragment}
+use Rattle.codegen.specs.InspectCode.{inspect_fragment, conversion_fragment, convert_fragment}
 use Rattle.codegen.proofs.Codes.{reference_coded, text_coded}
 use Rattle.codegen.proofs.CodedPieces.{CodedBy, both_by}
 use Rattle.codegen.proofs.ExpressionCodes.{taking_codes}
@@ -110,6 +113,57 @@ module _ (items : List LocatedItem) where
         (both_by whole (AreTakenCode items whole.tables (takings items one)) (IsLastCode one) (IsBehindCode one) parts
         last
         (takings_codes (takings items one) (all_may one e)) (last_codes one)
+        (λ front back is found. (front, is, found.0, found.1, ap (λ l. front ++ l) found.2)))
+        (λ front back is others. (front, is, others.0, others.1, others.2, others.3, ap (λ l. front ++ l) others.4))
+
+    -- ---- CONVERTING takes the same, and ends with another instruction
+
+    abbrev IsLastConversion : InspectStatement → List DataInstruction → Type 0
+    IsLastConversion one code =
+        (index : InspectionIndex) × HasInspection items whole.tables (inspection items one) (inspected_size items one)
+        index × (code ≡ i.Convert index ∷ [])
+
+    conversion_codes : (one : InspectStatement)
+        → CodedBy whole (IsLastConversion one) (conversion_fragment (inspection_entry items one))
+    conversion_codes one = record {
+      by = λ before st.
+          let entry = inspection_entry items one in
+          record {
+            code = i.Convert (record { number = length before.tables.inspections }) ∷ [];
+            is = refl;
+            holds = (
+              _,
+              record {
+                one = entry;
+                entry = inspection_stands whole before (conversion_fragment entry before) entry [] refl st;
+                is = refl;
+                size_is = refl;
+              },
+              refl,
+            );
+          };
+    }
+
+    abbrev IsBehindSubject : InspectStatement → List DataInstruction → Type 0
+    IsBehindSubject one code =
+        (parts : List DataInstruction) × AreTakenCode items whole.tables (takings items one) parts
+        × (index : InspectionIndex) × HasInspection items whole.tables (inspection items one) (inspected_size items one)
+        index × (code ≡ parts ++ (i.Convert index ∷ []))
+
+    pub convert_codes : (one : Converting) → convert_rules items one ≡ []
+        → CodedBy whole (IsConvertCode items whole.tables one) (convert_fragment items one)
+    convert_codes one e =
+        let as_one = as_replacing one in
+        let rules = as_replacing_rules items one e in
+        let subject = reference_fragment items one.subject in
+        let parts = takings_fragment items (takings items as_one) in
+        let last = conversion_fragment (inspection_entry items as_one) in
+        both_by whole (IsReferenceCode items whole.tables one.subject) (IsBehindSubject as_one)
+        (IsConvertCode items whole.tables one) subject (sequence parts last)
+        (place_codes inspected_item one.subject (keeps_inspect items as_one rules).subject)
+        (both_by whole (AreTakenCode items whole.tables (takings items as_one)) (IsLastConversion as_one)
+        (IsBehindSubject as_one) parts last
+        (takings_codes (takings items as_one) (all_may as_one rules)) (conversion_codes as_one)
         (λ front back is found. (front, is, found.0, found.1, ap (λ l. front ++ l) found.2)))
         (λ front back is others. (front, is, others.0, others.1, others.2, others.3, ap (λ l. front ++ l) others.4))
 

@@ -11,9 +11,12 @@ use Rattle.source_tree.specs.declared.reference.Reference.{Reference}
 use Rattle.source_tree.specs.declared.expression.Operand.{Operand}
 use Rattle.source_tree.specs.declared.inspect_statement.Limits.{Limits}
 use Rattle.source_tree.specs.declared.inspect_statement.Occurrences.{Occurrences}
+use Rattle.source_tree.specs.declared.inspect_statement.Occurrences.TheVariants as how
 use Rattle.source_tree.specs.declared.inspect_statement.Tallying.{Tallying}
 use Rattle.source_tree.specs.declared.inspect_statement.ReplacedText.{ReplacedText}
+use Rattle.source_tree.specs.declared.inspect_statement.Converting.{Converting}
 use Rattle.source_tree.specs.declared.inspect_statement.InspectStatement.{InspectStatement}
+use Rattle.source_tree.specs.Converting.{as_replacing}
 use Rattle.source_tree.specs.InspectRules.{inspected_item}
 use Rattle.source_tree.specs.NameRules.{reference_rules}
 use Rattle.source_tree.specs.Places.{LocatedItem}
@@ -29,7 +32,7 @@ use Rattle.codegen.specs.Fragments.{append, sequence}
 use Rattle.codegen.specs.DataCode.{item_number, text_fragment, reference_fragment}
 use Rattle.codegen.specs.InspectCode.{inspection_fragment, taken_fragment, takings_fragment, inspection_entry}
 use Rattle.codegen.specs.InspectCode.{inspect_fragment, Takes, TakesTexts, TextMade, LimitMade, LimitsMade, Puts}
-use Rattle.codegen.specs.InspectCode.{Counts}
+use Rattle.codegen.specs.InspectCode.{Counts, conversion_fragment, convert_fragment}
 use Rattle.codegen.specs.ItemParts.{length_shown}
 use Rattle.codegen.proofs.Codes.{map_both}
 use Rattle.codegen.proofs.InspectKept.{named_length}
@@ -344,3 +347,22 @@ module _ (items : List LocatedItem) where
       then_piece (reference_fragment items one.subject) (sequence parts (inspection_fragment entry)) a b e subject
       (then_piece parts (inspection_fragment entry) b d e taken
       (last ∙ ap (λ (i : Inspection). append d (inspection_fragment i d)) same))
+
+  -- ---- the whole of CONVERTING
+
+  pub convert_made : (one : Converting) (a b d e : Code) (k : ℕ) (counts : List ℕ)
+      (p r q : List Entry) → b ≡ append a (reference_fragment items one.subject a)
+      → counts ≡ [] → p ≡ [] → r ≡ [] → Puts items (replaced_text items how.All one.texts ∷ []) b d 0 r k q
+      → e ≡ append d (conversion_fragment (record { size = k; counters = counts; tallying = p; replacing = q }) d)
+      → e ≡ append a (convert_fragment items one a)
+  convert_made one a b d e k counts p r q subject none_counted none_tallied none_replaced puts last =
+      let all : List InspectEntry = replaced_text items how.All one.texts ∷ [] in
+      let parts = takings_fragment items (takings items (as_replacing one)) in
+      let entry = inspection_entry items (as_replacing one) in
+      let whole : entry.size ≡ 0 + text_sizes items (entries_texts all) = inspected_whole items (as_replacing one) in
+      let same = made_inspection k entry.size counts entry.counters p entry.tallying q entry.replacing
+      (omega (arith, puts.sizes, whole)) none_counted none_tallied
+      (puts.entries ∙ ap (λ l. l ++ entries_at items 0 all) none_replaced) in
+      then_piece (reference_fragment items one.subject) (sequence parts (conversion_fragment entry)) a b e subject
+      (then_piece parts (conversion_fragment entry) b d e puts.code
+      (last ∙ ap (λ (i : Inspection). append d (conversion_fragment i d)) same))

@@ -55,12 +55,14 @@ use Rattle.source_tree.specs.State.{change_outcome}
 use Rattle.source_tree.specs.Setting.{Scope}
 use Rattle.source_tree.specs.Texts.{texts}
 use Rattle.source_tree.specs.Inspecting.{inspect}
+use Rattle.source_tree.specs.Converting.{as_replacing, convert}
 use Rattle.source_tree.specs.Performing.{turns_of, turns_in, turns, performed_range, repeat, body}
 use Rattle.source_tree.specs.Until as meant
 use Rattle.source_tree.specs.Until.{vary_operation, vary_begin, vary_on, until_from}
 use Rattle.source_tree.specs.Meaning.{data_storage, step}
 use Rattle.source_tree.proofs.Runs.{IsRun, body_runs}
 use Rattle.source_tree.proofs.InspectKept.{inspected_alike}
+use Rattle.source_tree.proofs.InspectConverting.{as_replacing_rules, converted_alike}
 use Rattle.data_instructions.specs.declared.instruction.DataInstruction.{DataInstruction}
 use Rattle.data_instructions.specs.declared.instruction.DataInstruction.TheVariants as i
 use Rattle.data_instructions.specs.Tables.{IsTables}
@@ -72,7 +74,7 @@ use Rattle.data_instructions.specs.Codes.{data_item, go_on, works, IsReferenceCo
 use Rattle.data_instructions.proofs.Codes.{display_works, accept_works, date_works}
 use Rattle.data_instructions.proofs.ArithmeticCodes.{arithmetic_works}
 use Rattle.data_instructions.proofs.TextCodes.{initialize_works, set_works, string_works}
-use Rattle.data_instructions.proofs.InspectCodes.{inspect_does}
+use Rattle.data_instructions.proofs.InspectCodes.{inspect_does, convert_does}
 use Rattle.code_image.specs.declared.code.Code.{Code}
 use Rattle.code_image.specs.declared.instruction.Instruction.{Instruction}
 use Rattle.code_image.specs.declared.instruction.Instruction.TheVariants.{Show, Accept, Date}
@@ -84,7 +86,7 @@ use Rattle.codegen.specs.DataCode.{reference_fragment, take_fragment, operands_f
 use Rattle.codegen.specs.DataCode.{line_end_fragment, show_fragment}
 use Rattle.codegen.specs.ArithmeticCode.{arithmetic_fragment}
 use Rattle.codegen.specs.PatternCode.{initializes_fragment, sets_fragment}
-use Rattle.codegen.specs.InspectCode.{inspect_fragment}
+use Rattle.codegen.specs.InspectCode.{inspect_fragment, convert_fragment}
 use Rattle.codegen.specs.StringCode.{string_fragment}
 use Rattle.codegen.specs.Meeting.{either_fragment}
 use Rattle.codegen.specs.ConditionCode.{condition_fragment}
@@ -107,7 +109,7 @@ use Rattle.codegen.proofs.Running.{at, one_step, WorksFrom, works_from}
 use Rattle.codegen.proofs.Codes.{left_none, right_none, Coded, display_coded, accept_coded, date_coded}
 use Rattle.codegen.proofs.ArithmeticCodes.{arithmetic_coded}
 use Rattle.codegen.proofs.PatternCodes.{initializes_codes, sets_codes}
-use Rattle.codegen.proofs.InspectCodes.{inspect_codes}
+use Rattle.codegen.proofs.InspectCodes.{inspect_codes, convert_codes}
 use Rattle.codegen.proofs.InspectKept.{known_texts}
 use Rattle.codegen.proofs.StringCodes.{string_codes}
 use Rattle.codegen.proofs.Doing.{end_of, Does, PartDoes, Sits, front_sits, back_sits, IsRoom, still_room, moved, stays}
@@ -281,6 +283,22 @@ module _ (whole : Code) (kept : ℕ → Type 0) (scope : Scope) (has : HasFiles 
       changed_does whole kept from to from to cs s (length coded.code)
       (behind_code whole before part coded.code coded.is)
       (inspect scope.items one s.storage)
+      (subst (WorksFrom whole from cs s (length coded.code)) works_as
+      (works_from whole coded.code from cs s (code_stands whole before part coded.code coded.is st)))
+  texts_do (text.Convert one) before cs s keep room st =
+      let part = convert_fragment scope.items one before in
+      let coded = (convert_codes scope.items whole entries one keep).by before st in
+      let known = known_texts scope.items (as_replacing one) (as_replacing_rules scope.items one keep) in
+      let means = converted_alike scope.items items_sized one s.storage keep known in
+      let works_as =
+      convert_does scope.items whole.tables order one coded.code known coded.holds (scratch_of s cs) room.line
+      ∙ ap (λ (e : Evaluation Storage).
+      scratch.step_with e (λ after. scratch.Continues (record (scratch_of s cs) { storage = after }))) (sym means) in
+      let from = end_of before in
+      let to = end_of (append before part) in
+      changed_does whole kept from to from to cs s (length coded.code)
+      (behind_code whole before part coded.code coded.is)
+      (convert scope.items one s.storage)
       (subst (WorksFrom whole from cs s (length coded.code)) works_as
       (works_from whole coded.code from cs s (code_stands whole before part coded.code coded.is st)))
 

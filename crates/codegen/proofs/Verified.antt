@@ -192,6 +192,10 @@ named_by tables (i.Inspect inspection) s after e =
     let found = and_then_some (slice_get tables.inspections inspection.number) _ after.stacks
     (parts tables (i.Inspect inspection) s after e).0 in
     slice_get_within tables.inspections inspection.number found.0 found.1
+named_by tables (i.Convert inspection) s after e =
+    let found = and_then_some (slice_get tables.inspections inspection.number) _ after.stacks
+    (parts tables (i.Convert inspection) s after e).0 in
+    slice_get_within tables.inspections inspection.number found.0 found.1
 
 named_after : (tables : DataTables) (one : Instruction) (s after : Shape) → known_after tables one s ≡ Some after
     → NamesData tables one

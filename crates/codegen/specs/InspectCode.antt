@@ -5,7 +5,9 @@ use Rattle.text_ops.specs.declared.entry.Entry.{Entry}
 use Rattle.source_tree.specs.declared.expression.Operand.{Operand}
 use Rattle.source_tree.specs.declared.inspect_statement.Limits.{Limits}
 use Rattle.source_tree.specs.declared.inspect_statement.Tallying.{Tallying}
+use Rattle.source_tree.specs.declared.inspect_statement.Converting.{Converting}
 use Rattle.source_tree.specs.declared.inspect_statement.InspectStatement.{InspectStatement}
+use Rattle.source_tree.specs.Converting.{as_replacing}
 use Rattle.source_tree.specs.Places.{LocatedItem}
 use Rattle.source_tree.specs.InspectLayout.{Source, Bytes, Characters, InspectArgument, Counter, Text, InspectEntry, text_sizes, limit_text, limit_texts, entries_texts, span_at, limit_span, before_at, after_at, entries_at, counter_entries, tallying_takings, all_inspected, entry_counts, takings, inspection, inspected_size}
 use Rattle.data_instructions.specs.declared.gather.Gather.TheVariants as g
@@ -23,6 +25,15 @@ inspection_fragment one before = record {
   files = [];
   starts = [];
   instructions = Data (i.Inspect (record { number = length before.tables.inspections })) ∷ [];
+}
+
+-- the INSPECT CONVERTING of an entry of the table
+abbrev pub conversion_fragment : Inspection → Fragment
+conversion_fragment one before = record {
+  tables = record no_tables { inspections = one ∷ [] };
+  files = [];
+  starts = [];
+  instructions = Data (i.Convert (record { number = length before.tables.inspections })) ∷ [];
 }
 
 -- `items` are those of the table of items, in order.
@@ -48,6 +59,13 @@ module _ (items : List LocatedItem) where
   -- INSPECT, behind its `tick`
   abbrev pub inspect_fragment : InspectStatement → Fragment
   inspect_fragment one = sequence (reference_fragment items one.subject) (sequence (takings_fragment (takings items one)) (inspection_fragment (inspection_entry one)))
+
+  -- INSPECT CONVERTING, behind its `tick`: the same, with another instruction
+  abbrev pub convert_fragment : Converting → Fragment
+  convert_fragment one =
+      let replacing = as_replacing one in
+      sequence (reference_fragment items one.subject)
+      (sequence (takings_fragment (takings items replacing)) (conversion_fragment (inspection_entry replacing)))
 
   -- ---- while it is made: texts that are taken, and entries that have them
 

@@ -3,7 +3,7 @@ use Rattle.std.specs.Prelude.{ℕ, zero, suc, List, [], ◌∷◌, ◌++◌, len
 use Rattle.source_tree.specs.declared.data_statement.DataStatement.{DataStatement}
 use Rattle.source_tree.specs.declared.data_statement.DataStatement.TheVariants.{Move, Initialize, Set}
 use Rattle.source_tree.specs.declared.text_statement.TextStatement.{TextStatement}
-use Rattle.source_tree.specs.declared.text_statement.TextStatement.TheVariants.{Display, Accept, AcceptDate, Inspect}
+use Rattle.source_tree.specs.declared.text_statement.TextStatement.TheVariants.{Display, Accept, AcceptDate, Inspect, Convert}
 use Rattle.records.specs.declared.verb.Verb as on_files
 use Rattle.records.specs.declared.verb.Verb.TheVariants as file_verb
 use Rattle.source_tree.specs.declared.name.Name.{Name}
@@ -63,7 +63,7 @@ use Rattle.codegen.specs.ArithmeticCode.{arithmetic_fragment}
 use Rattle.codegen.specs.ConditionCode.{condition_fragment}
 use Rattle.codegen.specs.PatternCode.{initializes_fragment, sets_fragment}
 use Rattle.codegen.specs.StringCode.{string_fragment}
-use Rattle.codegen.specs.InspectCode.{inspect_fragment}
+use Rattle.codegen.specs.InspectCode.{inspect_fragment, convert_fragment}
 use Rattle.codegen.specs.SubjectCode.{first_object, subjects_fragment}
 use Rattle.codegen.specs.UntilCode.{tick_fragment, until_fragment}
 use Rattle.codegen.specs.FileCode.{code_files, sent_entry, file_fragment, test_fragment, unheard_fragment, into_fragment, from_fragment, on_name_fragment, on_record_fragment}
@@ -124,6 +124,7 @@ texts_fragment items (Display operands advancing) = display_fragment items opera
 texts_fragment items (Accept receiver) = accept_fragment items receiver
 texts_fragment items (AcceptDate receiver) = date_fragment items receiver
 texts_fragment items (Inspect one) = inspect_fragment items one
+texts_fragment items (Convert one) = convert_fragment items one
 
 -- Statements that hold statements; `inside` is the code of those.
 module _ (scope : Scope) {S : Type 0} (inside : S → Fragment) where

@@ -5,6 +5,7 @@ ghost use Rattle.source_tree.specs.declared.inspect_statement.Replacing.TheVaria
 ghost use Rattle.source_tree.specs.Broken.{each};
 ghost use Rattle.source_tree.specs.Display.{figurative_byte};
 ghost use Rattle.source_tree.specs.NameRules.{reference_rules};
+ghost use Rattle.source_tree.specs.Converting.{convert_rules};
 ghost use Rattle.source_tree.specs.InspectRules as rules;
 ghost use Rattle.source_tree.specs.InspectLayout as layout;
 ghost use Rattle.declarations.specs.Named.{IsDeclared, items_in};
@@ -19,8 +20,8 @@ use crate::shown_texts::{figurative, literal_text};
 use code_image::Code;
 use data_instructions::{DataInstruction, Gather, Inspection, InspectionIndex};
 use source_tree::{
-    InspectStatement, Limits, LiteralValue, Occurrences, Operand, Reference, ReplacedText,
-    Replacing, Tallied, TalliedText, Tallying,
+    Converting, InspectStatement, Limits, LiteralValue, Occurrences, Operand, Reference,
+    ReplacedText, Replacing, Tallied, TalliedText, Tallying,
 };
 use sqlite_items::Items;
 use std::alloc::{AllocError, Global};
@@ -436,6 +437,28 @@ impl<'a> Emitter<'a> {
         };
         emit_inspection(code, inspection)
     }
+
+    /// INSPECT CONVERTING, behind its `tick`.
+    pub(crate) fn emit_convert(&self, code: &mut Code, one: &Converting) -> Result<(), AllocError>
+        requires declared { IsDeclared self.now.declarations.now }
+        requires rules { convert_rules (items_in self.now.declarations.now) one.now ≡ [] }
+        ensures { OnOk result (code.new ≡ append code.old
+            (spec.convert_fragment (items_in self.now.declarations.now) one.now code.old)) }
+    {
+        let mut made = Entries {
+            size: 0,
+            entries: Items::new(self.alloc),
+        };
+        self.emit_reference(code, &one.subject)?;
+        self.emit_replaced_text(code, &mut made, Occurrences::All, &one.texts)?;
+        let inspection = Inspection {
+            size: made.size,
+            counters: Items::new(self.alloc),
+            tallying: Items::new(self.alloc),
+            replacing: made.entries,
+        };
+        emit_conversion(code, inspection)
+    }
 }
 
 /// Entries, and the size in bytes of all texts up to theirs.
@@ -506,4 +529,14 @@ fn emit_inspection(code: &mut Code, one: Inspection) -> Result<(), AllocError>
     code.tables.inspections.push(one)?;
     let inspection = InspectionIndex { number };
     emit_work(code, DataInstruction::Inspect { inspection })
+}
+
+/// The INSPECT CONVERTING of an inspection.
+fn emit_conversion(code: &mut Code, one: Inspection) -> Result<(), AllocError>
+    ensures { OnOk result (code.new ≡ append code.old (spec.conversion_fragment one code.old)) }
+{
+    let number = entry_number(code.tables.inspections.len())?;
+    code.tables.inspections.push(one)?;
+    let inspection = InspectionIndex { number };
+    emit_work(code, DataInstruction::Convert { inspection })
 }

@@ -109,6 +109,11 @@ inspect_spelt : data_instruction_bytes (i.Inspect (record { number = 258 })) ≡
 unfolding short_bytes
 inspect_spelt = refl
 
+-- a conversion by it
+convert_spelt : data_instruction_bytes (i.Convert (record { number = 258 })) ≡ 73 ∷ 0 ∷ 0 ∷ 1 ∷ 2 ∷ []
+unfolding short_bytes
+convert_spelt = refl
+
 -- a part of an item of 258 bytes, and one of a length that is counted
 part_spelt : data_instruction_bytes (i.Part (part.Fixed 258)) ≡ 70 ∷ 0 ∷ 0 ∷ 1 ∷ 2 ∷ []
 unfolding short_bytes

@@ -14,7 +14,7 @@ use Rattle.data_image.specs.Instructions.{data_instruction_bytes, HasShorts, sto
 use Rattle.data_image.specs.Instructions.{index_at, truncate, place_instruction, literal, take_literal, append_literal}
 use Rattle.data_image.specs.Instructions.{duplicate, text_from, test_from, instruction_from, data_instruction_at}
 use Rattle.data_image.specs.Tests.{compare, compare_numbers, or_equal, or_within}
-use Rattle.data_image.specs.Gathers.{inspect, overlay, up_to_text, text_up_to_place}
+use Rattle.data_image.specs.Gathers.{inspect, convert, overlay, up_to_text, text_up_to_place}
 use Rattle.data_image.specs.Parts.{part_fixed}
 use Rattle.data_image.proofs.Forms.{ok_is, chosen, takes_then, takes_kind, IsForm, part, part_again, Took, form_of}
 use Rattle.data_image.proofs.Forms.{first_took, byte_is, behind_took, told_took, first_told, told_in}
@@ -132,8 +132,12 @@ text_from_took n rest x is e =
             | inr u ↦ elim (chosen (eqb n 70) _ _ _ u.1) [
               | inl p ↦ byte_is data_instruction_bytes HasShorts 70 n rest x p.0 (behind_took data_instruction_bytes
                   HasShorts short_form 70 part_fixed (λ a. refl) (λ a h. h) rest x is p.1)
-              | inr v ↦
-                  told_took data_instruction_bytes HasShorts plain_instruction_of plain_instruction_is n rest x is v.1
+              | inr v ↦ elim (chosen (eqb n 73) _ _ _ v.1) [
+                | inl p ↦ byte_is data_instruction_bytes HasShorts 73 n rest x p.0 (behind_took data_instruction_bytes
+                    HasShorts short_form 73 convert (λ a. refl) (λ a h. h) rest x is p.1)
+                | inr w ↦
+                    told_took data_instruction_bytes HasShorts plain_instruction_of plain_instruction_is n rest x is w.1
+              ]
             ]
           ]
         ]
@@ -262,6 +266,7 @@ instruction_again (i.Part (p.Fixed size)) rest h = naming_again part_fixed size 
 instruction_again (i.Part p.Counted) rest h = refl
 instruction_again (i.Part p.Rest) rest h = refl
 instruction_again (i.Inspect inspection) rest h = naming_again inspect inspection.number rest h
+instruction_again (i.Convert inspection) rest h = naming_again convert inspection.number rest h
 
 pub data_instruction_form : IsForm data_instruction_at data_instruction_bytes HasShorts
 data_instruction_form = form_of data_instruction_at data_instruction_bytes HasShorts instruction_took instruction_again

@@ -30,6 +30,9 @@ HasText g.Sized = Unit {0}
 abbrev pub inspect : ℕ → DataInstruction
 inspect number = i.Inspect (record { number = number })
 
+abbrev pub convert : ℕ → DataInstruction
+convert number = i.Convert (record { number = number })
+
 abbrev pub overlay : ℕ → DataInstruction
 overlay number = i.Overlay (record { number = number })
 

@@ -10,7 +10,7 @@ use Rattle.data_instructions.specs.declared.instruction.DataInstruction.TheVaria
 use Rattle.data_image.specs.Spelling.{short_bytes, IsByte, FitsFourBytes}
 use Rattle.data_image.specs.Reading.{ReadResult, ◌>>=◌, or_value, byte_at, short_at}
 use Rattle.data_image.specs.Tests.{test_bytes, HasEntry, relating_at, class_at, compare_literal_at, compare, compare_numbers, or_equal, or_within}
-use Rattle.data_image.specs.Gathers.{gather_bytes, string_byte, HasText, inspect, overlay, up_to_text, text_up_to_place}
+use Rattle.data_image.specs.Gathers.{gather_bytes, string_byte, HasText, inspect, convert, overlay, up_to_text, text_up_to_place}
 use Rattle.data_image.specs.Parts.{part_bytes, HasSize, part_fixed}
 
 -- a store, by whether it rounds and whether it keeps the item after a size error
@@ -51,6 +51,7 @@ data_instruction_bytes (i.Gather one) = gather_bytes one
 data_instruction_bytes (i.String pointer) = string_byte pointer ∷ []
 data_instruction_bytes (i.Part one) = part_bytes one
 data_instruction_bytes (i.Inspect inspection) = 69 ∷ short_bytes inspection.number
+data_instruction_bytes (i.Convert inspection) = 73 ∷ short_bytes inspection.number
 
 abbrev pub HasNumber : Calculation → Type 0
 HasNumber (c.Truncate scale) = IsByte scale
@@ -84,6 +85,7 @@ HasShorts (i.Gather one) = HasText one
 HasShorts (i.String pointer) = Unit {0}
 HasShorts (i.Part one) = HasSize one
 HasShorts (i.Inspect inspection) = FitsFourBytes inspection.number
+HasShorts (i.Convert inspection) = FitsFourBytes inspection.number
 
 -- ---- reading
 
@@ -163,6 +165,7 @@ text_from byte bytes =
     else if byte == 65 then naming_at text_up_to_place bytes
     else if byte == 69 then naming_at inspect bytes
     else if byte == 70 then naming_at part_fixed bytes
+    else if byte == 73 then naming_at convert bytes
     else (or_value (plain_instruction_of byte) >>= λ one. Ok (one, bytes))
 
 -- the test whose first byte this is, or another instruction

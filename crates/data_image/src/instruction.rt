@@ -80,6 +80,8 @@ const DROP_PLACE: u8 = 61;
 
 const INSPECT: u8 = 69;
 
+const CONVERT: u8 = 73;
+
 impl TableEntry for DataInstruction {
     ghost spelled = { data_instruction_bytes };
 
@@ -111,6 +113,7 @@ impl TableEntry for DataInstruction {
             DataInstruction::Part(one) => put_part(out, one),
             DataInstruction::String { pointer } => put_byte(out, string_byte(pointer)),
             DataInstruction::Inspect { inspection } => put_naming(out, INSPECT, inspection.number),
+            DataInstruction::Convert { inspection } => put_naming(out, CONVERT, inspection.number),
         }
     }
 
@@ -268,6 +271,11 @@ fn read_text(byte: u8, bytes: &[u8]) -> Result<(DataInstruction, &[u8]), ImageEr
             let (number, rest) = read_short(bytes)?;
             let inspection = InspectionIndex { number };
             Ok((DataInstruction::Inspect { inspection }, rest))
+        }
+        CONVERT => {
+            let (number, rest) = read_short(bytes)?;
+            let inspection = InspectionIndex { number };
+            Ok((DataInstruction::Convert { inspection }, rest))
         }
         PART_FIXED => {
             let (size, rest) = read_short(bytes)?;

@@ -7,6 +7,7 @@ use Rattle.std.proofs.lemmas.List.{append_assoc, append-nil, length-append}
 use Rattle.items.specs.Texts.{padded_text}
 use Rattle.source_tree.specs.declared.reference.Reference.{Reference}
 use Rattle.source_tree.specs.declared.inspect_statement.Tallying.{Tallying}
+use Rattle.source_tree.specs.declared.inspect_statement.Converting.{Converting}
 use Rattle.source_tree.specs.declared.inspect_statement.InspectStatement.{InspectStatement}
 use Rattle.source_tree.specs.LookUp.{items_named, first}
 use Rattle.source_tree.specs.Places.{LocatedItem}
@@ -15,6 +16,7 @@ use Rattle.source_tree.specs.Evaluated.{Evaluation, ◌>>=◌, evaluation_of}
 use Rattle.source_tree.specs.References.{ItemPlace, part_of, place_after, place_of, occurrence, part_in}
 use Rattle.source_tree.specs.References.{referred_place}
 use Rattle.source_tree.specs.References as tree
+use Rattle.source_tree.specs.Converting.{as_replacing, convert_at, convert_by_spans}
 use Rattle.source_tree.specs.InspectLayout as layout
 use Rattle.source_tree.specs.Inspecting.{text_at}
 use Rattle.source_tree.specs.InspectLayout.{Source, Bytes, Characters, InspectArgument, Counter, Text, InspectTaken}
@@ -32,9 +34,9 @@ use Rattle.data_instructions.specs.declared.instruction.DataInstruction.{DataIns
 use Rattle.data_instructions.specs.declared.instruction.DataInstruction.TheVariants as i
 use Rattle.data_instructions.specs.Tables.{IsTables, shortened_item, item_place}
 use Rattle.data_instructions.specs.Scratch.{Scratch, Step, Continues, step_with, step_at}
-use Rattle.data_instructions.specs.Table.{at_place, at_places, append_step, place_at, inspected_at, work}
+use Rattle.data_instructions.specs.Table.{at_place, at_places, append_step, place_at, inspected_at, converted_at, work}
 use Rattle.data_instructions.specs.Codes.{go_on, works}
-use Rattle.data_instructions.specs.InspectCodes.{AreTakenCode, HasInspection, IsInspectCode}
+use Rattle.data_instructions.specs.InspectCodes.{AreTakenCode, HasInspection, IsInspectCode, IsConvertCode}
 use Rattle.data_instructions.proofs.Subscripts.{go_with, with_same, with_bind, works_append, nothing_more}
 use Rattle.data_instructions.proofs.Codes.{taking_works}
 use Rattle.data_instructions.proofs.Subscripts.{with_known, bound, same_Ok, at}
@@ -154,14 +156,107 @@ module _ (tables : DataTables) where
       one_at p r (λ place. at_places tables (length rs) (place ∷ others) go (ps ++ rest) s) are.0
       ∙ places_found ps rs (r ∷ others) go rest s are.1
 
+module _ (tables : DataTables) where
+  abbrev standing : List Place → Place → List ℕ → Scratch → Scratch
+  standing ps p line s = record s { places = ps ++ (p ∷ s.places); line = line }
+
+-- what is taken before an instruction that finds the counters' places on the stack, above the subject's, and the texts
+-- in the line
+module _ (items : List LocatedItem) (tables : DataTables) (order : IsTables tables) (last : DataInstruction)
+    (size count : ℕ) (p : Place) (ends : Scratch → List ItemPlace → List ℕ → Step)
+    (ending : (ps : List Place) (rs : List ItemPlace) → AreAt tables ps rs → length rs ≡ count
+    → (line : List ℕ) (s : Scratch)
+    → works tables (last ∷ []) (standing tables ps p line s) ≡ ends s (oldest rs []) (padded_text size line)) where
+  -- behind a text that was added to the line
+  further : (more : List InspectArgument) (back : List DataInstruction) (ps : List Place) (rs : List ItemPlace)
+      (line text : List ℕ) (s : Scratch)
+      → works tables (back ++ (last ∷ [])) (standing tables ps p (line ++ text) s)
+      ≡ step_with (take_each items more s.storage)
+      (λ taken. ends s (oldest rs taken.counters) (padded_text size ((line ++ text) ++ taken.texts)))
+      → works tables (back ++ (last ∷ [])) (standing tables ps p (line ++ text) s)
+      ≡ step_with (take_each items more s.storage >>= (λ taken. Ok (with_text text taken)))
+      (λ taken. ends s (oldest rs taken.counters) (padded_text size (line ++ taken.texts)))
+  further more back ps rs line text s rest =
+      rest
+      ∙ with_same (take_each items more s.storage) _ _ (λ taken.
+      ap (λ l. ends s (oldest rs taken.counters) (padded_text size l)) (append_assoc line text taken.texts))
+      ∙ sym (with_bind (take_each items more s.storage) (λ taken. Ok (with_text text taken))
+      (λ taken. ends s (oldest rs taken.counters) (padded_text size (line ++ taken.texts))))
+
+  -- what is taken, and then the last instruction
+  pub takings_work : (all : List InspectArgument) (code : List DataInstruction) → AreTakenCode items tables all code
+      → (ps : List Place) (rs : List ItemPlace) → AreAt tables ps rs → length rs + counters_in all ≡ count
+      → (line : List ℕ) (s : Scratch)
+      → works tables (code ++ (last ∷ [])) (standing tables ps p line s)
+      ≡ step_with (take_each items all s.storage)
+      (λ taken. ends s (oldest rs taken.counters) (padded_text size (line ++ taken.texts)))
+  takings_work [] code is ps rs are many line s =
+      ap (λ c. works tables (c ++ (last ∷ [])) (standing tables ps p line s)) is
+      ∙ ending ps rs are (omega (arith, many)) line s
+      ∙ ap (λ l. ends s (oldest rs []) (padded_text size l)) (sym (append-nil line))
+  takings_work (Counter one ∷ more) code (front, r, back, are_back, is) ps rs are many
+      line s =
+      let t : Scratch = standing tables ps p line s in
+      let later : List DataInstruction = back ++ (last ∷ []) in
+      let there : Evaluation ItemPlace = referred_place items one r.found s.storage in
+      let new : ItemPlace → Place =
+      λ place. record { item = r.index; offset = place.offset; length = place.item.length } in
+      let done : ItemPlace → InspectTaken → Step =
+      λ place taken. ends s (oldest rs (place ∷ taken.counters)) (padded_text size (line ++ taken.texts)) in
+      let puts : ItemPlace → Step = λ place. step_with (take_each items more s.storage) (done place) in
+      ap (λ c. works tables (c ++ (last ∷ [])) t) is
+      ∙ ap (λ c. works tables c t) (append_assoc front back (last ∷ []))
+      ∙ works_append tables front later t
+      ∙ ap (λ step. go_on step (works tables later)) (reference_works items tables order one front r t)
+      ∙ go_with there (λ place. Continues (standing tables (new place ∷ ps) p line s)) (works tables later)
+      ∙ with_known there _ _ (λ place at_place.
+      takings_work more back are_back (new place ∷ ps) (place ∷ rs) (
+        ap (place_at (new place)) r.entry
+            ∙ ap Some (place_shown items tables order one front r s.storage place at_place),
+        are,
+      ) (omega (arith, many)) line s)
+      ∙ ap (λ o. step_with (evaluation_of o >>= (λ found. referred_place items one found s.storage)) puts)
+      (sym r.named)
+      ∙ with_same (place_of items one s.storage)
+      _ _ (λ place. sym (with_bind (take_each items more s.storage) (λ taken. Ok (with_counter place taken))
+      (λ taken. ends s (oldest rs taken.counters) (padded_text size (line ++ taken.texts)))))
+      ∙ sym (with_bind (place_of items one s.storage)
+      (λ place. take_each items more s.storage >>= (λ taken. Ok (with_counter place taken)))
+      (λ taken. ends s (oldest rs taken.counters) (padded_text size (line ++ taken.texts))))
+  takings_work (Text (Bytes one) ∷ more) code (front, taking, back, are_back, is) ps rs
+      are many line s =
+      let t : Scratch = standing tables ps p line s in
+      let later : List DataInstruction = back ++ (last ∷ []) in
+      let on : InspectTaken → Step =
+      λ taken. ends s (oldest rs taken.counters) (padded_text size (line ++ taken.texts)) in
+      ap (λ c. works tables (c ++ (last ∷ [])) t) is
+      ∙ ap (λ c. works tables c t) (append_assoc front back (last ∷ []))
+      ∙ works_append tables front later t
+      ∙ ap (λ step. go_on step (works tables later)) (taking_works items tables order (i.Gather g.Sized)
+      (λ place u. append_step (text_at u.storage place) u) (λ u. refl) one front taking t)
+      ∙ go_with (place_of items one s.storage) (λ place. append_step (text_at s.storage place) t) (works tables later)
+      ∙ with_same (place_of items one s.storage) _ _
+      (λ place. further more back ps rs line (text_at s.storage place) s
+      (takings_work more back are_back ps rs are many (line ++ text_at s.storage place)
+      s))
+      ∙ sym (with_bind (place_of items one s.storage)
+      (λ place. take_each items more s.storage >>= (λ taken. Ok (with_text (text_at s.storage place) taken))) on)
+  takings_work (Text (Characters text) ∷ more) code (front, is_text, back, are_back, is)
+      ps rs are many line s =
+      let t : Scratch = standing tables ps p line s in
+      let later : List DataInstruction = back ++ (last ∷ []) in
+      ap (λ c. works tables (c ++ (last ∷ [])) t) is
+      ∙ ap (λ c. works tables c t) (append_assoc front back (last ∷ []))
+      ∙ works_append tables front later t
+      ∙ ap (λ step. go_on step (works tables later)) (text_works items tables order text front is_text t)
+      ∙ further more back ps rs line text s
+      (takings_work more back are_back ps rs are many (line ++ text) s)
+
 module _ (items : List LocatedItem) (tables : DataTables) (order : IsTables tables) where
   -- INSPECT, with counters and texts
   abbrev ends : layout.Inspection → ItemPlace → Scratch → List ItemPlace → List ℕ → Step
   ends how subject s counters texts = step_with (inspect_at how texts counters subject s.storage)
       (λ after. Continues (record s { storage = after; line = [] }))
-
-  abbrev standing : List Place → Place → List ℕ → Scratch → Scratch
-  standing ps p line s = record s { places = ps ++ (p ∷ s.places); line = line }
 
   -- with the counters' places on the stack, above the subject's
   inspect_works : (index : InspectionIndex) (how : layout.Inspection)
@@ -169,10 +264,10 @@ module _ (items : List LocatedItem) (tables : DataTables) (order : IsTables tabl
       → place_at p (slice_get tables.items p.item.number) ≡ Some subject
       → (ps : List Place) (rs : List ItemPlace) → AreAt tables ps rs → length rs ≡ length how.counters
       → (line : List ℕ) (s : Scratch)
-      → works tables (i.Inspect index ∷ []) (standing ps p line s)
+      → works tables (i.Inspect index ∷ []) (standing tables ps p line s)
       ≡ ends how subject s (oldest rs []) (padded_text size line)
   inspect_works index how size has p subject at ps rs are many line s =
-      let t : Scratch = standing ps p line s in
+      let t : Scratch = standing tables ps p line s in
       let u : Scratch = record s { line = line } in
       let count : length has.one.counters ≡ length rs =
       ap (λ (x : layout.Inspection). length x.counters) has.is ∙ sym many in
@@ -187,95 +282,6 @@ module _ (items : List LocatedItem) (tables : DataTables) (order : IsTables tabl
       ∙ ap (λ x. step_with (inspect_at x (padded_text has.one.size line) (oldest rs []) subject s.storage)
       (λ after. Continues (record s { storage = after; line = [] }))) has.is
       ∙ ap (λ n. ends how subject s (oldest rs []) (padded_text n line)) has.size_is
-
-  -- behind a text that was added to the line
-  further : (index : InspectionIndex) (how : layout.Inspection) (size : ℕ) (p : Place) (subject : ItemPlace)
-      (more : List InspectArgument) (back : List DataInstruction) (ps : List Place) (rs : List ItemPlace)
-      (line text : List ℕ) (s : Scratch)
-      → works tables (back ++ (i.Inspect index ∷ [])) (standing ps p (line ++ text) s)
-      ≡ step_with (take_each items more s.storage)
-      (λ taken. ends how subject s (oldest rs taken.counters) (padded_text size ((line ++ text) ++ taken.texts)))
-      → works tables (back ++ (i.Inspect index ∷ [])) (standing ps p (line ++ text) s)
-      ≡ step_with (take_each items more s.storage >>= (λ taken. Ok (with_text text taken)))
-      (λ taken. ends how subject s (oldest rs taken.counters) (padded_text size (line ++ taken.texts)))
-  further index how size p subject more back ps rs line text s rest =
-      rest
-      ∙ with_same (take_each items more s.storage) _ _ (λ taken.
-      ap (λ l. ends how subject s (oldest rs taken.counters) (padded_text size l)) (append_assoc line text taken.texts))
-      ∙ sym (with_bind (take_each items more s.storage) (λ taken. Ok (with_text text taken))
-      (λ taken. ends how subject s (oldest rs taken.counters) (padded_text size (line ++ taken.texts))))
-
-  -- what is taken, and then INSPECT
-  takings_work : (index : InspectionIndex) (how : layout.Inspection)
-      (size : ℕ) (has : HasInspection items tables how size index) (p : Place) (subject : ItemPlace)
-      → place_at p (slice_get tables.items p.item.number) ≡ Some subject
-      → (all : List InspectArgument) (code : List DataInstruction) → AreTakenCode items tables all code
-      → (ps : List Place) (rs : List ItemPlace) → AreAt tables ps rs → length rs + counters_in all ≡ length how.counters
-      → (line : List ℕ) (s : Scratch)
-      → works tables (code ++ (i.Inspect index ∷ [])) (standing ps p line s)
-      ≡ step_with (take_each items all s.storage)
-      (λ taken. ends how subject s (oldest rs taken.counters) (padded_text size (line ++ taken.texts)))
-  takings_work index how size has p subject at [] code is ps rs are many line s =
-      ap (λ c. works tables (c ++ (i.Inspect index ∷ [])) (standing ps p line s)) is
-      ∙ inspect_works index how size has p subject at ps rs are (omega (arith, many)) line s
-      ∙ ap (λ l. ends how subject s (oldest rs []) (padded_text size l)) (sym (append-nil line))
-  takings_work index how size has p subject at (Counter one ∷ more) code (front, r, back, are_back, is) ps rs are many
-      line s =
-      let t : Scratch = standing ps p line s in
-      let later : List DataInstruction = back ++ (i.Inspect index ∷ []) in
-      let there : Evaluation ItemPlace = referred_place items one r.found s.storage in
-      let new : ItemPlace → Place =
-      λ place. record { item = r.index; offset = place.offset; length = place.item.length } in
-      let done : ItemPlace → InspectTaken → Step =
-      λ place taken. ends how subject s (oldest rs (place ∷ taken.counters)) (padded_text size (line ++ taken.texts)) in
-      let puts : ItemPlace → Step = λ place. step_with (take_each items more s.storage) (done place) in
-      ap (λ c. works tables (c ++ (i.Inspect index ∷ [])) t) is
-      ∙ ap (λ c. works tables c t) (append_assoc front back (i.Inspect index ∷ []))
-      ∙ works_append tables front later t
-      ∙ ap (λ step. go_on step (works tables later)) (reference_works items tables order one front r t)
-      ∙ go_with there (λ place. Continues (standing (new place ∷ ps) p line s)) (works tables later)
-      ∙ with_known there _ _ (λ place at_place.
-      takings_work index how size has p subject at more back are_back (new place ∷ ps) (place ∷ rs) (
-        ap (place_at (new place)) r.entry
-            ∙ ap Some (place_shown items tables order one front r s.storage place at_place),
-        are,
-      ) (omega (arith, many)) line s)
-      ∙ ap (λ o. step_with (evaluation_of o >>= (λ found. referred_place items one found s.storage)) puts)
-      (sym r.named)
-      ∙ with_same (place_of items one s.storage)
-      _ _ (λ place. sym (with_bind (take_each items more s.storage) (λ taken. Ok (with_counter place taken))
-      (λ taken. ends how subject s (oldest rs taken.counters) (padded_text size (line ++ taken.texts)))))
-      ∙ sym (with_bind (place_of items one s.storage)
-      (λ place. take_each items more s.storage >>= (λ taken. Ok (with_counter place taken)))
-      (λ taken. ends how subject s (oldest rs taken.counters) (padded_text size (line ++ taken.texts))))
-  takings_work index how size has p subject at (Text (Bytes one) ∷ more) code (front, taking, back, are_back, is) ps rs
-      are many line s =
-      let t : Scratch = standing ps p line s in
-      let later : List DataInstruction = back ++ (i.Inspect index ∷ []) in
-      let last : InspectTaken → Step =
-      λ taken. ends how subject s (oldest rs taken.counters) (padded_text size (line ++ taken.texts)) in
-      ap (λ c. works tables (c ++ (i.Inspect index ∷ [])) t) is
-      ∙ ap (λ c. works tables c t) (append_assoc front back (i.Inspect index ∷ []))
-      ∙ works_append tables front later t
-      ∙ ap (λ step. go_on step (works tables later)) (taking_works items tables order (i.Gather g.Sized)
-      (λ place u. append_step (text_at u.storage place) u) (λ u. refl) one front taking t)
-      ∙ go_with (place_of items one s.storage) (λ place. append_step (text_at s.storage place) t) (works tables later)
-      ∙ with_same (place_of items one s.storage) _ _
-      (λ place. further index how size p subject more back ps rs line (text_at s.storage place) s
-      (takings_work index how size has p subject at more back are_back ps rs are many (line ++ text_at s.storage place)
-      s))
-      ∙ sym (with_bind (place_of items one s.storage)
-      (λ place. take_each items more s.storage >>= (λ taken. Ok (with_text (text_at s.storage place) taken))) last)
-  takings_work index how size has p subject at (Text (Characters text) ∷ more) code (front, is_text, back, are_back, is)
-      ps rs are many line s =
-      let t : Scratch = standing ps p line s in
-      let later : List DataInstruction = back ++ (i.Inspect index ∷ []) in
-      ap (λ c. works tables (c ++ (i.Inspect index ∷ [])) t) is
-      ∙ ap (λ c. works tables c t) (append_assoc front back (i.Inspect index ∷ []))
-      ∙ works_append tables front later t
-      ∙ ap (λ step. go_on step (works tables later)) (text_works items tables order text front is_text t)
-      ∙ further index how size p subject more back ps rs line text s
-      (takings_work index how size has p subject at more back are_back ps rs are many (line ++ text) s)
 
   -- with nothing in the line
   inspect_from_nothing : (one : InspectStatement) (code : List DataInstruction) → HasKnownTexts items one
@@ -297,10 +303,11 @@ module _ (items : List LocatedItem) (tables : DataTables) (order : IsTables tabl
       ap (λ c. works tables c u) is
       ∙ works_append tables subject later u
       ∙ ap (λ step. go_on step (works tables later)) (reference_works items tables order one.subject subject r u)
-      ∙ go_with there (λ place. Continues (standing [] (new place) [] s)) (works tables later)
+      ∙ go_with there (λ place. Continues (standing tables [] (new place) [] s)) (works tables later)
       ∙ with_known there _ _ (λ place at_place.
-      takings_work index how size has (new place) place (ap (place_at (new place)) r.entry
-      ∙ ap Some (place_shown items tables order one.subject subject r s.storage place at_place))
+      takings_work items tables order (i.Inspect index) size (length how.counters) (new place) (ends how place)
+      (inspect_works index how size has (new place) place (ap (place_at (new place)) r.entry
+      ∙ ap Some (place_shown items tables order one.subject subject r s.storage place at_place)))
       (takings items one) parts are [] [] tt (omega (arith, counters_are items one)) [] s
       ∙ with_known (take_each items (takings items one) s.storage) _ _ (λ taken known.
       ap (λ l. ends how place s taken.counters l)
@@ -322,3 +329,79 @@ module _ (items : List LocatedItem) (tables : DataTables) (order : IsTables tabl
       subst (λ (l : List ℕ). works tables code (record s { line = l })
       ≡ step_with (inspect_by_spans items one s.storage) (λ after. Continues (record s { storage = after; line = l })))
       (sym empty) (inspect_from_nothing one code sized is s)
+
+  -- ---- CONVERTING
+
+  abbrev converts : layout.Inspection → ItemPlace → Scratch → List ItemPlace → List ℕ → Step
+  converts how subject s counters texts =
+      Continues (record s { storage = convert_at how texts subject s.storage; line = [] })
+
+  -- with the subject's place on the stack
+  convert_works : (index : InspectionIndex) (how : layout.Inspection)
+      (size : ℕ) (has : HasInspection items tables how size index) (p : Place) (subject : ItemPlace)
+      → place_at p (slice_get tables.items p.item.number) ≡ Some subject
+      → (ps : List Place) (rs : List ItemPlace) → AreAt tables ps rs → length rs ≡ 0
+      → (line : List ℕ) (s : Scratch)
+      → works tables (i.Convert index ∷ []) (standing tables ps p line s)
+      ≡ converts how subject s (oldest rs []) (padded_text size line)
+  convert_works index how size has p subject at (q ∷ ps) (r ∷ rs) are none line s = absurd (omega (arith, none))
+  convert_works index how size has p subject at (q ∷ ps) [] are none line s = absurd are
+  convert_works index how size has p subject at [] (r ∷ rs) are none line s = absurd are
+  convert_works index how size has p subject at [] [] are none line s =
+      let t : Scratch = standing tables [] p line s in
+      let u : Scratch = record s { line = line } in
+      nothing_more tables (work tables (i.Convert index) t)
+      ∙ ap (λ o. step_at o (λ (x : Inspection). at_place tables (converted_at x) t)) has.entry
+      ∙ one_at tables p subject (λ place. converted_at has.one place u) at
+      ∙ ap (λ x. Continues (record s {
+        storage = convert_at x (padded_text has.one.size line) subject s.storage;
+        line = [];
+      })) has.is
+      ∙ ap (λ n. converts how subject s [] (padded_text n line)) has.size_is
+
+  -- with nothing in the line
+  convert_from_nothing : (one : Converting) (code : List DataInstruction) → HasKnownTexts items (as_replacing one)
+      → IsConvertCode items tables one code → (s : Scratch)
+      → works tables code (record s { line = [] })
+      ≡ step_with (convert_by_spans items one s.storage) (λ after. Continues (record s { storage = after; line = [] }))
+  convert_from_nothing one code sized (subject, r, parts, are, index, has, is) s =
+      let u : Scratch = record s { line = [] } in
+      let all : List InspectArgument = takings items (as_replacing one) in
+      let how : layout.Inspection = inspection items (as_replacing one) in
+      let size : ℕ = inspected_size items (as_replacing one) in
+      let later : List DataInstruction = parts ++ (i.Convert index ∷ []) in
+      let there : Evaluation ItemPlace = referred_place items one.subject r.found s.storage in
+      let new : ItemPlace → Place =
+      λ place. record { item = r.index; offset = place.offset; length = place.item.length } in
+      let puts : ItemPlace → Step =
+      λ place. step_with (take_each items all s.storage) (λ taken. converts how place s taken.counters taken.texts) in
+      let ends : Storage → Step = λ after. Continues (record s { storage = after; line = [] }) in
+      let none : counters_in all ≡ 0 = counters_are items (as_replacing one) in
+      ap (λ c. works tables c u) is
+      ∙ works_append tables subject later u
+      ∙ ap (λ step. go_on step (works tables later)) (reference_works items tables order one.subject subject r u)
+      ∙ go_with there (λ place. Continues (standing tables [] (new place) [] s)) (works tables later)
+      ∙ with_known there _ _ (λ place at_place.
+      takings_work items tables order (i.Convert index) size 0 (new place) (converts how place)
+      (convert_works index how size has (new place) place (ap (place_at (new place)) r.entry
+      ∙ ap Some (place_shown items tables order one.subject subject r s.storage place at_place)))
+      all parts are [] [] tt (omega (arith, none)) [] s
+      ∙ with_known (take_each items all s.storage) _ _ (λ taken known.
+      ap (λ l. converts how place s taken.counters l)
+      (padded_whole size taken.texts (taken_long items all s.storage taken sized known))))
+      ∙ ap (λ o. step_with (evaluation_of o >>= (λ found. referred_place items one.subject found s.storage)) puts)
+      (sym r.named)
+      ∙ with_same (place_of items one.subject s.storage)
+      _ _ (λ place. sym (with_bind (take_each items all s.storage)
+      (λ taken. Ok (convert_at how taken.texts place s.storage)) ends))
+      ∙ sym (with_bind (place_of items one.subject s.storage)
+      (λ place. take_each items all s.storage >>= (λ taken. Ok (convert_at how taken.texts place s.storage))) ends)
+
+  pub convert_does : (one : Converting) (code : List DataInstruction) → HasKnownTexts items (as_replacing one)
+      → IsConvertCode items tables one code → (s : Scratch) → s.line ≡ []
+      → works tables code s
+      ≡ step_with (convert_by_spans items one s.storage) (λ after. Continues (record s { storage = after }))
+  convert_does one code sized is s empty =
+      subst (λ (l : List ℕ). works tables code (record s { line = l })
+      ≡ step_with (convert_by_spans items one s.storage) (λ after. Continues (record s { storage = after; line = l })))
+      (sym empty) (convert_from_nothing one code sized is s)

@@ -1,6 +1,8 @@
 -- The code of INSPECT (own choice), and what it does: INSPECT as it is laid out.
 use Rattle.std.specs.Prelude.{◌≡◌, ℕ, List, [], ◌∷◌, ◌++◌, Some, slice_get}
+use Rattle.source_tree.specs.declared.inspect_statement.Converting.{Converting}
 use Rattle.source_tree.specs.declared.inspect_statement.InspectStatement.{InspectStatement}
+use Rattle.source_tree.specs.Converting.{as_replacing, convert_by_spans}
 use Rattle.source_tree.specs.Places.{LocatedItem}
 use Rattle.source_tree.specs.InspectLayout as layout
 use Rattle.source_tree.specs.InspectLayout.{Bytes, Characters, InspectArgument, Counter, Text, takings, inspection, inspected_size, inspect_by_spans}
@@ -48,6 +50,19 @@ module _ (items : List LocatedItem) (tables : DataTables) where
   abbrev pub DoesInspect : InspectStatement → List DataInstruction → Type 0
   DoesInspect one code =
       (s : Scratch) → s.line ≡ [] → works tables code s ≡ step_with (inspect_by_spans items one s.storage) (λ after. Continues (record s { storage = after }))
+
+  -- CONVERTING takes the same as the INSPECT that replaces its first text, and ends with another instruction.
+  abbrev pub IsConvertCode : Converting → List DataInstruction → Type 0
+  IsConvertCode one code =
+      (subject : List DataInstruction) × IsReferenceCode items tables one.subject subject
+      × (parts : List DataInstruction) × AreTakenCode (takings items (as_replacing one)) parts
+      × (index : InspectionIndex)
+      × HasInspection (inspection items (as_replacing one)) (inspected_size items (as_replacing one)) index
+      × (code ≡ subject ++ (parts ++ (i.Convert index ∷ [])))
+
+  abbrev pub DoesConvert : Converting → List DataInstruction → Type 0
+  DoesConvert one code =
+      (s : Scratch) → s.line ≡ [] → works tables code s ≡ step_with (convert_by_spans items one s.storage) (λ after. Continues (record s { storage = after }))
 
   -- ---- what is known along it
 

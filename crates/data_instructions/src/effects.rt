@@ -438,6 +438,14 @@ fn stacks_inspected(tables: &DataTables, index: InspectionIndex, stacks: Stacks)
     without_place(without_places(one.counters.len(), stacks)?)
 }
 
+/// The stacks without the place of an inspection's subject.
+fn stacks_converted(tables: &DataTables, index: InspectionIndex, stacks: Stacks) -> Option<Stacks>
+    ensures { result ≡ spec.stacks_converted tables.now index stacks }
+{
+    let _ = inspection(tables, index)?;
+    without_place(stacks)
+}
+
 /// The stacks after bytes were laid over others, where both texts are there.
 fn stacks_overlaid(tables: &DataTables, text: TextIndex, stacks: Stacks) -> Option<Stacks>
     ensures { result ≡ spec.with_text tables.now text.number
@@ -481,6 +489,9 @@ fn stacks_after(
         DataInstruction::String { pointer } => Ok(without_receiver(pointer, stacks)),
         DataInstruction::Inspect { inspection } => {
             Ok(stacks_inspected(tables, inspection, stacks))
+        }
+        DataInstruction::Convert { inspection } => {
+            Ok(stacks_converted(tables, inspection, stacks))
         }
         DataInstruction::ClearTruth
         | DataInstruction::TakeLiteral { .. }
@@ -561,7 +572,9 @@ fn line_after(
             Gather::Bytes | Gather::UpToPlace | Gather::UpToText { .. } | Gather::Sized,
         ) => longer_by_item(tables, newest, line),
         DataInstruction::String { .. } => Ok(Some(0)),
-        DataInstruction::Inspect { inspection } => Ok(line_inspected(tables, inspection, line)),
+        DataInstruction::Inspect { inspection } | DataInstruction::Convert { inspection } => {
+            Ok(line_inspected(tables, inspection, line))
+        }
         _ => Ok(Some(line)),
     }
 }

@@ -60,6 +60,9 @@ pub enum DataInstruction {
     /// Nucleus, "The INSPECT statement") with the texts in the line, cut or padded with spaces to their size. The line is empty then.
     /// Fault 90 where a counter holds no number.
     Inspect { inspection: InspectionIndex },
+    /// Takes the place of an inspection's subject, and does what INSPECT CONVERTING does there by the first entry of REPLACING, with
+    /// the texts in the line, cut or padded with spaces to their size. The line is empty then.
+    Convert { inspection: InspectionIndex },
 }
 
 // Code is read in order, so an instruction has few bytes.

@@ -27,7 +27,7 @@ impl DataInstruction {
             DataInstruction::Test(test) => tests_entries(test, tables),
             DataInstruction::Overlay { text } => text.number as usize + 1 < tables.texts.len(),
             DataInstruction::Gather(one) => gathers_entries(one, tables),
-            DataInstruction::Inspect { inspection } => {
+            DataInstruction::Inspect { inspection } | DataInstruction::Convert { inspection } => {
                 (inspection.number as usize) < tables.inspections.len()
             }
             _ => true,

@@ -4,7 +4,9 @@ ghost use Rattle.std.specs.Prelude.{List};
 ghost use Rattle.data_instructions.specs.Tables.{IsTables};
 ghost use Rattle.data_instructions.specs.Chains.{KnowsDisplay};
 ghost use Rattle.data_instructions.specs.TextCodes.{AreInitializedCode, AreSetCode, AreSendingsCode, IsStringCode, DoesInitialize, DoesSet, DoesSend, DoesString, LieEach, LieConditions, LieSendings, LiesString, KnowsAll, KnowsString};
-ghost use Rattle.data_instructions.specs.InspectCodes.{IsInspectCode, DoesInspect, LiesInspect, KnowsInspect};
+ghost use Rattle.data_instructions.specs.InspectCodes.{IsInspectCode, DoesInspect, LiesInspect, KnowsInspect, IsConvertCode, DoesConvert};
+ghost use Rattle.source_tree.specs.Converting.{as_replacing};
+ghost use Rattle.source_tree.specs.declared.inspect_statement.Converting.{Converting};
 ghost use Rattle.source_tree.specs.declared.inspect_statement.InspectStatement.{InspectStatement};
 ghost use Rattle.source_tree.specs.InspectLayout.{HasKnownTexts};
 ghost use Rattle.source_tree.specs.Places.{LocatedItem};
@@ -35,6 +37,9 @@ pub fn text_law()
     ensures inspects { (items : List LocatedItem) (tables : DataTables) (one : InspectStatement)
         (code : List DataInstruction) → IsTables tables → HasKnownTexts items one
         → IsInspectCode items tables one code → DoesInspect items tables one code }
+    ensures converts { (items : List LocatedItem) (tables : DataTables) (one : Converting)
+        (code : List DataInstruction) → IsTables tables → HasKnownTexts items (as_replacing one)
+        → IsConvertCode items tables one code → DoesConvert items tables one code }
     ensures knows_initialize { (items : List LocatedItem)
         (tables : DataTables) (receivers : List Reference) (code : List DataInstruction)
         → AreInitializedCode items tables receivers code → LieEach items tables receivers
@@ -52,4 +57,7 @@ pub fn text_law()
     ensures knows_inspect { (items : List LocatedItem) (tables : DataTables)
         (one : InspectStatement) (code : List DataInstruction) → IsInspectCode items tables one code
         → LiesInspect items tables one → KnowsInspect items tables code }
+    ensures knows_convert { (items : List LocatedItem) (tables : DataTables) (one : Converting)
+        (code : List DataInstruction) → IsConvertCode items tables one code
+        → LiesInspect items tables (as_replacing one) → KnowsInspect items tables code }
 {}

@@ -152,6 +152,7 @@ impl Data {
             DataInstruction::Part(one) => self.part(tables, one),
             DataInstruction::String { pointer } => self.string(tables, pointer),
             DataInstruction::Inspect { inspection } => self.inspect(tables, inspection),
+            DataInstruction::Convert { inspection } => self.convert(tables, inspection),
         }
     }
 }

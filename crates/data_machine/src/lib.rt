@@ -5,6 +5,7 @@
 mod areas;
 mod buffer;
 mod calculating;
+mod converting;
 mod data;
 mod fitting;
 mod gathering;

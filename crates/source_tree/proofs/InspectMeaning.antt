@@ -66,7 +66,7 @@ counts_same (one ∷ more) count from k e =
 abbrev both : InspectTaken → InspectTaken → InspectTaken
 both a b = record { counters = a.counters ++ b.counters; texts = a.texts ++ b.texts }
 
-abbrev only : List ℕ → InspectTaken
+abbrev pub only : List ℕ → InspectTaken
 only texts = record { counters = []; texts = texts }
 
 counter_before : (p : Evaluation ItemPlace) (u v : Evaluation InspectTaken)
@@ -122,7 +122,7 @@ module _ (items : List LocatedItem) (storage : Storage) where
       ap (λ (r : Evaluation InspectTaken). r >>= (λ t. okay (with_text text t))) (take_append xs ys)
       ∙ text_before text (take_each items xs storage) (take_each items ys storage)
 
-  only_texts : (texts : List Source)
+  pub only_texts : (texts : List Source)
       → take_each items (map Text texts) storage ≡ read_all items storage texts >>= (λ a. Ok (only a))
   only_texts [] = refl
   only_texts (Bytes one ∷ more) =
@@ -140,7 +140,7 @@ module _ (items : List LocatedItem) (storage : Storage) where
   entries_long [] texts at = refl
   entries_long (one ∷ more) texts at = ap suc (entries_long more texts (at + text_sizes items (entry_texts one)))
 
-  abbrev EntriesRead : List InspectEntry → List ℕ → List TextEntry → Type 0
+  abbrev pub EntriesRead : List InspectEntry → List ℕ → List TextEntry → Type 0
   EntriesRead all bytes entries = Reads (List TextEntry) (text_sizes items (entries_texts all)) bytes
       (entries_in items storage all) entries
 
@@ -198,7 +198,7 @@ module _ (items : List LocatedItem) (storage : Storage) where
         (meaning.all_entries y) h k.entries;
   }
 
-  known_texts : (texts : List Source) → AllByRecursion (IsOfKnownSize items) (map Text texts) → AreKnown items texts
+  pub known_texts : (texts : List Source) → AllByRecursion (IsOfKnownSize items) (map Text texts) → AreKnown items texts
   known_texts [] h = tt
   known_texts (one ∷ more) h = (h.0, known_texts more h.1)
 

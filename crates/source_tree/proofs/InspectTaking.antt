@@ -520,7 +520,7 @@ module _ (items : List LocatedItem) (storage : Storage) where
       (takes_by size by known.0)
       (λ found is. with_limits pattern found one known.1)
 
-  takes_replaced_text : (kind : Occurrences) (one : ReplacedText)
+  pub takes_replaced_text : (kind : Occurrences) (one : ReplacedText)
       → (let text = source one.text in
       AreKnown items (text ∷ replacing_text (text_size items text) one.by ∷ limit_texts one.limits))
       → TakesEntries (replaced_text items kind one ∷ []) (take_replaced_text items storage kind one)

@@ -25,6 +25,7 @@ pub mod InspectTaking
 pub mod Parts
 pub mod InspectMeaning
 pub mod InspectKept
+pub mod InspectConverting
 pub mod InspectExamples
 pub mod DataExamples
 pub mod UntilExamples

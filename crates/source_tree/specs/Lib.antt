@@ -50,6 +50,7 @@ pub mod ConditionRules
 pub mod SettingRules
 pub mod StringRules
 pub mod InspectRules
+pub mod Converting
 pub mod EvaluateRules
 pub mod PerformRules
 pub mod FileRules

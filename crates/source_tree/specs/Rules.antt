@@ -6,7 +6,7 @@ use Rattle.source_tree.specs.declared.name.Name.{Name}
 use Rattle.source_tree.specs.declared.data_statement.DataStatement.{DataStatement}
 use Rattle.source_tree.specs.declared.data_statement.DataStatement.TheVariants.{Move, Initialize, Set}
 use Rattle.source_tree.specs.declared.text_statement.TextStatement.{TextStatement}
-use Rattle.source_tree.specs.declared.text_statement.TextStatement.TheVariants.{Display, Accept, AcceptDate, Inspect}
+use Rattle.source_tree.specs.declared.text_statement.TextStatement.TheVariants.{Display, Accept, AcceptDate, Inspect, Convert}
 use Rattle.source_tree.specs.declared.phrases.Phrases.{Phrases}
 use Rattle.source_tree.specs.declared.arithmetic.Arithmetic.{Arithmetic}
 use Rattle.source_tree.specs.declared.perform_statement.Repetition.{Repetition}
@@ -38,6 +38,7 @@ use Rattle.source_tree.specs.ConditionRules.{condition_rules, until_rules}
 use Rattle.source_tree.specs.SettingRules.{initialize_rules, set_rules}
 use Rattle.source_tree.specs.StringRules.{string_rules}
 use Rattle.source_tree.specs.InspectRules.{inspect_rules}
+use Rattle.source_tree.specs.Converting.{convert_rules}
 use Rattle.source_tree.specs.Records.{program_items}
 use Rattle.source_tree.specs.FileRules.{program_file_rules}
 use Rattle.source_tree.specs.FilingRules.{filing_rules}
@@ -60,6 +61,7 @@ text_rules items (Display operands advancing) = display_rules items operands
 text_rules items (Accept receiver) = accept_line_rules items receiver
 text_rules items (AcceptDate receiver) = accept_date_rules items receiver
 text_rules items (Inspect one) = inspect_rules items one
+text_rules items (Convert one) = convert_rules items one
 
 -- A phrase that is absent breaks none; `inside` has the rules of the statements in one.
 abbrev pub phrase_rules : {S : Type 0} → (S → List RuleBreach) → Option (List S) → List RuleBreach

@@ -11,6 +11,7 @@ ghost use Rattle.source_tree.specs.declared.condition.Side.TheVariants as side;
 ghost use Rattle.source_tree.specs.declared.literal.Figurative.TheVariants as figurative;
 ghost use Rattle.source_tree.specs.declared.literal.LiteralValue.TheVariants as literal;
 ghost use Rattle.source_tree.specs.declared.file_statement.StartKey.{StartKey};
+ghost use Rattle.source_tree.specs.declared.inspect_statement.Converting.{Converting};
 ghost use Rattle.source_tree.specs.declared.inspect_statement.InspectStatement.{InspectStatement};
 ghost use Rattle.source_tree.specs.declared.literal.Integer.{Integer};
 ghost use Rattle.source_tree.specs.declared.program.Program.{Program};
@@ -20,6 +21,7 @@ ghost use Rattle.source_tree.specs.declared.statement.Statement.{Statement};
 ghost use Rattle.source_tree.specs.ConditionRules.{is_literal_alone};
 ghost use Rattle.source_tree.specs.Conditions.{without_value, alone_side, holds};
 ghost use Rattle.source_tree.specs.Evaluate.{Value, take_resolved};
+ghost use Rattle.source_tree.specs.Converting.{as_replacing, convert, convert_by_spans, convert_rules};
 ghost use Rattle.source_tree.specs.Filing.{read_verb, start_verb};
 ghost use Rattle.source_tree.specs.Given.{RunInput, with_budget};
 ghost use Rattle.source_tree.specs.InspectLayout.{takings, HasKnownTexts, HasNoPart, inspect_by_spans};
@@ -124,6 +126,16 @@ pub fn inspect_law()
         → HasKnownTexts items one → inspect items one storage ≡ inspect_by_spans items one storage }
     ensures known { (items : List LocatedItem) (one : InspectStatement)
         → AllByRecursion HasNoPart (takings items one) → HasKnownTexts items one }
+{}
+
+/// Where CONVERTING keeps its rules, each item has a byte or more, and the size of each text is known before a run, it does what
+/// an entry does that has spans of its texts joined, whatever is in storage.
+pub fn converting_law()
+    ensures spans { (items : List LocatedItem)
+        → ((n : ℕ) (item : LocatedItem) → slice_get items n ≡ Some item → 1 ≤ item.item.length)
+        → (one : Converting) (storage : Storage) → convert_rules items one ≡ []
+        → HasKnownTexts items (as_replacing one)
+        → convert items one storage ≡ convert_by_spans items one storage }
 {}
 
 /// A reference without a part is what its item is: it means the same item, at the same place, with the same rules of its

@@ -14,8 +14,11 @@ use Rattle.source_tree.specs.declared.inspect_statement.Tallying.{Tallying}
 use Rattle.source_tree.specs.declared.inspect_statement.ReplacedText.{ReplacedText}
 use Rattle.source_tree.specs.declared.inspect_statement.Replacing.{Replacing}
 use Rattle.source_tree.specs.declared.inspect_statement.Replacing.TheVariants as replacing_as
+use Rattle.source_tree.specs.declared.inspect_statement.Converting.{Converting}
 use Rattle.source_tree.specs.declared.inspect_statement.InspectStatement.{InspectStatement}
+use Rattle.source_tree.specs.declared.text_statement.TextStatement.{TextStatement}
 use Rattle.source_tree.specs.declared.text_statement.TextStatement.TheVariants as text_as
+use Rattle.source_tree.specs.declared.reference.Reference.{Reference}
 use Rattle.source_tree.specs.declared.statement.Verb.{Verb}
 use Rattle.source_tree.specs.declared.statement.Verb.TheVariants as verb
 use Rattle.source_tree.specs.declared.statement.Statement.{Statement}
@@ -114,6 +117,14 @@ phrases (one ∷ more) all = tallying_phrase (one ∷ more) then perhaps_replaci
 abbrev pub inspect_statement : InspectStatement → Part
 inspect_statement one = word w.Inspect then reference one.subject then phrases one.tallying one.replacing
 
+-- CONVERTING x TO x bd
+abbrev pub converted_texts : ReplacedText → Part
+converted_texts one = word w.Converting then text one.text then word w.To then text one.by then limit_phrases one.limits
+
+-- INSPECT d CONVERTING x TO x bd (COBOL-85, Nucleus, "The INSPECT statement")
+abbrev pub convert_statement : Converting → Part
+convert_statement one = word w.Inspect then reference one.subject then converted_texts one.texts
+
 -- ---- reading TALLYING
 
 abbrev pub begins_tallied_text : List Token → Bool
@@ -206,9 +217,32 @@ uncounted_reader = do
 unfoldable pub phrases_reader : Parser (List Tallying × List Replacing)
 phrases_reader i = if begins_word w.Tallying i then counted_reader i else uncounted_reader i
 
+unfoldable pub converted_texts_reader : Parser ReplacedText
+converted_texts_reader = do
+  expect w.Converting
+  one ← text_reader
+  expect w.To
+  by ← text_reader
+  limits ← limits_reader
+  pure (record { text = one; by = by; limits = limits })
+
+-- behind the subject
+unfoldable pub convert_of : Reference → Parser TextStatement
+convert_of subject = do
+  texts ← converted_texts_reader
+  pure (text_as.Convert (record { subject = subject; texts = texts }))
+
+unfoldable pub phrases_of : Reference → Parser TextStatement
+phrases_of subject = do
+  both ← phrases_reader
+  pure (text_as.Inspect (record { subject = subject; tallying = both.0; replacing = both.1 }))
+
+unfoldable pub inspected_of : Reference → Parser TextStatement
+inspected_of subject i = if begins_word w.Converting i then convert_of subject i else phrases_of subject i
+
 unfoldable pub inspect_reader : Parser (Verb Statement)
 inspect_reader = do
   expect w.Inspect
   subject ← reference_reader
-  both ← phrases_reader
-  pure (verb.TextStatement (text_as.Inspect (record { subject = subject; tallying = both.0; replacing = both.1 })))
+  one ← inspected_of subject
+  pure (verb.TextStatement one)

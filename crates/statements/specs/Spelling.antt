@@ -41,6 +41,7 @@ text_line (text.Display operands advancing) = display operands advancing
 text_line (text.Accept receiver) = accept_statement receiver true
 text_line (text.AcceptDate receiver) = accept_statement receiver false
 text_line (text.Inspect one) = inspect_statement one
+text_line (text.Convert one) = convert_statement one
 
 abbrev pub ending_line : ControlStatement → Part
 ending_line ending.StopRun = stop_run

@@ -50,7 +50,8 @@ fn end_before(texts: &[u8], before: Option<Span>, subject: &[u8]) -> usize
     first_place(span.of(texts), subject).unwrap_or(subject.len())
 }
 
-fn begun(texts: &[u8], subject: &[u8], entry: Entry) -> Progress
+/// An entry at the start, with its places found in the subject.
+pub fn begun(texts: &[u8], subject: &[u8], entry: Entry) -> Progress
     requires { IsEntry (length texts.now) entry }
     ensures { result ≡ spec.initial_progress texts.now subject.now entry }
 {

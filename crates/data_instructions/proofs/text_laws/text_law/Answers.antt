@@ -1,7 +1,7 @@
 use Rattle.data_instructions.proofs.TextCodes.{initialize_works, set_works, sendings_work, string_works}
 use Rattle.data_instructions.proofs.TextChains.{initialize_known, set_known, sendings_known, string_known}
-use Rattle.data_instructions.proofs.InspectCodes.{inspect_does}
-use Rattle.data_instructions.proofs.InspectChains.{inspect_leaves}
+use Rattle.data_instructions.proofs.InspectCodes.{inspect_does, convert_does}
+use Rattle.data_instructions.proofs.InspectChains.{inspect_leaves, convert_leaves}
 use Rattle.data_instructions.proofs.text_laws.text_law.Goals as goal
 
 pub returns-clause-initializes : goal.returns-clause-initializes
@@ -34,3 +34,9 @@ returns-clause-inspects c = λ items tables one code order sized is. inspect_doe
 
 pub returns-clause-knows_inspect : goal.returns-clause-knows_inspect
 returns-clause-knows_inspect c = inspect_leaves
+
+pub returns-clause-converts : goal.returns-clause-converts
+returns-clause-converts c = λ items tables one code order sized is. convert_does items tables order one code sized is
+
+pub returns-clause-knows_convert : goal.returns-clause-knows_convert
+returns-clause-knows_convert c = convert_leaves
