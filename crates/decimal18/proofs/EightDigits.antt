@@ -314,7 +314,7 @@ eight_joined d (a ∷ b ∷ c ∷ e ∷ f ∷ g ∷ []) size all is = absurd (om
 eight_joined d (a ∷ b ∷ c ∷ e ∷ f ∷ g ∷ h ∷ []) size all is = absurd (omega arith)
 eight_joined d (a ∷ b ∷ c ∷ e ∷ f ∷ g ∷ h ∷ i ∷ j ∷ more) size all is = absurd (omega arith)
 
--- ---- the two tests of the code, and what it answers
+-- ---- what bytes that pass a test of zeros and one of halves are
 
 -- The word is that of eight bytes.
 pub record IsWord (word : ℕ) (cs : List ℕ) : Type 0 where
@@ -331,20 +331,13 @@ word_read word cs e size fits =
       fits = below_from (2 ^ 8) cs fits;
     }
 
-none_unless : (b : Bool) (n : ℕ) → (b ≡ true → ⊥) → None ≡ (if b then Some n else None)
+pub none_unless : (b : Bool) (n : ℕ) → (b ≡ true → ⊥) → None ≡ (if b then Some n else None)
 none_unless true n h = absurd (h refl)
 none_unless false n h = refl
 
 some_where : (b : Bool) (n m : ℕ) → b ≡ true → m ≡ n → Some m ≡ (if b then Some n else None)
 some_where true n m h e = ap Some e
 some_where false n m h e = cc
-
-pub no_zeros : (word : ℕ) (cs : List ℕ) → IsWord word cs → (bit_and word 17361641481138401520 ≡ 3472328296227680304 → ⊥)
-    → None ≡ number_after 0 cs
-no_zeros word cs w fails =
-    none_unless (list_all is_ascii_digit cs) (digits_after 0 cs) (λ all.
-    fails (ap (λ t. bit_and t 17361641481138401520) w.is
-    ∙ subst (λ n. bit_and (lanes 8 cs) (each 8 n 240) ≡ each 8 n 48) w.size (digits_pass_first cs w.fits all)))
 
 high_bytes : (word : ℕ) (cs : List ℕ) → IsWord word cs → bit_and word 17361641481138401520 ≡ 3472328296227680304
     → AllHigh cs
@@ -366,14 +359,6 @@ more_in word cs w high =
     let six : lanes 8 (more_of cs) ≡ lanes 8 (values_of cs) + each 8 8 6 =
     subst (λ n. lanes 8 (more_of cs) ≡ lanes 8 (values_of cs) + each 8 n 6) w.size (six_more cs) in
     ap (λ t. t + 434041037028460038) (values_in word cs w high) ∙ sym six
-
-pub no_halves : (word : ℕ) (cs : List ℕ) → IsWord word cs → bit_and word 17361641481138401520 ≡ 3472328296227680304
-    → (bit_and (word - 3472328296227680304 + 434041037028460038) 17361641481138401520 ≡ 0 → ⊥)
-    → None ≡ number_after 0 cs
-no_halves word cs w passes fails =
-    none_unless (list_all is_ascii_digit cs) (digits_after 0 cs) (λ all.
-    fails (ap (λ t. bit_and t 17361641481138401520) (more_in word cs w (high_bytes word cs w passes))
-    ∙ subst (λ n. bit_and (lanes 8 (more_of cs)) (each 8 n 240) ≡ 0) w.size (digits_pass_second cs all)))
 
 pub are_eight : (word : ℕ) (cs : List ℕ) → IsWord word cs → bit_and word 17361641481138401520 ≡ 3472328296227680304
     → bit_and (word - 3472328296227680304 + 434041037028460038) 17361641481138401520 ≡ 0

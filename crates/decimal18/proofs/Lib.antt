@@ -4,6 +4,7 @@ pub mod DigitRunParts
 pub mod DigitRuns
 pub mod DigitTexts
 pub mod EightDigits
+pub mod EightDigitsTest
 pub mod Examples
 pub mod Greatest
 pub mod Halves
