@@ -443,7 +443,7 @@ fn volumes_that_are_damaged(rt: HostRuntime) -> Result<(), Fail> {
             ("run damaged/I damaged/V", 0, "00\n", ""),
         ],
     )?;
-    // Bytes behind the last whole sector are no part of a volume.
+    // Bytes after the last whole sector are no part of a volume.
     set_len(&rt, "damaged/V", 4_194_307)?;
     expect(
         &rt,

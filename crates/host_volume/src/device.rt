@@ -1,7 +1,7 @@
 //! A device over a volume of the host. It counts its failures and claims nothing more.
 //!
-//! Writes to adjacent sectors behind the roots are gathered, and given to the host by one call: when a write isn't adjacent, at a read, at
-//! a sync, and when the volume is asked for. So the host sees the same writes in the same order, and each of them before the sync behind
+//! Writes to adjacent sectors after the roots are gathered, and given to the host by one call: when a write isn't adjacent, at a read, at
+//! a sync, and when the volume is asked for. So the host sees the same writes in the same order, and each of them before the sync after
 //! it.
 
 ghost use Rattle.std.specs.Prelude.{◌≡◌, [], IfOk, OnOk};
@@ -51,8 +51,8 @@ impl HostDevice {
         device
     }
 
-    /// The volume without the count of failures. What was gathered is written, and after a sync the roots that wait: the one that was
-    /// written last, and after a sync the other one, which isn't synced yet. It fails if the host refuses that.
+    /// The volume without the count of failures. What was gathered is written, and after a sync the roots that wait: the newest
+    /// one, and after a sync the other one, which isn't synced yet. It fails if the host refuses that.
     pub fn into_volume(mut self) -> Result<HostVolume, DeviceError>
         ensures { IfOk result (λ volume. volume ≡ volume_of self) }
     {
@@ -98,7 +98,7 @@ impl HostDevice {
         Ok(())
     }
 
-    /// Gives the host what was gathered, unless a sector has its place behind it.
+    /// Gives the host what was gathered, unless a sector has its place after it.
     fn make_place_for(&mut self, sector: u32) -> Result<(), DeviceError>
         ensures volume { volume_of self.new ≡ volume_of self.old }
         ensures failures { CountsFailure result (failure_count self.old) (failure_count self.new) }

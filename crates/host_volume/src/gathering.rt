@@ -10,7 +10,7 @@ const SECTOR: usize = 4096;
 /// No more than so many bytes are gathered: 64 sectors.
 const MOST_BYTES: usize = 64 * SECTOR;
 
-/// Sectors from the first one on, one behind the other. Their bytes wait for the host.
+/// Sectors from the first one on, one after the other. Their bytes wait for the host.
 #[derive(Drop)]
 pub(crate) struct GatheredWrites {
     pub first: u32,
@@ -29,7 +29,7 @@ impl GatheredWrites {
         }
     }
 
-    /// Whether a sector has its place behind the others, or is the first one.
+    /// Whether a sector has its place after the others, or is the first one.
     pub(crate) fn has_place_for(&self, sector: u32) -> bool
         ensures { result ≡ true → FollowsBytes self.now.first self.now.bytes.items sector }
     {
@@ -40,7 +40,7 @@ impl GatheredWrites {
         count < MOST_BYTES && sector as usize * SECTOR == self.first as usize * SECTOR + count
     }
 
-    /// Puts a sector behind the others.
+    /// Puts a sector after the others.
     pub(crate) fn add(&mut self, sector: u32, bytes: &[u8; 4096]) -> Result<(), AllocError>
         requires { FollowsBytes self.old.first self.old.bytes.items sector }
         ensures bytes { OnOk result (self.new.bytes.items ≡ self.old.bytes.items ++ bytes.now) }

@@ -95,7 +95,7 @@ fn openings_that_write(rt: HostRuntime) -> Result<(), Fail> {
     Ok(())
 }
 
-/// A volume has the whole sectors of its file. What is behind them is neither read nor written.
+/// A volume has the whole sectors of its file. What is after them is neither read nor written.
 #[test]
 fn sectors_of_a_file(rt: HostRuntime) -> Result<(), Fail> {
     let _file = File::create(&rt, "length.V")?;

@@ -10,3 +10,4 @@ pub mod LinesAdded
 pub mod LoadsOfVolumes
 pub mod Unloads
 pub mod LoadedAgain
+pub mod Publishing

@@ -31,7 +31,7 @@ impl Seen {
     }
 }
 
-/// The words of a line, behind the program's name.
+/// The words of a line, after the program's name.
 pub fn words_of(alloc: Global, line: &str) -> Result<Vec<String>, AllocError> {
     let mut words = Vec::new(alloc);
     words.push("cobol".to_string(alloc)?)?;

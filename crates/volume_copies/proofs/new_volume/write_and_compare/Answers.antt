@@ -4,7 +4,7 @@ use Rattle.file_bytes.specs.Stored.{files_of}
 use Rattle.file_recovery.specs.Recovered.{HoldsFiles}
 use Rattle.volume_copies.specs.Same.{AreSameFiles}
 use Rattle.volume_copies.proofs.Durable.{synced_holds, synced_volume}
-use Rattle.volume_copies.proofs.copy_command.copy_files.Goals as goal
+use Rattle.volume_copies.proofs.new_volume.write_and_compare.Goals as goal
 
 pub returns-then-branch-clause-copied : goal.returns-then-branch-clause-copied
 returns-then-branch-clause-copied g c = λ honest done.

@@ -1,6 +1,6 @@
 use Rattle.std.proofs.Common.{◌≡◌}
 use Rattle.volume_copies.specs.Copied.{KeepsDevice}
-use Rattle.volume_copies.proofs.copy_command.write_each.Given as goal
+use Rattle.volume_copies.proofs.new_volume.write_each.Given as goal
 
 abbrev pub invariant-loop-file : goal.invariant-loop-file
 invariant-loop-file g l =

@@ -1,6 +1,6 @@
 use Rattle.std.proofs.Common.{inr}
 use Rattle.volume_copies.proofs.Keeping.{keeps_then, keeps_done}
-use Rattle.volume_copies.proofs.copy_command.write_files.Goals as goal
+use Rattle.volume_copies.proofs.new_volume.write_files.Goals as goal
 
 pub returns : goal.returns
 returns g c =

@@ -1,0 +1,4 @@
+pub mod Inversion
+pub mod Hiding
+pub mod RootMoments
+pub mod NoRoots
