@@ -239,7 +239,7 @@ module _ {T E : Type 0} (old now new : Performs) (procedures : List Procedure) (
       (adds_within number (phrase_performs (statement_performs procedures) first)
       (phrase_performs (statement_performs procedures) second) before.added more.added)) after
 
--- a phrase behind others
+-- a phrase after others
 pub adds_behind : {T E : Type 0} (old now new : Performs) (procedures : List Procedure) (number : ℕ) (rest : Result T E)
     (first : List Performance) (second : Option (List Statement))
     → AppendsPerforms old now (in_paragraph number first) → OnOk rest (AddsPhrase procedures number now new second)

@@ -58,7 +58,7 @@ no_size place [] broken h part = refl
 no_size place (one ∷ []) broken h part = let no : ◌≡◌ {A = Option RuleBreach} None (Some broken) = h (λ found. []) in cc
 no_size place (one ∷ other ∷ more) broken h part = refl
 
--- ---- behind rules that are kept
+-- ---- after rules that are kept
 
 pub kept_before : {A : Type 0} (result : Result A BrokenRule) (xs ys : List RuleBreach) → xs ≡ []
     → IsFirstBreach result ys → IsFirstBreach result (xs ++ ys)
@@ -113,7 +113,7 @@ pub record_seen : {S : Type 0} (items : List LocatedItem) (files : List ProgramF
 record_seen items files phrases place None found = refl
 record_seen items files phrases place (Some part) found = refl
 
--- ---- what is asked of the item of a key behind 75
+-- ---- what is asked of the item of a key after 75
 
 module _ (place : Place) (asked : LocatedItem → List RuleBreach) (key : Reference) (found : List LocatedItem)
     (one : LocatedItem) (only : found ≡ one ∷ []) where

@@ -388,7 +388,7 @@ collected_ranges program declared all count declares kept h =
     (subst (All (IsRange (length (paragraphs program)))) same
     (performed_ranges (scope_in declared) program.sections declares.procedures kept))
 
--- a number behind each
+-- a number after each
 pub ranges_end : (count : ℕ) (ranges : List PerformedRange) → count < 2 ^ 64 → All (IsRange count) ranges
     → All HasNext ranges
 ranges_end count ranges fits h k d lt = let last = (h k d lt).last in omega arith

@@ -27,7 +27,7 @@ operands_rules items (DivideGiving first order second receivers) = number_rules 
 operands_rules items (DivideRemainder first order second quotient remainder) = number_rules items first ++ number_rules items second
 operands_rules items (Compute receivers value) = []
 
--- The receivers, and what stands behind them.
+-- The receivers, and what follows them.
 abbrev pub receivers_rules : List LocatedItem → Operation → List RuleBreach
 receivers_rules items (Add operands receivers) = updated_rules items receivers
 receivers_rules items (AddGiving operands receivers) = given_rules items receivers

@@ -12,7 +12,7 @@ use Rattle.check_rules.specs.declared.performs.Performs.{Performs}
 abbrev pub in_paragraph : ℕ → List Performance → List (Place × PerformedRange)
 in_paragraph number = map (by_paragraph number)
 
--- These stand behind the others.
+-- These follow the others.
 pub record AppendsPerforms (old new : Performs) (more : List (Place × PerformedRange)) : Type 0 where
   pub places : new.places.items ≡ old.places.items ++ map (λ one. one.0) more
   pub ranges : new.ranges.items ≡ old.ranges.items ++ map (λ one. one.1) more
@@ -24,7 +24,7 @@ pub record PerformsWithin (among : ℕ → Bool) (one : PerformedRange) : Type 0
   pub within : IsIn one other
   pub marked : among other ≡ true
 
--- a paragraph behind the last one has a number
+-- a paragraph after the last one has a number
 abbrev pub HasNext : PerformedRange → Type 0
 HasNext one = one.last + 1 < 2 ^ 64
 

@@ -34,7 +34,7 @@ impl<'a> Checker<'a> {
         self.results_rules(Asked::Numeric, receivers)
     }
 
-    /// Receivers behind GIVING and COMPUTE.
+    /// Receivers after GIVING and COMPUTE.
     fn given_rules(&self, receivers: &[Receiver]) -> Result<(), BrokenRule>
         requires { IsDeclared self.now.declarations.now }
         ensures { IsFirstBreach result
@@ -53,7 +53,7 @@ impl<'a> Checker<'a> {
         self.number_rules(second)
     }
 
-    /// The operands in front of the receivers; those of COMPUTE stand behind them.
+    /// The operands in front of the receivers; those of COMPUTE follow them.
     fn operands_rules(&self, one: &Operation) -> Result<(), BrokenRule>
         requires { IsDeclared self.now.declarations.now }
         ensures { IsFirstBreach result
@@ -80,7 +80,7 @@ impl<'a> Checker<'a> {
         }
     }
 
-    /// The receivers, and of COMPUTE the expression behind them.
+    /// The receivers, and of COMPUTE the expression after them.
     fn receivers_of_rules(&self, one: &Operation) -> Result<(), BrokenRule>
         requires { IsDeclared self.now.declarations.now }
         ensures { IsFirstBreach result

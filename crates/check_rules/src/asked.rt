@@ -34,11 +34,11 @@ pub enum Asked {
     SendsText,
     /// It takes the characters of STRING: it is a group, or alphabetic or alphanumeric without JUSTIFIED.
     ReceivesText,
-    /// It is an integer that holds the place behind so many bytes.
+    /// It is an integer that holds the place after so many bytes.
     Points(u32),
 }
 
-/// The first powers of ten; those behind them are above all numbers of 32 bits.
+/// The first powers of ten; those after them are above all numbers of 32 bits.
 const POWERS: [u64; 10] = [
     1,
     10,
@@ -52,7 +52,7 @@ const POWERS: [u64; 10] = [
     1_000_000_000,
 ];
 
-/// So many digits hold the place behind so many bytes.
+/// So many digits hold the place after so many bytes.
 fn has_room(size: u32, digits: u8) -> bool
     ensures { result ≡ nat_lt (size + 1) (10 ^ digits) }
 {

@@ -60,7 +60,7 @@ impl<'a> Checker<'a> {
         }
     }
 
-    /// Operands behind operators, in order.
+    /// Operands after operators, in order.
     #[cycle(expression)]
     fn further_rules(&self, all: &[(Operator, Expression)]) -> Result<(), BrokenRule>
         requires { IsDeclared self.now.declarations.now }

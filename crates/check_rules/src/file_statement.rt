@@ -365,7 +365,7 @@ impl<'a> Checker<'a> {
     }
 }
 
-/// =, > and >=, and < behind NOT, which START permits.
+/// =, > and >=, and < after NOT, which START permits.
 fn is_start_operator(one: RelationalOperator) -> bool
     ensures { result ≡ spec.is_start_operator one }
 {

@@ -1,4 +1,4 @@
-//! The rules of INSPECT: 64 operands of another kind, texts of unknown size and replacing texts of another size, besides those of
+//! The rules of INSPECT: 64 operands of another kind, replacing texts of unknown or another size, besides those of
 //! references and literals (COBOL-85, Nucleus, "The INSPECT statement").
 
 ghost use Rattle.std.specs.Prelude.{◌≡◌, [], length};
@@ -6,6 +6,7 @@ ghost use Rattle.entry_rules.specs.Checks.{IsFirstBreach};
 ghost use Rattle.source_tree.specs.Broken.{each};
 ghost use Rattle.source_tree.specs.Display.{shown_literal};
 ghost use Rattle.source_tree.specs.LookUp.{items_named};
+ghost use Rattle.source_tree.specs.Converting.{convert_rules};
 ghost use Rattle.source_tree.specs.InspectRules as spec;
 ghost use Rattle.check_rules.specs.TextSizes.{text_size_of};
 ghost use Rattle.declarations.specs.Named.{IsDeclared, items_in};
@@ -17,8 +18,8 @@ use crate::sides::operand_place;
 use crate::text_size::TextSize;
 use entry_rules::{BrokenRule, Rule};
 use source_tree::{
-    InspectStatement, Limits, Literal, LiteralValue, Operand, Reference, ReplacedText, Replacing,
-    Tallied, TalliedText, Tallying,
+    Converting, InspectStatement, Limits, Literal, LiteralValue, Operand, Reference, ReplacedText,
+    Replacing, Tallied, TalliedText, Tallying,
 };
 
 impl<'a> Checker<'a> {
@@ -71,17 +72,6 @@ impl<'a> Checker<'a> {
         }
     }
 
-    /// A text that is counted or replaced, or that limits: its size is known before the run.
-    fn known_text_rules(&self, one: &Operand) -> Result<(), BrokenRule>
-        requires { IsDeclared self.now.declarations.now }
-        ensures { IsFirstBreach result
-            (spec.known_text_rules (items_in self.now.declarations.now) one.now) }
-    {
-        self.inspected_rules(one)?;
-        let size = self.size_of(one);
-        Rule::InspectOperand.broken_if(size.is_unknown(), operand_place(one))
-    }
-
     /// What replaces a text of that size.
     fn by_rules(&self, size: TextSize, by: &Operand) -> Result<(), BrokenRule>
         requires { IsDeclared self.now.declarations.now }
@@ -100,7 +90,7 @@ impl<'a> Checker<'a> {
     {
         match one {
             None => Ok(()),
-            Some(one) => self.known_text_rules(one),
+            Some(one) => self.inspected_rules(one),
         }
     }
 
@@ -135,7 +125,7 @@ impl<'a> Checker<'a> {
         ensures { IsFirstBreach result
             (spec.tallied_text_rules (items_in self.now.declarations.now) one.now) }
     {
-        self.known_text_rules(&one.text)?;
+        self.inspected_rules(&one.text)?;
         self.limits_rules(&one.limits)
     }
 
@@ -198,7 +188,7 @@ impl<'a> Checker<'a> {
         ensures { IsFirstBreach result
             (spec.replaced_text_rules (items_in self.now.declarations.now) one.now) }
     {
-        self.known_text_rules(&one.text)?;
+        self.inspected_rules(&one.text)?;
         self.by_rules(self.size_of(&one.text), &one.by)?;
         self.limits_rules(&one.limits)
     }
@@ -248,6 +238,17 @@ impl<'a> Checker<'a> {
         self.item_rules(Asked::Inspected, &one.subject)?;
         self.counters_rules(one.tallying.as_slice())?;
         self.all_replacing_rules(one.replacing.as_slice())
+    }
+
+    /// INSPECT CONVERTING: its subject, and the texts, of which the second has the size of the first.
+    pub fn convert_rules(&self, one: &Converting) -> Result<(), BrokenRule>
+        requires { IsDeclared self.now.declarations.now }
+        ensures { IsFirstBreach result
+            (convert_rules (items_in self.now.declarations.now) one.now) }
+    {
+        let subject = &one.subject;
+        self.item_rules(Asked::Inspected, subject)?;
+        self.replaced_text_rules(&one.texts)
     }
 }
 

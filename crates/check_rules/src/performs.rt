@@ -249,7 +249,7 @@ impl<'a> Checker<'a> {
         }
     }
 
-    /// Those of the statements behind WHENs, in order.
+    /// Those of the statements after WHENs, in order.
     #[cycle(performs)]
     fn selections_performs(
         &self,

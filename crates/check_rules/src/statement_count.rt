@@ -153,7 +153,7 @@ fn after_performed(room: Room, performed: &Performed<Statement>) -> Room
     }
 }
 
-/// After those behind the WHENs of an EVALUATE.
+/// After those of the WHENs of an EVALUATE.
 #[cycle(count)]
 fn after_selected(room: Room, all: &[Selected<Statement>]) -> Room
     ensures { result ≡ room_after room (each_place statement_places (spec.in_selected all.now)) }

@@ -45,6 +45,7 @@ impl<'a> Checker<'a> {
             TextStatement::Accept { receiver } => self.accept_line_rules(receiver),
             TextStatement::AcceptDate { receiver } => self.accept_date_rules(receiver),
             TextStatement::Inspect(one) => self.inspect_rules(one),
+            TextStatement::Convert(one) => self.convert_rules(one),
         }
     }
 
@@ -181,7 +182,7 @@ impl<'a> Checker<'a> {
         self.filed_rules(one)
     }
 
-    /// WHENs, and the statements behind them.
+    /// WHENs, and the statements after them.
     #[cycle(statement)]
     fn selected_rules(
         &self,

@@ -49,7 +49,7 @@ impl<'a> Checker<'a> {
         }
     }
 
-    /// Senders, and the delimiter behind them.
+    /// Senders, and the delimiter after them.
     fn sending_rules(&self, one: &Sending) -> Result<(), BrokenRule>
         requires { IsDeclared self.now.declarations.now }
         ensures { IsFirstBreach result

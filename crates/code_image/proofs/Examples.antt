@@ -27,6 +27,8 @@ use Rattle.data_instructions.specs.declared.tables.DataItem.{DataItem}
 use Rattle.data_instructions.specs.declared.tables.DataTables.{DataTables}
 use Rattle.data_instructions.specs.declared.calculation.Calculation.TheVariants as c
 use Rattle.data_instructions.specs.declared.part.Part.TheVariants as part
+use Rattle.data_instructions.specs.declared.gather.Gather.TheVariants as gather
+use Rattle.data_instructions.specs.declared.instruction.DataInstruction.{DataInstruction}
 use Rattle.data_instructions.specs.declared.instruction.DataInstruction.TheVariants as i
 use Rattle.data_instructions.specs.declared.test.Test.TheVariants as t
 use Rattle.data_instructions.specs.Shapes.{empty}
@@ -197,7 +199,7 @@ abbrev number : ℕ → Instruction
 number index = Data (i.Literal (record { number = index }))
 
 -- DIVIDE 1 BY a number GIVING N SIZE ERROR DISPLAY "A" NO ADVANCING NOT SIZE ERROR DISPLAY "B" NO ADVANCING END-DIVIDE,
--- and behind it DISPLAY "C" NO ADVANCING. Each branch and each jump leads behind a `join`.
+-- and after it DISPLAY "C" NO ADVANCING. Each branch and each jump leads after a `join`.
 abbrev dividing_by : ℕ → Code
 dividing_by divisor = record {
   tables = record {
@@ -619,7 +621,7 @@ accepted_from lines =
     act accepting (slice_get accepting.instructions 0)
     (λ p. act accepting (slice_get accepting.instructions p.address) area_told p) (with_lines accepting 1 lines)
 
--- the next line is cut, and those behind it are left
+-- the next line is cut, and those after it are left
 line_cut : accepted_from (codes "HELLO" ∷ codes "X" ∷ [])
     ≡ Some (record { events = map Shown (codes "HEL"); end = Stopped; lines = codes "X" ∷ []; files = [] ∷ [] })
 line_cut = refl
@@ -897,6 +899,42 @@ second_mark = refl
 part_again : code_at (code_bytes with_part) ≡ Ok with_part
 unfolding reading
 part_again = refl
+
+-- so does code with a conversion
+abbrev with_conversion : Code
+with_conversion = record {
+  tables = with_texts [];
+  files = [];
+  starts = [];
+  instructions = Data (i.Convert (record { number = 0 })) ∷ [];
+}
+
+mark_of_a_conversion : take 8 (code_bytes with_conversion) ≡ codes "COBIMG02"
+mark_of_a_conversion = refl
+
+conversion_again : code_at (code_bytes with_conversion) ≡ Ok with_conversion
+unfolding reading
+conversion_again = refl
+
+-- and code with a text that is measured
+abbrev with_measured : DataInstruction → Code
+with_measured one = record { tables = with_texts []; files = []; starts = []; instructions = Data one ∷ [] }
+
+mark_of_a_measured_text : take 8 (code_bytes (with_measured (i.Gather gather.Measured))) ≡ codes "COBIMG02"
+mark_of_a_measured_text = refl
+
+mark_of_a_measured_inspection :
+    take 8 (code_bytes (with_measured (i.InspectMeasured (record { number = 0 }) 2))) ≡ codes "COBIMG02"
+mark_of_a_measured_inspection = refl
+
+mark_of_a_measured_conversion :
+    take 8 (code_bytes (with_measured (i.ConvertMeasured (record { number = 0 }) 2))) ≡ codes "COBIMG02"
+mark_of_a_measured_conversion = refl
+
+measured_again : code_at (code_bytes (with_measured (i.InspectMeasured (record { number = 0 }) 2)))
+    ≡ Ok (with_measured (i.InspectMeasured (record { number = 0 }) 2))
+unfolding reading
+measured_again = refl
 
 -- not under the first mark, and code without one not under the second
 part_of_the_first : code_at (mark false ++ drop 8 (code_bytes with_part)) ≡ Err faults.Value

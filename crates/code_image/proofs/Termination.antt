@@ -214,7 +214,7 @@ module _ (code : Code) (verified : IsVerified code) where
   leads_ends p stands rest to leads onward_ends =
       goes_ends p stands rest to (known_behind_join code verified to leads.before) leads.later leads.within onward_ends
 
-  -- on behind a `join`, or back at what uses one of the budget
+  -- on after a `join`, or back at what uses one of the budget
   way_ends : (p : Point) → Stands code p → StandsAtRest code p → (to : ℕ) → GoesWithin code p.address to → Onward p
       → Sooner p.state.budget
       → Ends (record p { address = to })
@@ -235,7 +235,7 @@ module _ (code : Code) (verified : IsVerified code) where
 
   module _ (p : Point) (paragraph : ParagraphIndex)
       (here : slice_get code.instructions p.address ≡ Some (Back paragraph)) (stands : Stands code p) where
-    -- behind a `back` that no `perform` waits for
+    -- after a `back` that no `perform` waits for
     passes_ends : p.address + 1 < length code.instructions → Onward p → Ends (record p { address = p.address + 1 })
     passes_ends within onward_ends =
         goes_ends p stands (rests_here code verified p stands (Back paragraph) here (λ tables s. refl)) (p.address + 1)

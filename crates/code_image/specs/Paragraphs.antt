@@ -5,7 +5,7 @@ use Rattle.perform_graph.specs.declared.order.Order.TheVariants.{Ranks, Recursiv
 use Rattle.code_image.specs.declared.instruction.Instruction.{Instruction}
 use Rattle.code_image.specs.Demands.{paragraph_at}
 
--- the code paragraph of each address, and of the one behind the last
+-- the code paragraph of each address, and of the one after the last
 pub record ListsParagraphs (instructions : List Instruction) (paragraphs : List ℕ) : Type 0 where
   pub one_each : length paragraphs ≡ length instructions + 1
   pub each : (address : ℕ) → address ≤ length instructions → slice_index paragraphs address ≡ paragraph_at instructions address

@@ -1,14 +1,18 @@
 -- The one spelling of code (own choice).
 use Rattle.std.specs.Prelude.{ℕ, Bool, true, false, List, [], ◌∷◌, ◌++◌}
 use Rattle.std.specs.List.{list_any}
-use Rattle.data_instructions.specs.declared.instruction.DataInstruction.TheVariants.{Part}
+use Rattle.data_instructions.specs.declared.gather.Gather.TheVariants.{Measured}
+use Rattle.data_instructions.specs.declared.instruction.DataInstruction.TheVariants.{Part, Convert, Gather}
+use Rattle.data_instructions.specs.declared.instruction.DataInstruction.TheVariants.{InspectMeasured, ConvertMeasured}
 use Rattle.data_image.specs.Spelling.{count_bytes, short_bytes, table_bytes, IsByte, IsCount, FitsFourBytes, AreSpelled}
 use Rattle.data_image.specs.Tables.{tables_bytes, HasTables}
 use Rattle.data_image.specs.Instructions.{data_instruction_bytes, HasShorts}
 use Rattle.file_image.specs.Spelling.{class_byte, verb_bytes, IsVerbSpelled, file_bytes, IsFileSpelled}
 use Rattle.code_image.specs.declared.code.Code.{Code}
 use Rattle.code_image.specs.declared.instruction.Instruction.{Instruction}
-use Rattle.code_image.specs.declared.instruction.Instruction.TheVariants.{Tick, Show, Stop, Count, CountNumber, Turn, Accept, Date, Branch, Jump, Join, Perform, Back, File, TestStatus, Unheard, Data}
+use Rattle.code_image.specs.declared.instruction.Instruction.TheVariants.{Tick, Show, Stop, Count, CountNumber, Turn}
+use Rattle.code_image.specs.declared.instruction.Instruction.TheVariants.{Accept, Date, Branch, Jump, Join, Perform}
+use Rattle.code_image.specs.declared.instruction.Instruction.TheVariants.{Back, File, TestStatus, Unheard, Data}
 
 -- the second version of images or the first
 abbrev pub version_byte : Bool → ℕ
@@ -19,9 +23,13 @@ version_byte true = 50
 abbrev pub mark : Bool → List ℕ
 mark second = 67 ∷ 79 ∷ 66 ∷ 73 ∷ 77 ∷ 71 ∷ 48 ∷ version_byte second ∷ []
 
--- Images of the first version have no parts.
+-- Images of the first version have no parts, no texts that are measured, and no conversions.
 abbrev pub needs_second : Instruction → Bool
 needs_second (Data (Part one)) = true
+needs_second (Data (Convert inspection)) = true
+needs_second (Data (Gather Measured)) = true
+needs_second (Data (InspectMeasured inspection numbers)) = true
+needs_second (Data (ConvertMeasured inspection numbers)) = true
 needs_second _ = false
 
 -- The version is the first that has each of the instructions.
@@ -40,7 +48,8 @@ instruction_bytes Date = 7 ∷ []
 instruction_bytes (Branch to) = 8 ∷ count_bytes to
 instruction_bytes (Jump to) = 9 ∷ count_bytes to
 instruction_bytes Join = 10 ∷ []
-instruction_bytes (Perform line first last) = 11 ∷ (short_bytes line ++ count_bytes first.number ++ count_bytes last.number)
+instruction_bytes (Perform line first last) =
+    11 ∷ (short_bytes line ++ count_bytes first.number ++ count_bytes last.number)
 instruction_bytes (Back paragraph) = 12 ∷ count_bytes paragraph.number
 instruction_bytes (CountNumber counter) = 13 ∷ count_bytes counter.number
 instruction_bytes (File file verb) = 14 ∷ file.number ∷ verb_bytes verb
@@ -50,7 +59,8 @@ instruction_bytes (Data one) = data_instruction_bytes one
 
 -- The mark; the tables of data; the files; the starts of code paragraphs; the instructions.
 abbrev pub code_bytes : Code → List ℕ
-code_bytes code = mark (is_second code) ++ tables_bytes code.tables ++ table_bytes file_bytes code.files ++ table_bytes count_bytes code.starts ++ table_bytes instruction_bytes code.instructions
+code_bytes code = mark (is_second code) ++ tables_bytes code.tables ++ table_bytes file_bytes code.files
+    ++ table_bytes count_bytes code.starts ++ table_bytes instruction_bytes code.instructions
 
 abbrev pub HasNumbers : Instruction → Type 0
 HasNumbers (Tick line) = FitsFourBytes line

@@ -14,7 +14,7 @@ use crate::paragraph::ParagraphIndex;
 use data_image::{
     ImageError, ImageFault, TableEntry, put_count, put_short, read_byte, read_count, read_short,
 };
-use data_instructions::{DataInstruction, DataTables};
+use data_instructions::{DataInstruction, DataTables, Gather};
 use file_image::{FileIndex, StatusClass, put_class, put_verb, read_class, read_verb};
 use records::Verb;
 use std::alloc::{AllocError, Global};
@@ -50,15 +50,15 @@ pub enum Instruction {
     Accept,
     /// Takes a place, and moves the day there.
     Date,
-    /// Where the truth is false, goes to the address behind a `join` that comes later, or back to a `tick` or `perform`; else goes on.
+    /// Where the truth is false, goes to the address after a `join` that comes later, or back to a `tick` or `perform`; else goes on.
     Branch {
         to: usize,
     },
-    /// Goes to the address behind a `join` that comes later, or back to a `tick` or `perform`.
+    /// Goes to the address after a `join` that comes later, or back to a `tick` or `perform`.
     Jump {
         to: usize,
     },
-    /// Does nothing: ways meet behind it.
+    /// Does nothing: ways meet after it.
     Join,
     /// Uses one of the budget, as `tick` does, and performs code paragraphs, from one to the `back` of another: the run comes back to
     /// the next address.
@@ -67,7 +67,7 @@ pub enum Instruction {
         first: ParagraphIndex,
         last: ParagraphIndex,
     },
-    /// Ends a code paragraph: where the newest `perform` that has not come back performs up to this one, goes back behind it; else
+    /// Ends a code paragraph: where the newest `perform` that has not come back performs up to this one, goes back after it; else
     /// goes on.
     Back {
         paragraph: ParagraphIndex,
@@ -92,7 +92,16 @@ impl Instruction {
     pub(crate) fn needs_second(self) -> bool
         ensures { result ≡ needs_second self }
     {
-        matches!(self, Instruction::Data(DataInstruction::Part(_)))
+        matches!(
+            self,
+            Instruction::Data(
+                DataInstruction::Part(_)
+                    | DataInstruction::Convert { .. }
+                    | DataInstruction::Gather(Gather::Measured)
+                    | DataInstruction::InspectMeasured { .. }
+                    | DataInstruction::ConvertMeasured { .. }
+            )
+        )
     }
 
     /// Each entry of the tables of data that it names is there.
@@ -237,7 +246,7 @@ fn put_tick(out: &mut Vec<u8>, line: u32) -> Result<(), AllocError>
     put_short(out, line)
 }
 
-/// An instruction that names a counter, and the number behind it.
+/// An instruction that names a counter, and the number after it.
 fn put_counting(
     out: &mut Vec<u8>,
     first: u8,

@@ -59,7 +59,7 @@ fn taking_number(shape: Shape) -> Option<Shape>
 }
 
 impl Instruction {
-    /// What is known after an instruction, where it goes on behind it; none: it doesn't find what it needs.
+    /// What is known after an instruction, where it goes on after it; none: it doesn't find what it needs.
     pub fn known_after(
         self,
         alloc: Global,

@@ -27,7 +27,7 @@ fn ended_by(instruction: &Instruction) -> usize
     }
 }
 
-/// The number of the code paragraph of each address, and of the one behind the last.
+/// The number of the code paragraph of each address, and of the one after the last.
 pub(crate) fn paragraphs_of(
     alloc: Global,
     instructions: &[Instruction],
@@ -50,7 +50,7 @@ fn is_back(instructions: &[Instruction], address: usize) -> bool
     matches!(instructions.get(address), Some(Instruction::Back { .. }))
 }
 
-/// At the first instruction, or behind a `back`.
+/// At the first instruction, or after a `back`.
 fn is_front(instructions: &[Instruction], address: usize) -> bool
     ensures { IsTrue result ↔ IsFront instructions.now address }
 {

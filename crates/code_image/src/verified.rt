@@ -124,7 +124,7 @@ fn is_join(instructions: &[Instruction], address: usize) -> bool
     matches!(instructions.get(address), Some(Instruction::Join))
 }
 
-/// A way on leads to the address behind a `join` that comes later, in the same code paragraph.
+/// A way on leads to the address after a `join` that comes later, in the same code paragraph.
 fn leads_on(instructions: &[Instruction], paragraphs: &[usize], address: usize, to: usize) -> bool
     requires listed { ListsParagraphs instructions.now paragraphs.now }
     requires within { address < length instructions.now }
@@ -287,7 +287,7 @@ fn meets_demands(alloc: Global, code: &Code) -> Result<(), ImageError>
 
 /// Tests that a machine can run the code: its tables are in order, else 72; each entry that it names, each counter, each code
 /// paragraph, each start of one and each file is an index in its table, and so are a file's area and its items, else 73; each way
-/// leads on behind a `join` that comes later or back to a `tick` or `perform` before it, in its code paragraph; each code
+/// leads on after a `join` that comes later or back to a `tick` or `perform` before it, in its code paragraph; each code
 /// paragraph ends with the `back` of its number and starts where its start says; none performs itself, by way of others neither;
 /// `stop` comes last, each instruction finds what it needs on the stacks, and each file is in order and has the key that a statement
 /// on it names, else 74.

@@ -10,7 +10,7 @@ use std::alloc::{AllocError, Global};
 /// The first bytes of an image of the first version.
 pub(crate) const MARK: [u8; 8] = *b"COBIMG01";
 
-/// The first bytes of an image of the second version, which may have parts.
+/// The first bytes of an image of the second version, which may have parts and conversions.
 pub(crate) const SECOND_MARK: [u8; 8] = *b"COBIMG02";
 
 impl Code {

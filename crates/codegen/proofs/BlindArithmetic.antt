@@ -132,7 +132,7 @@ module _ (items : List LocatedItem) where
         (both_blind (works_fragment middle) last (works_blind middle)
         (taking_blind items (i.Store false keep) remainder)))
 
-    -- two operands, and what comes behind them
+    -- two operands, and what follows them
     operands_blind : (first second : Operand) (inner : Fragment) → Blind inner
         → Blind (sequence (value_fragment items first) (sequence (value_fragment items second) inner))
     operands_blind first second inner f =

@@ -72,7 +72,7 @@ counted_turn_blind begin turn f = record {
       ∙ ap (λ (n : ℕ). append (turn b) (turn_end begin n)) alike.count;
 }
 
--- what begins a loop, and what comes behind it, which knows where that is
+-- what begins a loop, and what follows it, which knows where that is
 loop_blind : (begin : Fragment) (inner : ℕ → Fragment) → Blind begin → ((n : ℕ) → Blind (inner n))
     → Blind (λ before. sequence begin (inner (length before.instructions)) before)
 loop_blind begin inner f g = record {
@@ -151,7 +151,7 @@ module _ (scope : Scope) where
         (phrase_blind None)
         (phrase_blind (Some statements))
 
-    -- a condition, and the two ways behind it
+    -- a condition, and the two ways after it
     tested_blind : (condition : Condition) (first second : Fragment) → Blind first → Blind second
         → Blind (sequence (condition_fragment items condition) (either_fragment first second))
     tested_blind condition first second f g =

@@ -101,7 +101,7 @@ module _ (whole : Code) (kept : ℕ → Type 0) where
         wider whole kept (end_of now) next from to (end_of now) next cs s (go false s) low high
         (two.by now cs s below room here))
 
-    -- By the truth at its first instruction it does the first part, or the second, and comes behind its last `join`.
+    -- By the truth at its first instruction it does the first part, or the second, and follows its last `join`.
     pub either_does : Blind first → Blind second → (before : Code) (cs : Own) (s : State) → s.budget < depth
         → IsRoom whole cs
         → Sits whole kept before (either_fragment first second before)

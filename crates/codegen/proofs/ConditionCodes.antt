@@ -83,7 +83,7 @@ use Rattle.codegen.proofs.Lying.{lies_all, lies_operand}
 use Rattle.codegen.proofs.OperandOrder.{taken_alike, looked_first, numbers_alike, compared_as_number}
 use Rattle.codegen.proofs.Standing.{Stands, at_seam, sender_stands}
 
--- It decides this truth, and leaves all as it was but for the sender.
+-- It decides this truth, and leaves all as it was except for the sender.
 abbrev pub Tested : DataTables → ConditionValue → List DataInstruction → Type 0
 Tested tables value code = Decides tables value code × KnowsTest tables code
 
@@ -338,7 +338,7 @@ module _ (items : List LocatedItem) (whole : Code) (entries : (n : ℕ) (one : L
             (right_none all (name_rules.number_rules_of items one) e);
       }
 
-  -- what stands behind the place of a condition name's item
+  -- what follows the place of a condition name's item
   abbrev IsTakenCode : List ValueRange → List DataInstruction → Type 0
   IsTakenCode all code = (values : List DataInstruction) × AreValuesCode items whole.tables all values
       × (code ≡ i.Take ∷ i.ClearTruth ∷ values)

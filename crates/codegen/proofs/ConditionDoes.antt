@@ -50,7 +50,7 @@ abbrev pub PartEvaluates : Code → Code → Code → Own → State → Evaluati
 PartEvaluates whole before part cs s e =
     Evaluates whole (end_of before) (end_of (append before part)) (end_of before) cs s (end_of (append before part)) e
 
--- a code, and more behind it
+-- a code, and more after it
 end_grows : (before part : Code) → end_of before ≤ end_of (append before part)
 end_grows before part = omega (arith, length-append before.instructions part.instructions)
 

@@ -116,7 +116,7 @@ module _ (items : List LocatedItem) where
       → condition_rules items (condition.Any parts) ≡ each (condition_rules items) parts
   any_rules parts = form_rules (condition.Any parts) (Condition-F.Any parts) (rolls-Any parts) ∙ each_map parts
 
-  -- ---- further conditions behind AND and OR
+  -- ---- further conditions after AND and OR
 
   ands_map : (more : List Condition) (before : Code)
       → in_order (λ (one : Condition). and_fragment (condition_fragment items one)) more before

@@ -1,4 +1,4 @@
--- The code of conditions names what is there, and its ways lead behind a `join`, where the rules are kept.
+-- The code of conditions names what is there, and its ways lead after a `join`, where the rules are kept.
 use Rattle.std.proofs.Common.{◌≡◌, List, [], ◌∷◌, map, sym, subst, ◌∙◌}
 use Rattle.source_tree.specs.declared.condition.Condition.{Condition, roll-Condition}
 use Rattle.source_tree.specs.declared.condition.Condition.TheOpen.{Condition-F}
@@ -23,7 +23,7 @@ use Rattle.codegen.proofs.ConditionValues.{AreFormed}
 use Rattle.codegen.proofs.Leading.{Asks, Meets, both_meet, nothing_meets, straight_meets, either_meets}
 use Rattle.codegen.proofs.Straight.{AlwaysStraight, works_straight, work_straight}
 
--- a piece, behind whatever code
+-- a piece, after whatever code
 abbrev AlwaysMeets : Asks → Fragment → Type 0
 AlwaysMeets Q piece = (before : Code) → Meets Q before (piece before)
 

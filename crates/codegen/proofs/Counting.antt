@@ -47,7 +47,7 @@ use Rattle.codegen.proofs.Turning.{counted_turn_does, own_counter}
 abbrev with_number : Option Fraction → Own → Own
 with_number newest cs = record cs { numbers = newest ∷ cs.numbers }
 
--- behind `count number`, which took it and found so many turns
+-- after `count number`, which took it and found so many turns
 abbrev counted_own : ℕ → ℕ → Own → Own
 counted_own zero counter cs = record cs { truth = false }
 counted_own (suc more) counter cs = record (setting cs counter more) { truth = true }

@@ -29,7 +29,7 @@ use Rattle.codegen.proofs.Running.{at, one_step, WorksFrom}
 use Rattle.codegen.proofs.Doing.{end_of, keeps_all, Does, IsRoom, after}
 
 module _ (whole : Code) where
-  -- the address behind a part that is code on data
+  -- the address after a part that is code on data
   pub behind_code : (before part : Code) (code : List DataInstruction) → part.instructions ≡ map Data code
       → end_of before + length code ≡ end_of (append before part)
   behind_code before part code is =
@@ -102,7 +102,7 @@ module _ (whole : Code) where
         (goes_on stored)
     calculated_does last (Err fault) go h goes_on = h
 
-    -- The code of a place, and an instruction behind it that takes the place and leaves these console lines. Only where
+    -- The code of a place, and an instruction after it that takes the place and leaves these console lines. Only where
     -- it leaves them all may it find a fault.
     pub taken_does : (lines : List (List ℕ)) (taking : Scratch → step.Step) (made : step.Step) (e : Evaluation Storage)
         → WorksFrom whole address cs s count made

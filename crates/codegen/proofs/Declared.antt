@@ -43,7 +43,7 @@ module _ (program : Program) (all : Declarations) (h : Declares program all) whe
       ∙ ap (λ (found : Scope). storage_with (program_areas program) found.items program.selects found.files)
       (same_scope program all h)
 
-  -- the code of the sections behind that, and the end
+  -- the code of the sections after that, and the end
   pub code_by : (given : Program) (sections : List Section) (storage behind whole : Code) → given ≡ program
       → sections ≡ given.sections
       → storage ≡ storage_with (program_areas given) (items_in all) all.selects.now (files_in all)

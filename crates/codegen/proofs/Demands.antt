@@ -102,7 +102,7 @@ pub record BeginsWith (part : Code) : Type 0 where
   pub is : part.instructions ≡ one ∷ more
   pub budget : UsesBudget (Some one)
 
--- whatever comes behind it
+-- whatever follows it
 begins_longer : (part behind : Code) → BeginsWith part → BeginsWith (append part behind)
 begins_longer part behind b = record {
   one = b.one;
@@ -136,7 +136,7 @@ leads_back before part last b none ends =
           (omega arith);
     }
 
--- a piece, behind whatever code
+-- a piece, after whatever code
 abbrev pub Begins : Fragment → Type 0
 Begins piece = (before : Code) → BeginsWith (piece before)
 
@@ -188,7 +188,7 @@ abbrev pub asks_of : List LocatedItem → List ProgramFile → ℕ → (Range �
 asks_of items files count asked = record { items = items; ranges = IsPerformed count asked; verbs = IsSuited files }
 
 module _ (Q : Asks) where
-  -- a piece, behind whatever code
+  -- a piece, after whatever code
   abbrev AlwaysMeets : Fragment → Type 0
   AlwaysMeets piece = (before : Code) → Meets Q before (piece before)
 
@@ -236,7 +236,7 @@ module _ (Q : Asks) where
     performs = (tt, tt);
   }
 
-  -- The end of a turn leads back to what the turn begins with, behind the begin of its loop.
+  -- The end of a turn leads back to what the turn begins with, after the begin of its loop.
   turn_end_meets : (before part : Code) (begin : ℕ) → begin < length before.instructions → BeginsWith part
       → ends_in part.instructions ≡ 0
       → Meets Q (append before part) (turn_end begin (length before.instructions))
@@ -479,7 +479,7 @@ module _ (scope : Scope) (permits : Range → Bool) (formed : AreFormed scope.it
     file_phrases_meet (file_phrases.AtEnd pair) e q = pair_meets pair.arose pair.did_not e q
     file_phrases_meet (file_phrases.InvalidKey pair) e q = pair_meets pair.arose pair.did_not e q
 
-    -- a condition, and the two ways behind it
+    -- a condition, and the two ways after it
     tested_meets : (condition : Condition) (first second : Fragment) → condition_rules items condition ≡ []
         → Blind first → Blind second
         → AlwaysMeets Q first → AlwaysMeets Q second
@@ -561,7 +561,7 @@ module _ (scope : Scope) (permits : Range → Bool) (formed : AreFormed scope.it
         (selecting_meets one.subjects one.selected one.other (groups_of items rules one e) (other_of items rules one e)
         (all_front P groups others q) (all_back P groups others q)))
 
-    -- straight code behind what uses one of the budget
+    -- straight code after what uses one of the budget
     ticked : (line : ℕ) (piece : Fragment) → AlwaysStraight items piece
         → AlwaysMeets Q (sequence (tick_fragment line) piece)
     ticked line piece straight =

@@ -335,7 +335,7 @@ module _ (whole : Code) (kept : ℕ → Type 0) where
 
   -- ---- parts
 
-  -- the last of two parts stands behind the first
+  -- the last of two parts follows the first
   pub behind : (before a b : Code) (cs : Own) (s : State) (o : Outcome) → PartDoes whole kept (append before a) b cs s o
       → Does whole kept (end_of before) (end_of (append before (append a b))) (end_of (append before a)) cs s
       (end_of (append before (append a b))) o

@@ -7,7 +7,7 @@ use Rattle.codegen.specs.Meeting.{branch_code, jump_code, join_code, either_frag
 use Rattle.codegen.proofs.Fragments.{tables_nothing}
 use Rattle.codegen.proofs.Blind.{Alike, alike_joined, Blind}
 
--- the branch, both parts, and what stands between and behind them
+-- the branch, both parts, and what stands between and after them
 abbrev pub laid_out : ℕ → Code → ℕ → Code → Code
 laid_out other one end two = append (branch_code other) (append one (append (jump_code end) (append two join_code)))
 

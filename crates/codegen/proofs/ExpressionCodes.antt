@@ -91,7 +91,7 @@ module _ (items : List LocatedItem) (whole : Code) (entries : (n : ℕ) (one : L
     abbrev IsValued : ExpressionValue → List DataInstruction → Type 0
     IsValued value code = Computes whole.tables value code × PushesNumber whole.tables code
 
-    -- the same of operands behind their operators
+    -- the same of operands after their operators
     abbrev GoesOn : (ArithmeticValue → ExpressionValue) → List DataInstruction → Type 0
     GoesOn next code = ComputesOn whole.tables next code × StaysOver whole.tables code
 
@@ -198,7 +198,7 @@ module _ (items : List LocatedItem) (whole : Code) (entries : (n : ℕ) (one : L
     expression_coded : (one : Expression) → IsCoded one
     expression_coded = ind-Expression IsCoded (λ one l is. subst (λ k. IsCoded (roll-Expression k)) is (coded_inside l))
 
-    -- The code of an expression computes its value, and one number more is known behind it.
+    -- The code of an expression computes its value, and one number more is known after it.
     pub expression_codes : (one : Expression) → expression_rules items one ≡ []
         → CodedBy whole (λ code. Computes whole.tables (expression_value items one) code
         × PushesNumber whole.tables code) (expression_fragment items one)

@@ -17,7 +17,7 @@ use Rattle.codegen.specs.DataCode.{work_fragment}
 use Rattle.codegen.specs.ArithmeticCode.{value_fragment, chain_fragment, expression_layer_fragment, expression_fragment}
 
 module _ (items : List LocatedItem) where
-  -- what stands behind the first operand of a chain
+  -- what follows the first operand of a chain
   abbrev pub link_piece : Operator × Expression → Fragment
   link_piece one = chain_fragment items (one.0, expression_fragment items one.1)
 

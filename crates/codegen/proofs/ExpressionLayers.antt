@@ -12,7 +12,7 @@ use Rattle.codegen.specs.Fragments.{Fragment}
 use Rattle.codegen.specs.ArithmeticCode.{expression_layer_fragment, expression_fragment}
 
 module _ {A B C : Type 0} (f : A → B) (g : B → C) where
-  -- Operands behind their operators; the first is any.
+  -- Operands after their operators; the first is any.
   chain_twice : (first : A) (more : List (Operator × A))
       → map-Expression B C g (map-Expression A B f (Expression-F.Chain first more))
       ≡ map-Expression A C (λ a. g (f a)) (Expression-F.Chain first more)

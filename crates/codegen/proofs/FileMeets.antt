@@ -60,7 +60,7 @@ module _ (items : List LocatedItem) where
       (taking_straight items i.Take from) (receivers_straight (to ∷ [])) before
 
 module _ (Q : Asks) where
-  -- a piece, behind whatever code
+  -- a piece, after whatever code
   abbrev AlwaysMeets : Fragment → Type 0
   AlwaysMeets piece = (before : Code) → Meets Q before (piece before)
 

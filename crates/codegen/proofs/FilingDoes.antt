@@ -384,7 +384,7 @@ module _ (whole : Code) (kept : ℕ → Type 0) (scope : Scope)
           into_does whole kept scope.items entries order scope.files file filed into before cs s keep st;
     }
 
-    -- A file statement, behind its `tick`.
+    -- A file statement, after its `tick`.
     pub filing_does : (one : FileStatement S) → filing_rules scope.items scope.files one ≡ []
         → file_phrases_rules rules (phrases_of one) ≡ []
         → Repeats whole kept depth (file_outcome scope.items scope.files run one)

@@ -7,6 +7,7 @@ use Rattle.source_tree.specs.declared.data_statement.DataStatement.{DataStatemen
 use Rattle.source_tree.specs.declared.data_statement.DataStatement.TheVariants.{Move, Initialize, Set}
 use Rattle.source_tree.specs.declared.text_statement.TextStatement.{TextStatement}
 use Rattle.source_tree.specs.declared.text_statement.TextStatement.TheVariants.{Display, Accept, AcceptDate, Inspect}
+use Rattle.source_tree.specs.declared.text_statement.TextStatement.TheVariants.{Convert}
 use Rattle.source_tree.specs.declared.reference.Reference.{Reference}
 use Rattle.source_tree.specs.declared.expression.Operand.TheVariants as operand
 use Rattle.source_tree.specs.declared.arithmetic.Operation.{Operation}
@@ -44,7 +45,9 @@ use Rattle.source_tree.specs.FilingRules.{filing_rules}
 use Rattle.source_tree.specs.MoveRules.{sent_by, receives, move_rules}
 use Rattle.source_tree.specs.NameRules.{reference_rules, any_item, operand_rules}
 use Rattle.source_tree.specs.Performing.{turns_of}
+use Rattle.source_tree.specs.Converting.{as_replacing}
 use Rattle.source_tree.specs.Places.{LocatedItem}
+use Rattle.source_tree.proofs.InspectConverting.{as_replacing_rules}
 use Rattle.source_tree.specs.Procedures.{Range, range_of}
 use Rattle.source_tree.specs.Setting.{Scope}
 use Rattle.source_tree.specs.StringRules.{string_rules}
@@ -63,7 +66,7 @@ use Rattle.data_instructions.proofs.Chains.{move_known, display_known, accept_kn
 use Rattle.data_instructions.proofs.Expressions.{value_known}
 use Rattle.data_instructions.proofs.ArithmeticChains.{arithmetic_known}
 use Rattle.data_instructions.proofs.TextChains.{initialize_known, set_known, string_known}
-use Rattle.data_instructions.proofs.InspectChains.{inspect_leaves}
+use Rattle.data_instructions.proofs.InspectChains.{inspect_leaves, convert_leaves}
 use Rattle.code_image.specs.declared.code.Code.{Code}
 use Rattle.code_image.specs.declared.instruction.Instruction.{Instruction}
 use Rattle.code_image.specs.declared.instruction.Instruction.TheVariants as instruction
@@ -90,7 +93,7 @@ use Rattle.codegen.proofs.Codes.{date_coded}
 use Rattle.codegen.proofs.ArithmeticCodes.{arithmetic_coded}
 use Rattle.codegen.proofs.PatternCodes.{initializes_codes, sets_codes, lie_each, lie_conditions}
 use Rattle.codegen.proofs.StringCodes.{string_codes, lies_string}
-use Rattle.codegen.proofs.InspectCodes.{inspect_codes, lies_inspect}
+use Rattle.codegen.proofs.InspectCodes.{inspect_codes, convert_codes, lies_inspect}
 use Rattle.codegen.proofs.Lying.{lies_all, shows_all, sends, receives_one, receive_each, lies_operation}
 use Rattle.codegen.proofs.Layers.{verb_map, rolled_is}
 use Rattle.codegen.proofs.Standing.{Stands, front, back}
@@ -180,7 +183,7 @@ module _ (items : List LocatedItem) (whole : Code)
         );
       }
 
-  -- a reference's code, and an instruction behind it that takes its place
+  -- a reference's code, and an instruction after it that takes its place
   placed_flows : (one : Instruction) (part : Code) (code : List DataInstruction)
       → part.instructions ≡ map instruction.Data code
       → ((sender : Option Taken)
@@ -232,6 +235,18 @@ module _ (items : List LocatedItem) (whole : Code)
       let coded = (inspect_codes items whole entries one e).by before st in
       let known =
       inspect_leaves items whole.tables one coded.code coded.holds (lies_inspect items whole entries lie one e) in
+      record {
+        by = λ sender. (
+          sender,
+          ap (λ l. known_along whole.tables l (rest sender)) coded.is ∙ along_data whole.tables coded.code (rest sender)
+              ∙ known (rest sender) refl,
+        );
+      }
+  texts_flow (Convert one) before e st =
+      let coded = (convert_codes items whole entries one e).by before st in
+      let known =
+      convert_leaves items whole.tables one coded.code coded.holds
+      (lies_inspect items whole entries lie (as_replacing one) (as_replacing_rules items one e)) in
       record {
         by = λ sender. (
           sender,
@@ -443,7 +458,7 @@ module _ (scope : Scope) (permits : Range → Bool) (whole : Code) (has : HasFil
   abbrev items : List LocatedItem
   items = scope.items
 
-  -- two pieces, one behind the other
+  -- two pieces, one after the other
   pair_flows : (first second : Fragment) → BodyFlows whole first → BodyFlows whole second
       → BodyFlows whole (sequence first second)
   pair_flows first second f g = both_flows items whole entries order lie first second f g
@@ -487,7 +502,7 @@ module _ (scope : Scope) (permits : Range → Bool) (whole : Code) (has : HasFil
     phrases_flow None (Some statements) e =
         record { by = λ before st. (two_flow None (Some statements) e).by before st }
 
-    -- a condition, and the two ways behind it
+    -- a condition, and the two ways after it
     tested_flows : (condition : Condition) (first second : Fragment) → condition_rules items condition ≡ []
         → Blind first → Blind second
         → BodyFlows whole first → BodyFlows whole second

@@ -78,7 +78,7 @@ module _ {A : Type 0} (piece : A → Fragment) where
       ∙ ap (λ (c : Code). append more (in_order piece ys c)) (joined_assoc before one more))
       ∙ sym (joined_assoc one more (in_order piece ys (append before (append one more))))
 
--- one piece after another, behind code that has the first already
+-- one piece after another, after code that has the first already
 pub both_joined : (first second : Fragment) (before : Code) → append before (sequence first second before) ≡ append
     (append before (first before)) (second (append before (first before)))
 both_joined first second before = sym (joined_assoc before (first before) (second (append before (first before))))

@@ -150,7 +150,7 @@ module _ (scope : Scope) {A B : Type 0} (f : A → B) (g : B → Fragment) where
       (phrase_fragment scope g (Some (map f inside))) (phrase_fragment scope (λ a. g (f a)) (Some inside))
       (phrase_map None) (phrase_map (Some inside)) before
 
-  -- behind the same code
+  -- after the same code
   behind_map : (line : ℕ) (keep : Bool) (operation : Operation) (arose did_not : Option (List A)) (before : Code)
       → sequence (tick_fragment line) (sequence (arithmetic_fragment items keep operation)
       (phrases_from scope g (mapped arose) (mapped did_not))) before
@@ -190,7 +190,7 @@ module _ (scope : Scope) {A B : Type 0} (f : A → B) (g : B → Fragment) where
   calculating_map place operation (Some inside) (Some other) before =
       behind_map place.line true operation (Some inside) (Some other) before
 
-  -- the same behind what STRING stores
+  -- the same after what STRING stores
   stored_map : (line : ℕ) (sendings : List Sending) (receiver : Reference) (pointer : Option Reference)
       (arose did_not : Option (List A)) (before : Code)
       → sequence (tick_fragment line) (sequence (string_fragment items sendings receiver pointer)
@@ -257,7 +257,7 @@ module _ (scope : Scope) {A B : Type 0} (f : A → B) (g : B → Fragment) where
   first_mapped [] = refl
   first_mapped (one ∷ more) = refl
 
-  -- behind what uses one of the budget and the looks at the subjects
+  -- after what uses one of the budget and the looks at the subjects
   groups_map :
       (line : ℕ) (subjects : List Subject) (selected : List (Selected A)) (other : Option (List A)) (before : Code)
       → sequence (tick_fragment line)

@@ -62,7 +62,7 @@ none_taken zero xs e = refl
 none_taken (suc k) [] e = refl
 none_taken (suc k) (x ∷ xs) e = let h = none_taken k xs (omega (arith, e)) in omega (arith, e, h)
 
--- as many end before an address behind these as in them, and before it behind them
+-- as many end before an address after these as in them, and before it after them
 pub taken_behind : (xs ys : List Instruction) (k : ℕ)
     → ends_in (take (length xs + k) (xs ++ ys)) ≡ ends_in xs + ends_in (take k ys)
 taken_behind [] ys k =
@@ -80,7 +80,7 @@ taken_front xs ys zero le = refl
 taken_front [] ys (suc k) le = absurd (omega (arith, le))
 taken_front (x ∷ xs) ys (suc k) le = ap (λ l. x ∷ l) (taken_front xs ys k (omega (arith, le)))
 
--- the code paragraph of an address stays the same, whatever comes behind
+-- the code paragraph of an address stays the same, whatever follows
 pub paragraph_stays : (xs ys : List Instruction) (k : ℕ) → k ≤ length xs → paragraph_at (xs ++ ys) k ≡ paragraph_at xs k
 paragraph_stays xs ys k le = ap ends_in (taken_front xs ys k le)
 
@@ -107,7 +107,7 @@ abbrev pub LeadsFrom : List Instruction → ℕ → List Instruction → Type 0
 LeadsFrom whole address [] = Unit {0}
 LeadsFrom whole address (i ∷ is) = HasValidTargets whole address (Some i) × LeadsFrom whole (address + 1) is
 
--- what stands at an address stays there, whatever comes behind
+-- what stands at an address stays there, whatever follows
 pub found_stays : (P : Option Instruction → Type 0) → (P None → ⊥) → (xs ys : List Instruction) (k : ℕ)
     → P (slice_get xs k)
     → P (slice_get (xs ++ ys) k)
@@ -420,7 +420,7 @@ module _ (Q : Asks) where
 
   -- ---- branches
 
-  -- The branch leads behind the first `join`, and the jump behind the last one.
+  -- The branch leads after the first `join`, and the jump after the last one.
   laid_meets : (first second : Fragment) (before : Code) (other end : ℕ)
       → (let inner = append before (branch_code other) in let outer =
       append (append inner (first inner)) (jump_code end) in

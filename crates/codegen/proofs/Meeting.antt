@@ -16,14 +16,14 @@ use Rattle.codegen.specs.Layout.{phrase_fragment, phrases_from}
 use Rattle.codegen.specs.Phrases.{patched_instructions, patched_code}
 use Rattle.codegen.proofs.Fragments.{tables_assoc, tables_nothing, joined_assoc}
 
--- an instruction behind others, in another's place
+-- an instruction after others, in another's place
 set_behind : (front : List Instruction) (old new : Instruction) (back : List Instruction) (at : ℕ) → at ≡ length front
     → slice_set (front ++ (old ∷ back)) at new ≡ front ++ (new ∷ back)
 set_behind [] old new back at e = ap (λ n. slice_set (old ∷ back) n new) e
 set_behind (x ∷ front) old new back at e = ap (λ n. slice_set (x ∷ (front ++ (old ∷ back))) n new) e
     ∙ ap (λ l. x ∷ l) (set_behind front old new back (length front) refl)
 
--- A branch, instructions, and a jump with its `join`, behind others and in front of others.
+-- A branch, instructions, and a jump with its `join`, after others and in front of others.
 abbrev ways : Instruction → Instruction → List Instruction → List Instruction → List Instruction → List Instruction
 ways branch jump before one behind = before ++ (branch ∷ (one ++ (jump ∷ Join ∷ behind)))
 

@@ -42,7 +42,7 @@ module _ (test first : Fragment) (before : Code) where
       ∙ both_joined (λ now. branch_code 0) (sequence first (λ now. jump_code 0)) tested
       ∙ both_joined first (λ now. jump_code 0) begun
 
-  -- With what comes behind it, and both ends met, it is the test and either way.
+  -- With what follows it, and both ends met, it is the test and either way.
   pub opened : (second : Fragment) (after : Code) (one : Way) → Opens test first before after one
       → patched_code one.branch one.other (append after (second after))
       ≡ append before (sequence test (either_fragment first second) before)

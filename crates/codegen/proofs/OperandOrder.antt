@@ -86,7 +86,7 @@ text_taken kind.AlphanumericEdited bytes e = refl
 text_taken (kind.NumericEdited blank) bytes e = refl
 text_taken (kind.Numeric form) bytes e = absurd cc
 
--- an item that is found so many bytes behind its start
+-- an item that is found so many bytes after its start
 abbrev found_behind : LocatedItem → Evaluation ℕ → Evaluation ItemPlace
 found_behind one behind = behind >>= (λ n. Ok (place_after one n))
 

@@ -182,7 +182,7 @@ starts_within whole number (start ∷ more) h = (h.0.1, starts_within whole (num
 
 -- ---- whole code paragraphs
 
--- A code paragraph may start behind such code.
+-- A code paragraph may start after such code.
 pub record IsReady (before : Code) : Type 0 where
   pub ends : ends_in before.instructions ≡ length before.starts
   pub front : IsFront before.instructions (length before.instructions)
@@ -217,7 +217,7 @@ module _ (items : List LocatedItem) (files : List ProgramFile) (count : ℕ) (P 
     performed = tt;
   }
 
-  -- code behind which another code paragraph may start
+  -- code after which another code paragraph may start
   ready_behind : (many : ℕ) (before part : Code) → IsReady before → AreParagraphs items files count P many before part
       → IsReady (append before part)
   ready_behind many before part is h =

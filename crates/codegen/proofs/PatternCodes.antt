@@ -124,7 +124,7 @@ module _ (items : List LocatedItem) (whole : Code) (entries : (n : ℕ) (one : L
 
   -- ---- SET
 
-  -- what stands behind the place of a condition name's item
+  -- what follows the place of a condition name's item
   abbrev IsSetEnd : NamedCondition → Reference → List DataInstruction → Type 0
   IsSetEnd found one code =
       (subscripts : List DataInstruction)

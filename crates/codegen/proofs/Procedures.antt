@@ -78,7 +78,7 @@ module _ {A : Type 0} (piece : A → Fragment) where
         stands_at n more (append start a) one here
         (back whole start a (append b end) (subst (Stands whole start) (joined_assoc a b end) st))
 
-    -- what stands behind all
+    -- what follows all
     end_stands : (all : List A) (start : Code) (one : Instruction) (others : List Instruction)
         → end.instructions ≡ one ∷ others
         → Stands whole start (append (in_order piece all start) end)

@@ -229,7 +229,7 @@ module _ (whole : Code) (scope : Scope) (has : HasFiles whole scope)
 
     -- ---- a range of paragraphs
 
-    -- The machine does what an outcome says: it comes to the address behind a `perform` that stood before these
+    -- The machine does what an outcome says: it comes to the address after a `perform` that stood before these
     -- entries, and what is relied on at this rank is kept; or its run ends so.
     abbrev Walks : ℕ → ℕ → Own → State → ℕ → List Return → Outcome → Type 0
     Walks high address cs s next older (Done t) =

@@ -32,7 +32,7 @@ module _ (items : List LocatedItem) where
   constant_is true = all_is items []
   constant_is false = any_is items []
 
-  -- NOT behind a condition that is to be false
+  -- NOT after a condition that is to be false
   pub told_is : (one : Condition) (truth negated : Bool) (before : Code) → negated ≡ not truth
       → sequence (condition_fragment items one) (works_fragment (negation negated)) before
       ≡ condition_fragment items (condition_or_opposite truth one) before

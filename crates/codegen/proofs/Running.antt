@@ -24,7 +24,7 @@ module _ (whole : Code) where
       → (k : ℕ) → exec_code whole (suc k) (at address own s) ≡ act whole (Some i) (exec_code whole k) (at address own s)
   one_step address own s i here k = ap (λ o. act whole o (exec_code whole k) (at address own s)) here
 
-  -- What comes of instructions on data: the machine stands behind them, or its run is over with the fault. They are
+  -- What comes of instructions on data: the machine follows them, or its run is over with the fault. They are
   -- never stuck where their table isn't.
   abbrev pub WorksFrom : ℕ → Own → State → ℕ → Step → Type 0
   WorksFrom address own s count (step.Continues t) = (k : ℕ) → exec_code whole (count + k)

@@ -1,4 +1,4 @@
--- Pieces that are put behind code one after the other.
+-- Pieces that are put after code one after the other.
 use Rattle.std.proofs.Common.{◌≡◌, ap, ◌∙◌}
 use Rattle.std.specs.Prelude.{Result, Ok, Err, OnOk}
 use Rattle.code_image.specs.declared.code.Code.{Code}

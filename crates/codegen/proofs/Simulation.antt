@@ -55,12 +55,14 @@ use Rattle.source_tree.specs.State.{change_outcome}
 use Rattle.source_tree.specs.Setting.{Scope}
 use Rattle.source_tree.specs.Texts.{texts}
 use Rattle.source_tree.specs.Inspecting.{inspect}
+use Rattle.source_tree.specs.Converting.{convert}
 use Rattle.source_tree.specs.Performing.{turns_of, turns_in, turns, performed_range, repeat, body}
 use Rattle.source_tree.specs.Until as meant
 use Rattle.source_tree.specs.Until.{vary_operation, vary_begin, vary_on, until_from}
 use Rattle.source_tree.specs.Meaning.{data_storage, step}
 use Rattle.source_tree.proofs.Runs.{IsRun, body_runs}
 use Rattle.source_tree.proofs.InspectKept.{inspected_alike}
+use Rattle.source_tree.proofs.InspectConverting.{converted_alike}
 use Rattle.data_instructions.specs.declared.instruction.DataInstruction.{DataInstruction}
 use Rattle.data_instructions.specs.declared.instruction.DataInstruction.TheVariants as i
 use Rattle.data_instructions.specs.Tables.{IsTables}
@@ -72,7 +74,7 @@ use Rattle.data_instructions.specs.Codes.{data_item, go_on, works, IsReferenceCo
 use Rattle.data_instructions.proofs.Codes.{display_works, accept_works, date_works}
 use Rattle.data_instructions.proofs.ArithmeticCodes.{arithmetic_works}
 use Rattle.data_instructions.proofs.TextCodes.{initialize_works, set_works, string_works}
-use Rattle.data_instructions.proofs.InspectCodes.{inspect_does}
+use Rattle.data_instructions.proofs.InspectCodes.{inspect_does, convert_does}
 use Rattle.code_image.specs.declared.code.Code.{Code}
 use Rattle.code_image.specs.declared.instruction.Instruction.{Instruction}
 use Rattle.code_image.specs.declared.instruction.Instruction.TheVariants.{Show, Accept, Date}
@@ -84,7 +86,7 @@ use Rattle.codegen.specs.DataCode.{reference_fragment, take_fragment, operands_f
 use Rattle.codegen.specs.DataCode.{line_end_fragment, show_fragment}
 use Rattle.codegen.specs.ArithmeticCode.{arithmetic_fragment}
 use Rattle.codegen.specs.PatternCode.{initializes_fragment, sets_fragment}
-use Rattle.codegen.specs.InspectCode.{inspect_fragment}
+use Rattle.codegen.specs.InspectCode.{inspect_fragment, convert_fragment}
 use Rattle.codegen.specs.StringCode.{string_fragment}
 use Rattle.codegen.specs.Meeting.{either_fragment}
 use Rattle.codegen.specs.ConditionCode.{condition_fragment}
@@ -107,8 +109,7 @@ use Rattle.codegen.proofs.Running.{at, one_step, WorksFrom, works_from}
 use Rattle.codegen.proofs.Codes.{left_none, right_none, Coded, display_coded, accept_coded, date_coded}
 use Rattle.codegen.proofs.ArithmeticCodes.{arithmetic_coded}
 use Rattle.codegen.proofs.PatternCodes.{initializes_codes, sets_codes}
-use Rattle.codegen.proofs.InspectCodes.{inspect_codes}
-use Rattle.codegen.proofs.InspectKept.{known_texts}
+use Rattle.codegen.proofs.InspectCodes.{inspect_codes, convert_codes}
 use Rattle.codegen.proofs.StringCodes.{string_codes}
 use Rattle.codegen.proofs.Doing.{end_of, Does, PartDoes, Sits, front_sits, back_sits, IsRoom, still_room, moved, stays}
 use Rattle.codegen.proofs.Doing.{behind, parts_do, tick_part, ticks_alone, ending_does, nothing_does, Follows}
@@ -185,7 +186,7 @@ module _ (whole : Code) (kept : ℕ → Type 0) (scope : Scope) (has : HasFiles 
       (subst (WorksFrom whole from cs s (length coded.code)) works_as
       (works_from whole coded.code from cs s (code_stands whole before part coded.code coded.is st)))
 
-  -- a reference's code, and an instruction behind it that takes its place
+  -- a reference's code, and an instruction after it that takes its place
   placed_does :
       (receiver : Reference) (one : Instruction) (before : Code) (cs : Own) (s : State) (lines : List (List ℕ))
       (taking : Scratch → scratch.Step) (e : Evaluation Storage)
@@ -270,10 +271,9 @@ module _ (whole : Code) (kept : ℕ → Type 0) (scope : Scope) (has : HasFiles 
   texts_do (text.Inspect one) before cs s keep room st =
       let part = inspect_fragment scope.items one before in
       let coded = (inspect_codes scope.items whole entries one keep).by before st in
-      let known = known_texts scope.items one keep in
-      let means = inspected_alike scope.items items_sized one s.storage keep known in
+      let means = inspected_alike scope.items items_sized one s.storage keep in
       let works_as =
-      inspect_does scope.items whole.tables order one coded.code known coded.holds (scratch_of s cs) room.line
+      inspect_does scope.items whole.tables order one coded.code coded.holds (scratch_of s cs) room.line
       ∙ ap (λ (e : Evaluation Storage).
       scratch.step_with e (λ after. scratch.Continues (record (scratch_of s cs) { storage = after }))) (sym means) in
       let from = end_of before in
@@ -281,6 +281,21 @@ module _ (whole : Code) (kept : ℕ → Type 0) (scope : Scope) (has : HasFiles 
       changed_does whole kept from to from to cs s (length coded.code)
       (behind_code whole before part coded.code coded.is)
       (inspect scope.items one s.storage)
+      (subst (WorksFrom whole from cs s (length coded.code)) works_as
+      (works_from whole coded.code from cs s (code_stands whole before part coded.code coded.is st)))
+  texts_do (text.Convert one) before cs s keep room st =
+      let part = convert_fragment scope.items one before in
+      let coded = (convert_codes scope.items whole entries one keep).by before st in
+      let means = converted_alike scope.items items_sized one s.storage keep in
+      let works_as =
+      convert_does scope.items whole.tables order one coded.code coded.holds (scratch_of s cs) room.line
+      ∙ ap (λ (e : Evaluation Storage).
+      scratch.step_with e (λ after. scratch.Continues (record (scratch_of s cs) { storage = after }))) (sym means) in
+      let from = end_of before in
+      let to = end_of (append before part) in
+      changed_does whole kept from to from to cs s (length coded.code)
+      (behind_code whole before part coded.code coded.is)
+      (convert scope.items one s.storage)
       (subst (WorksFrom whole from cs s (length coded.code)) works_as
       (works_from whole coded.code from cs s (code_stands whole before part coded.code coded.is st)))
 
@@ -489,7 +504,7 @@ module _ (whole : Code) (kept : ℕ → Type 0) (scope : Scope) (has : HasFiles 
         (phrase_blind scope inside blind None) (phrase_blind scope inside blind (Some statements)) before cs s below
         room sits
 
-    -- an arithmetic statement, behind its `tick`
+    -- an arithmetic statement, after its `tick`
     computing_does : (one : Arithmetic S) (before : Code) (cs : Own) (s : State)
         → arithmetic_rules scope.items rules one ≡ [] → s.budget < depth
         → IsRoom whole cs
@@ -527,7 +542,7 @@ module _ (whole : Code) (kept : ℕ → Type 0) (scope : Scope) (has : HasFiles 
         (phrases_do one.phrases.arose one.phrases.did_not (append before part) ds t phrases_keep (omega arith)
         (record { counters = room.counters; line = room.line }) (back_sits whole kept before part phrases sits)))
 
-    -- STRING, behind its `tick`
+    -- STRING, after its `tick`
     strings_do : (one : StringStatement S) (before : Code) (cs : Own) (s : State)
         → stringing_rules scope.items rules one ≡ [] → s.budget < depth
         → IsRoom whole cs
@@ -593,7 +608,7 @@ module _ (whole : Code) (kept : ℕ → Type 0) (scope : Scope) (has : HasFiles 
           (still_room whole kept from (end_of middle) cs ds keeps room) (back_sits whole kept before a b sits))));
     }
 
-    -- EVALUATE, behind its `tick`
+    -- EVALUATE, after its `tick`
     selecting_does : (subjects : List Subject) (selected : List (Selected S)) (other : Option (List S))
         → each (selected_rules scope.items rules subjects) selected ≡ [] → phrase_rules rules other ≡ []
         → Repeats whole kept depth (selection_outcome scope.items run subjects selected other)

@@ -100,7 +100,7 @@ pub record Straight (items : List LocatedItem) (part : Code) : Type 0 where
   pub senders : AllByRecursion IsSent part.tables.senders
   pub inspections : AllByRecursion IsInspection part.tables.inspections
 
--- a piece, behind whatever code
+-- a piece, after whatever code
 abbrev pub AlwaysStraight : List LocatedItem → Fragment → Type 0
 AlwaysStraight items piece = (before : Code) → Straight items (piece before)
 

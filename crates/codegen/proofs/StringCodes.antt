@@ -166,7 +166,7 @@ module _ (items : List LocatedItem) (whole : Code) (entries : (n : ℕ) (one : L
 
   -- ---- senders with their delimiter
 
-  -- what stands behind the senders that are found, and behind the delimiter's place
+  -- what follows the senders that are found, and after the delimiter's place
   abbrev IsPartsCode : List Operand → List DataInstruction → Type 0
   IsPartsCode senders code = (parts : List DataInstruction) × AreUpToPlaceCode items whole.tables senders parts
       × (code ≡ parts ++ (i.DropPlace ∷ []))

@@ -53,7 +53,7 @@ pub only_then : {A B : Type 0} (found : Evaluation A) (go : A → Evaluation B) 
 only_then (Ok x) go one more = more x
 only_then (Err fault) go one more = one
 
--- behind it nothing else can follow
+-- after it nothing else can follow
 ends_so : {A B : Type 0} (found : Evaluation A) (go : A → Evaluation B) → OnlyData found → ((x : A) → go x ≡ Err Data)
     → (found >>= go) ≡ Err Data
 ends_so (Ok x) go one more = more x

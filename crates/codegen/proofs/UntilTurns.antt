@@ -37,7 +37,7 @@ module _ (whole : Code) (kept : ℕ → Type 0) where
     pub by : (before : Code) (cs : Own) (s : State) → Stands whole before (piece before)
         → PartEvaluates whole before (piece before) cs s (test s.storage)
 
-  -- A turn of a loop at this line, wherever it stands: `turn go` is what it means behind what uses one of the budget,
+  -- A turn of a loop at this line, wherever it stands: `turn go` is what it means after what uses one of the budget,
   -- where `go` comes after it. At its end the truth says whether that is so, or all is done.
   record TurnDoes (line depth : ℕ) (turn : (State → Outcome) → State → Outcome) (piece : Fragment) : Type 0 where
     by : (before : Code) (from to next : ℕ) (cs : Own) (s : State) (go : State → Outcome) → from ≤ end_of before
@@ -53,9 +53,9 @@ module _ (whole : Code) (kept : ℕ → Type 0) where
   spent_same zero line s go other none = refl
   spent_same (suc n) line s go other none = absurd (omega arith)
 
-  -- ---- turns, and a branch back behind each
+  -- ---- turns, and a branch back after each
 
-  -- `rest n` is what comes behind what uses one of the budget, where n more turns may come after it.
+  -- `rest n` is what follows what uses one of the budget, where n more turns may come after it.
   module _ (line depth : ℕ) (turn : (State → Outcome) → State → Outcome) (piece : Fragment)
       (once : TurnDoes line depth turn piece)
       (rest : ℕ → State → Outcome)
@@ -115,7 +115,7 @@ module _ (whole : Code) (kept : ℕ → Type 0) where
       (test_piece onward_piece turn_piece : Fragment)
       (tests : Tests test test_piece) (goes : Repeats whole kept depth onward onward_piece)
       (performs : Repeats whole kept depth (λ s. spend line s body) turn_piece) where
-    -- a turn, and what comes behind what uses one of the budget where so many more may come after it
+    -- a turn, and what follows what uses one of the budget where so many more may come after it
     abbrev turn_before : (State → Outcome) → State → Outcome
     turn_before go s = then_do (body s) (λ t. then_do (onward t) (unless_true test go))
 
@@ -157,7 +157,7 @@ module _ (whole : Code) (kept : ℕ → Type 0) where
           (h truth gs u (omega arith) (still_room whole kept (end_of third) (end_of last) es gs stands still) is))));
     }
 
-    -- the same where the test comes behind each turn, and `onward` where it is false
+    -- the same where the test follows each turn, and `onward` where it is false
     abbrev turn_after : (State → Outcome) → State → Outcome
     turn_after go s = then_do (body s) (unless_true test (λ t. then_do (onward t) go))
 
@@ -181,7 +181,7 @@ module _ (whole : Code) (kept : ℕ → Type 0) where
         (λ k. one_step whole (end_of before) cs s (Data i.ClearTruth)
         (first_stands whole before (clear before) (Data i.ClearTruth) [] refl st) k))
 
-    -- Behind the test: nothing where it was true, and else `onward`, behind which the truth is false.
+    -- After the test: nothing where it was true, and else `onward`, after which the truth is false.
     ways_do : (before part : Code) (w : Ways whole nothing_fragment (sequence onward_piece clear) before part)
         → Sits whole kept before part
         → (from to next : ℕ) (cs : Own) (s : State) (go : State → Outcome) (truth : Bool)

@@ -12,7 +12,7 @@ use Rattle.codegen.proofs.Blind.{Blind}
 use Rattle.codegen.proofs.Either.{either_laid}
 use Rattle.codegen.proofs.Doing.{end_of, Comes, branch_goes_on, branch_goes_to, jump_comes, join_comes}
 
--- Where each way begins, and how the machine comes there and behind the branch.
+-- Where each way begins, and how the machine comes there and after the branch.
 pub record Ways (whole : Code) (first second : Fragment) (before part : Code) : Type 0 where
   -- the code before each way
   pub inner : Code
@@ -32,7 +32,7 @@ pub record Ways (whole : Code) (first second : Fragment) (before part : Code) : 
       → Comes whole (end_of (append outer (second outer))) cs s (end_of (append before part)) cs s
 
 module _ (whole : Code) (first second : Fragment) where
-  -- where the branch leads to the second way, and the jump behind the last `join`
+  -- where the branch leads to the second way, and the jump after the last `join`
   module _ (before : Code) (other end : ℕ) where
     abbrev inner_code : Code
     inner_code = append before (branch_code other)

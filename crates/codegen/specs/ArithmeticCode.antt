@@ -127,6 +127,6 @@ module _ (items : List LocatedItem) where
         sequence (value_fragment first) (sequence (value_fragment second) (division_fragment order (remainder_fragment quotient remainder)))
     operation_fragment (Compute receivers value) = sequence (expression_fragment value) (sequence (gives_fragment receivers) discard_fragment)
 
-    -- an arithmetic statement, behind its `tick` and before its phrases
+    -- an arithmetic statement, after its `tick` and before its phrases
     abbrev pub arithmetic_fragment : Operation → Fragment
     arithmetic_fragment one = sequence (work_fragment i.ClearTruth) (operation_fragment one)

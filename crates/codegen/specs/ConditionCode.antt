@@ -73,7 +73,7 @@ values_fragment = in_order value_range_fragment
 
 -- ---- AND and OR
 
--- A further condition behind AND, where the truth is true so far; behind OR, where it is false.
+-- A further condition after AND, where the truth is true so far; after OR, where it is false.
 abbrev pub and_fragment : Fragment → Fragment
 and_fragment one = either_fragment one nothing_fragment
 

@@ -175,7 +175,7 @@ module _ (items : List LocatedItem) where
   abbrev pub receivers_fragment : List Reference → Fragment
   receivers_fragment = in_order (take_fragment i.Move)
 
-  -- MOVE, behind its `tick`
+  -- MOVE, after its `tick`
   abbrev pub move_fragment : Operand → List Reference → Fragment
   move_fragment sender receivers = sequence (sender_fragment sender) (receivers_fragment receivers)
 
@@ -186,11 +186,11 @@ module _ (items : List LocatedItem) where
   abbrev pub operands_fragment : List Operand → Fragment
   operands_fragment = in_order operand_fragment
 
-  -- DISPLAY, behind its `tick`
+  -- DISPLAY, after its `tick`
   abbrev pub display_fragment : List Operand → Bool → Fragment
   display_fragment operands advancing = sequence (sequence (operands_fragment operands) (line_end_fragment advancing)) show_fragment
 
-  -- ACCEPT, behind its `tick`: the receiver's place, and `accept`
+  -- ACCEPT, after its `tick`: the receiver's place, and `accept`
   abbrev pub accept_fragment : Reference → Fragment
   accept_fragment receiver = sequence (reference_fragment receiver) (λ before. plain_code (Accept ∷ []))
 

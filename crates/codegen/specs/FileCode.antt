@@ -52,7 +52,7 @@ abbrev pub code_files : List LocatedItem → List Select → List ProgramFile �
 code_files items (select ∷ selects) (file ∷ files) = code_file items select file ∷ code_files items selects files
 code_files items selects files = []
 
--- ---- what READ INTO sends: one entry for each file, behind the items
+-- ---- what READ INTO sends: one entry for each file, after the items
 
 abbrev pub edited_alike : Kind → Kind → Bool
 edited_alike kind.AlphanumericEdited kind.AlphanumericEdited = true

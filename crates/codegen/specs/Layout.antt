@@ -4,6 +4,7 @@ use Rattle.source_tree.specs.declared.data_statement.DataStatement.{DataStatemen
 use Rattle.source_tree.specs.declared.data_statement.DataStatement.TheVariants.{Move, Initialize, Set}
 use Rattle.source_tree.specs.declared.text_statement.TextStatement.{TextStatement}
 use Rattle.source_tree.specs.declared.text_statement.TextStatement.TheVariants.{Display, Accept, AcceptDate, Inspect}
+use Rattle.source_tree.specs.declared.text_statement.TextStatement.TheVariants.{Convert}
 use Rattle.records.specs.declared.verb.Verb as on_files
 use Rattle.records.specs.declared.verb.Verb.TheVariants as file_verb
 use Rattle.source_tree.specs.declared.name.Name.{Name}
@@ -53,7 +54,8 @@ use Rattle.data_instructions.specs.Codes.{data_item}
 use Rattle.file_image.specs.declared.class.StatusClass.{StatusClass}
 use Rattle.file_image.specs.declared.class.StatusClass.TheVariants.{Successful, AtEnd, InvalidKey}
 use Rattle.code_image.specs.declared.code.Code.{Code}
-use Rattle.code_image.specs.declared.instruction.Instruction.TheVariants.{Tick, Stop, Count, CountNumber, Turn, Perform, Back}
+use Rattle.code_image.specs.declared.instruction.Instruction.TheVariants.{Tick, Stop, Count, CountNumber, Turn, Perform}
+use Rattle.code_image.specs.declared.instruction.Instruction.TheVariants.{Back}
 use Rattle.data_instructions.specs.declared.instruction.DataInstruction.TheVariants as i
 use Rattle.codegen.specs.Fragments.{Fragment, no_tables, empty_code, append, sequence, in_order, plain_code}
 use Rattle.codegen.specs.Meeting.{either_fragment, nothing_fragment}
@@ -63,10 +65,11 @@ use Rattle.codegen.specs.ArithmeticCode.{arithmetic_fragment}
 use Rattle.codegen.specs.ConditionCode.{condition_fragment}
 use Rattle.codegen.specs.PatternCode.{initializes_fragment, sets_fragment}
 use Rattle.codegen.specs.StringCode.{string_fragment}
-use Rattle.codegen.specs.InspectCode.{inspect_fragment}
+use Rattle.codegen.specs.InspectCode.{inspect_fragment, convert_fragment}
 use Rattle.codegen.specs.SubjectCode.{first_object, subjects_fragment}
 use Rattle.codegen.specs.UntilCode.{tick_fragment, until_fragment}
-use Rattle.codegen.specs.FileCode.{code_files, sent_entry, file_fragment, test_fragment, unheard_fragment, into_fragment, from_fragment, on_name_fragment, on_record_fragment}
+use Rattle.codegen.specs.FileCode.{code_files, sent_entry, file_fragment, test_fragment, unheard_fragment}
+use Rattle.codegen.specs.FileCode.{into_fragment, from_fragment, on_name_fragment, on_record_fragment}
 
 abbrev pub stop_run_fragment : ℕ → Fragment
 stop_run_fragment line before = plain_code (Tick line ∷ Stop ∷ [])
@@ -88,31 +91,36 @@ count_begin before = plain_code (CountNumber (record { number = length before.in
 abbrev pub turn_end : ℕ → ℕ → Code
 turn_end begin to = plain_code (Turn (record { number = begin }) to ∷ [])
 
--- The turns of the loop that begins at this address. A turn begins with what uses one of the budget, and each but the last leads back there.
+-- The turns of the loop that begins at this address. A turn begins with what uses one of the budget, and each but the
+-- last leads back there.
 abbrev pub counted_turn : ℕ → Fragment → Fragment
 counted_turn begin turn before = append (turn before) (turn_end begin (length before.instructions))
 
 -- so many turns
 abbrev pub times_fragment : ℕ → Fragment → Fragment
 times_fragment zero turn before = empty_code
-times_fragment (suc more) turn before = sequence (loop_begin more) (counted_turn (length before.instructions) turn) before
+times_fragment (suc more) turn before =
+    sequence (loop_begin more) (counted_turn (length before.instructions) turn) before
 
 -- as many turns as the newest number says
 abbrev pub counted_fragment : Fragment → Fragment
-counted_fragment turn before = sequence count_begin (either_fragment (counted_turn (length before.instructions) turn) nothing_fragment) before
+counted_fragment turn before =
+    sequence count_begin (either_fragment (counted_turn (length before.instructions) turn) nothing_fragment) before
 
--- How often, as the phrase of a PERFORM at this line says. The PERFORM uses one of the budget, and so does each turn; without a phrase
--- they are the same.
+-- How often, as the phrase of a PERFORM at this line says. The PERFORM uses one of the budget, and so does each turn;
+-- without a phrase they are the same.
 abbrev pub turns_fragment : List LocatedItem → ℕ → Repetition → Fragment → Fragment
 turns_fragment items line Once turn = turn
 turns_fragment items line (Times count) turn = sequence (tick_fragment line) (times_fragment (turns_of count) turn)
-turns_fragment items line (CountedBy one) turn = sequence (tick_fragment line) (sequence (take_fragment items i.Push one) (counted_fragment turn))
+turns_fragment items line (CountedBy one) turn =
+    sequence (tick_fragment line) (sequence (take_fragment items i.Push one) (counted_fragment turn))
 turns_fragment items line (Until one) turn = sequence (tick_fragment line) (until_fragment items one turn)
 
 -- The paragraphs of a range are performed, at this line; where names name none, nothing is.
 abbrev pub range_fragment : ℕ → Option Range → Fragment
 range_fragment line None before = plain_code (Tick line ∷ [])
-range_fragment line (Some range) before = plain_code (Perform line (record { number = range.first }) (record { number = range.last }) ∷ [])
+range_fragment line (Some range) before =
+    plain_code (Perform line (record { number = range.first }) (record { number = range.last }) ∷ [])
 
 abbrev pub data_fragment : List LocatedItem → DataStatement → Fragment
 data_fragment items (Move sender receivers) = move_fragment items sender receivers
@@ -124,6 +132,7 @@ texts_fragment items (Display operands advancing) = display_fragment items opera
 texts_fragment items (Accept receiver) = accept_fragment items receiver
 texts_fragment items (AcceptDate receiver) = date_fragment items receiver
 texts_fragment items (Inspect one) = inspect_fragment items one
+texts_fragment items (Convert one) = convert_fragment items one
 
 -- Statements that hold statements; `inside` is the code of those.
 module _ (scope : Scope) {S : Type 0} (inside : S → Fragment) where
@@ -142,35 +151,42 @@ module _ (scope : Scope) {S : Type 0} (inside : S → Fragment) where
   -- the phrases, where one stands
   abbrev pub phrases_from : Option (List S) → Option (List S) → Fragment
   phrases_from None None before = empty_code
-  phrases_from (Some statements) other before = either_fragment (phrase_fragment (Some statements)) (phrase_fragment other) before
-  phrases_from None (Some statements) before = either_fragment (phrase_fragment None) (phrase_fragment (Some statements)) before
+  phrases_from (Some statements) other before =
+      either_fragment (phrase_fragment (Some statements)) (phrase_fragment other) before
+  phrases_from None (Some statements) before =
+      either_fragment (phrase_fragment None) (phrase_fragment (Some statements)) before
 
   abbrev pub phrases_fragment : Phrases S → Fragment
   phrases_fragment phrases = phrases_from phrases.arose phrases.did_not
 
   abbrev pub arithmetic_statement_fragment : ℕ → Arithmetic S → Fragment
   arithmetic_statement_fragment line one =
-      sequence (tick_fragment line) (sequence (arithmetic_fragment scope.items (is_there one.phrases.arose) one.operation) (phrases_fragment one.phrases))
+      sequence (tick_fragment line) (sequence
+      (arithmetic_fragment scope.items (is_there one.phrases.arose) one.operation) (phrases_fragment one.phrases))
 
   abbrev pub string_statement_fragment : ℕ → StringStatement S → Fragment
   string_statement_fragment line one =
-      sequence (tick_fragment line) (sequence (string_fragment scope.items one.sendings one.receiver one.pointer) (phrases_fragment one.phrases))
+      sequence (tick_fragment line)
+      (sequence (string_fragment scope.items one.sendings one.receiver one.pointer) (phrases_fragment one.phrases))
 
-  -- The condition of each group of WHENs in turn, and its statements where it is true; those of OTHER behind the last one.
+  -- The condition of each group of WHENs in turn, and its statements where it is true; those of OTHER after the last
+  -- one.
   abbrev pub selection_fragment : List Subject → List (Selected S) → Option (List S) → Fragment
   selection_fragment subjects [] other = phrase_fragment other
   selection_fragment subjects (one ∷ more) other =
       sequence (condition_fragment scope.items (selected_condition scope.items subjects one))
       (either_fragment (in_order inside one.statements) (selection_fragment subjects more other))
 
-  -- EVALUATE, behind its `tick`
+  -- EVALUATE, after its `tick`
   abbrev pub evaluate_fragment : Evaluate S → Fragment
   evaluate_fragment one =
-      sequence (subjects_fragment scope.items one.subjects (first_object one.selected)) (selection_fragment one.subjects one.selected one.other)
+      sequence (subjects_fragment scope.items one.subjects (first_object one.selected))
+      (selection_fragment one.subjects one.selected one.other)
 
   abbrev pub conditional_fragment : ℕ → ConditionalStatement S → Fragment
   conditional_fragment line (branch.If condition statements otherwise) =
-      sequence (tick_fragment line) (sequence (condition_fragment scope.items condition) (either_fragment (in_order inside statements) (phrase_fragment otherwise)))
+      sequence (tick_fragment line) (sequence (condition_fragment scope.items condition)
+      (either_fragment (in_order inside statements) (phrase_fragment otherwise)))
   conditional_fragment line (branch.Evaluate one) = sequence (tick_fragment line) (evaluate_fragment one)
 
   -- ---- file statements
@@ -180,7 +196,7 @@ module _ (scope : Scope) {S : Type 0} (inside : S → Fragment) where
   taken_fragment status None = unheard_fragment status
   taken_fragment status (Some statements) = phrase_fragment (Some statements)
 
-  -- behind a success
+  -- after a success
   abbrev pub success_fragment : FilePhrases S → Fragment
   success_fragment file_phrases.Absent = nothing_fragment
   success_fragment (file_phrases.AtEnd pair) = phrase_fragment pair.did_not
@@ -188,9 +204,10 @@ module _ (scope : Scope) {S : Type 0} (inside : S → Fragment) where
 
   -- the phrase for statuses of a class
   abbrev pub class_fragment : Option ItemPlace → StatusClass → Option (List S) → Fragment
-  class_fragment status class arose = sequence (test_fragment class) (either_fragment (taken_fragment status arose) (unheard_fragment status))
+  class_fragment status class arose =
+      sequence (test_fragment class) (either_fragment (taken_fragment status arose) (unheard_fragment status))
 
-  -- behind another status
+  -- after another status
   abbrev pub failure_fragment : Option ItemPlace → FilePhrases S → Fragment
   failure_fragment status file_phrases.Absent = unheard_fragment status
   failure_fragment status (file_phrases.AtEnd pair) = class_fragment status AtEnd pair.arose
@@ -199,26 +216,32 @@ module _ (scope : Scope) {S : Type 0} (inside : S → Fragment) where
   -- what comes of the status; `onward` comes first after a success
   abbrev pub status_fragment : Option ItemPlace → FilePhrases S → Fragment → Fragment
   status_fragment status phrases onward =
-      sequence (test_fragment Successful) (either_fragment (sequence onward (success_fragment phrases)) (failure_fragment status phrases))
+      sequence (test_fragment Successful)
+      (either_fragment (sequence onward (success_fragment phrases)) (failure_fragment status phrases))
 
-  abbrev pub statement_on_fragment : FilePhrases S → (ProgramFile → Fragment) → (ProgramFile → on_files.Verb) → ProgramFile → Fragment
-  statement_on_fragment phrases onward verb file = sequence (file_fragment (verb file) file) (status_fragment file.places.status phrases (onward file))
+  abbrev pub statement_on_fragment : FilePhrases S → (ProgramFile → Fragment) → (ProgramFile → on_files.Verb)
+      → ProgramFile → Fragment
+  statement_on_fragment phrases onward verb file =
+      sequence (file_fragment (verb file) file) (status_fragment file.places.status phrases (onward file))
 
   -- nothing comes first
   abbrev pub alone_fragment : FilePhrases S → (ProgramFile → on_files.Verb) → ProgramFile → Fragment
   alone_fragment phrases verb = statement_on_fragment phrases (λ file. nothing_fragment) verb
 
   abbrev pub open_fragment : Opening → Fragment
-  open_fragment one = on_name_fragment scope.items scope.files one.file (alone_fragment file_phrases.Absent (λ file. file_verb.Open one.mode))
+  open_fragment one = on_name_fragment scope.items scope.files one.file
+      (alone_fragment file_phrases.Absent (λ file. file_verb.Open one.mode))
 
   abbrev pub close_fragment : Name → Fragment
-  close_fragment one = on_name_fragment scope.items scope.files one (alone_fragment file_phrases.Absent (λ file. file_verb.Close))
+  close_fragment one =
+      on_name_fragment scope.items scope.files one (alone_fragment file_phrases.Absent (λ file. file_verb.Close))
 
   abbrev pub record_fragment : on_files.Verb → Reference → Option Reference → FilePhrases S → Fragment
   record_fragment verb one from phrases =
-      sequence (from_fragment scope.items one from) (on_record_fragment scope.items scope.files one (alone_fragment phrases (λ file. verb)))
+      sequence (from_fragment scope.items one from)
+      (on_record_fragment scope.items scope.files one (alone_fragment phrases (λ file. verb)))
 
-  -- a file statement, behind its `tick`; each file of OPEN and CLOSE in turn
+  -- a file statement, after its `tick`; each file of OPEN and CLOSE in turn
   abbrev pub file_statement_fragment : FileStatement S → Fragment
   file_statement_fragment (filing.Open all) = in_order open_fragment all
   file_statement_fragment (filing.Close all) = in_order close_fragment all
@@ -227,7 +250,8 @@ module _ (scope : Scope) {S : Type 0} (inside : S → Fragment) where
       (statement_on_fragment phrases (into_fragment scope.items into) (λ file. read_verb scope.items file next key))
   file_statement_fragment (filing.Write one from phrases) = record_fragment file_verb.Write one from phrases
   file_statement_fragment (filing.Rewrite one from phrases) = record_fragment file_verb.Rewrite one from phrases
-  file_statement_fragment (filing.Delete file phrases) = on_name_fragment scope.items scope.files file (alone_fragment phrases (λ file. file_verb.Delete))
+  file_statement_fragment (filing.Delete file phrases) =
+      on_name_fragment scope.items scope.files file (alone_fragment phrases (λ file. file_verb.Delete))
   file_statement_fragment (filing.Start file key phrases) =
       on_name_fragment scope.items scope.files file (alone_fragment phrases (λ file. start_verb scope.items file key))
 
@@ -255,7 +279,8 @@ module _ (scope : Scope) where
 
 -- a code paragraph starts
 abbrev pub start_fragment : Fragment
-start_fragment before = record { tables = no_tables; files = []; starts = length before.instructions ∷ []; instructions = [] }
+start_fragment before =
+    record { tables = no_tables; files = []; starts = length before.instructions ∷ []; instructions = [] }
 
 -- the end of the code paragraph of this number
 abbrev pub back_fragment : ℕ → Fragment
@@ -265,7 +290,8 @@ module _ (scope : Scope) where
   -- a paragraph, numbered by how many start before it
   abbrev pub paragraph_fragment : Paragraph → Fragment
   paragraph_fragment paragraph before =
-      sequence start_fragment (sequence (in_order (sentence_fragment scope) paragraph.sentences) (back_fragment (length before.starts))) before
+      sequence start_fragment
+      (sequence (in_order (sentence_fragment scope) paragraph.sentences) (back_fragment (length before.starts))) before
 
   abbrev pub section_fragment : Section → Fragment
   section_fragment section = in_order paragraph_fragment (paragraphs_or_one section.paragraphs)
@@ -274,7 +300,7 @@ module _ (scope : Scope) where
 abbrev pub end_fragment : Code
 end_fragment = plain_code (Stop ∷ [])
 
--- the bytes of all areas at the start, and the items; behind these what READ INTO sends of each file
+-- the bytes of all areas at the start, and the items; after these what READ INTO sends of each file
 abbrev pub storage_items : List LocatedItem → List ProgramFile → List DataItem
 storage_items items files = map data_item items ++ map (sent_entry items) files
 
@@ -283,7 +309,8 @@ abbrev pub tables_with : List (List ℕ) → List LocatedItem → List ProgramFi
 tables_with areas items files = record no_tables { areas = areas; items = storage_items items files }
 
 abbrev pub storage_with : List (List ℕ) → List LocatedItem → List Select → List ProgramFile → Code
-storage_with areas items selects files = record empty_code { tables = tables_with areas items files; files = code_files items selects files }
+storage_with areas items selects files =
+    record empty_code { tables = tables_with areas items files; files = code_files items selects files }
 
 abbrev pub storage_tables : Program → DataTables
 storage_tables program = tables_with (program_areas program) (scope program).items (scope program).files

@@ -13,7 +13,7 @@ jump_code to = plain_code (Jump to ∷ Join ∷ [])
 abbrev pub join_code : Code
 join_code = plain_code (Join ∷ [])
 
--- Where the truth is true, the first piece; else the second. Both ways meet behind the last `join`. While the first piece is made, the
+-- Where the truth is true, the first piece; else the second. Both ways meet after the last `join`. While the first piece is made, the
 -- place of the second isn't known, and 0 stands for it; no piece depends on it.
 abbrev pub either_fragment : Fragment → Fragment → Fragment
 either_fragment first second before =

@@ -1,4 +1,4 @@
--- The code of INITIALIZE and of SET (own choice). The new bytes of an item go into the table of texts, and behind them what marks them.
+-- The code of INITIALIZE and of SET (own choice). The new bytes of an item go into the table of texts, and after them what marks them.
 use Rattle.std.specs.Prelude.{ℕ, List, [], ◌∷◌, length, map, Option, Some, None, slice_get}
 use Rattle.source_tree.specs.declared.reference.Reference.{Reference}
 use Rattle.source_tree.specs.Initializing.{Pattern, named_pattern, set_pattern}
@@ -39,7 +39,7 @@ module _ (items : List LocatedItem) where
   abbrev pub initialize_fragment : Reference → Fragment
   initialize_fragment one = sequence (reference_fragment items one) (pattern_fragment (pattern_of one (slice_get items (item_number items one.item))))
 
-  -- INITIALIZE, behind its `tick`
+  -- INITIALIZE, after its `tick`
   abbrev pub initializes_fragment : List Reference → Fragment
   initializes_fragment = in_order initialize_fragment
 
@@ -50,6 +50,6 @@ module _ (items : List LocatedItem) where
       (sequence (subscripts_fragment items (dimensions_of (slice_get items (condition_item items one.item).number)) one.subscripts)
       (pattern_fragment (set_of (slice_get (all_conditions items) (condition_number items one.item)))))
 
-  -- SET, behind its `tick`
+  -- SET, after its `tick`
   abbrev pub sets_fragment : List Reference → Fragment
   sets_fragment = in_order set_fragment

@@ -7,7 +7,7 @@ use Rattle.codegen.specs.declared.phrases.Way.{Way}
 use Rattle.codegen.specs.Fragments.{Fragment, append, sequence}
 use Rattle.codegen.specs.Meeting.{branch_code, jump_code}
 
--- The branch at the first address leads to the second, and the jump in front of that one, which a `join` follows, behind the last `join`.
+-- The branch at the first address leads to the second, and the jump in front of that one, which a `join` follows, after the last `join`.
 abbrev pub patched_instructions : ℕ → ℕ → List Instruction → List Instruction
 patched_instructions branch other all = slice_set (slice_set (all ++ Join ∷ []) branch (Branch other)) (other - 2) (Jump (length all + 1))
 

@@ -55,7 +55,7 @@ module _ (items : List LocatedItem) where
   up_to_place_fragment (operand.Item one) = take_fragment items (i.Gather g.UpToPlace) one
   up_to_place_fragment (operand.Literal one) = text_up_to_place_fragment (shown_literal one.value)
 
-  -- Senders up to an item, which is found behind them, for faults in the order of writing.
+  -- Senders up to an item, which is found after them, for faults in the order of writing.
   abbrev pub delimited_fragment : List Operand → Reference → Fragment
   delimited_fragment senders delimiter =
       sequence (in_order found_fragment senders) (sequence (reference_fragment items delimiter) (sequence (in_order up_to_place_fragment senders) (work_fragment i.DropPlace)))
@@ -72,7 +72,7 @@ module _ (items : List LocatedItem) where
   abbrev pub sendings_fragment : List Sending → Fragment
   sendings_fragment = in_order sender_fragment
 
-  -- the rules of the numbers behind the name of a pointer
+  -- the rules of the numbers after the name of a pointer
   abbrev pub pointer_numbers : Option Reference → List RuleBreach
   pointer_numbers None = []
   pointer_numbers (Some pointer) = number_rules_of items pointer
@@ -82,6 +82,6 @@ module _ (items : List LocatedItem) where
   put_fragment None = work_fragment (i.String false)
   put_fragment (Some pointer) = take_fragment items (i.String true) pointer
 
-  -- STRING, behind its `tick` and before its phrases
+  -- STRING, after its `tick` and before its phrases
   abbrev pub string_fragment : List Sending → Reference → Option Reference → Fragment
   string_fragment sendings receiver pointer = sequence (sendings_fragment sendings) (sequence (reference_fragment items receiver) (put_fragment pointer))

@@ -18,7 +18,7 @@ use Rattle.codegen.specs.ConditionCode.{condition_fragment}
 abbrev pub tick_fragment : ℕ → Fragment
 tick_fragment line before = plain_code (Tick line ∷ [])
 
--- A turn, which begins with what uses one of the budget, and what comes behind it; where the truth is false then, the next turn begins.
+-- A turn, which begins with what uses one of the budget, and what follows it; where the truth is false then, the next turn begins.
 abbrev pub repetition_fragment : Fragment → Fragment → Fragment
 repetition_fragment turn behind before = sequence (sequence turn behind) (λ _. branch_code (length before.instructions)) before
 
@@ -26,7 +26,7 @@ repetition_fragment turn behind before = sequence (sequence turn behind) (λ _. 
 abbrev pub until_before_fragment : Fragment → Fragment → Fragment → Fragment
 until_before_fragment test onward turn = sequence test (either_fragment nothing_fragment (repetition_fragment turn (sequence onward test)))
 
--- The test stands behind what is performed, and `onward` comes only where it is false, which it is said again then.
+-- The test follows what is performed, and `onward` comes only where it is false, which it is said again then.
 abbrev pub until_after_fragment : Fragment → Fragment → Fragment → Fragment
 until_after_fragment test onward turn =
     repetition_fragment turn (sequence test (either_fragment nothing_fragment (sequence onward (work_fragment i.ClearTruth))))

@@ -12,7 +12,7 @@ use source_tree::Reference;
 use std::alloc::AllocError;
 
 impl<'a> Emitter<'a> {
-    /// ACCEPT of the console's next line, behind its `tick`.
+    /// ACCEPT of the console's next line, after its `tick`.
     pub(crate) fn emit_accept(
         &self,
         code: &mut Code,
@@ -28,7 +28,7 @@ impl<'a> Emitter<'a> {
         Ok(())
     }
 
-    /// ACCEPT FROM DATE, behind its `tick`.
+    /// ACCEPT FROM DATE, after its `tick`.
     pub(crate) fn emit_date(&self, code: &mut Code, receiver: &Reference) -> Result<(), AllocError>
         requires declared { IsDeclared self.now.declarations.now }
         requires rules { accept_date_rules (items_in self.now.declarations.now) receiver.now ≡ [] }

@@ -405,7 +405,7 @@ impl<'a> Emitter<'a> {
         self.emit_results(code, keep, one)
     }
 
-    /// An arithmetic statement, behind its `tick` and before its phrases. `keep`: there is an ON SIZE ERROR phrase.
+    /// An arithmetic statement, after its `tick` and before its phrases. `keep`: there is an ON SIZE ERROR phrase.
     pub(crate) fn emit_arithmetic(
         &self,
         code: &mut Code,

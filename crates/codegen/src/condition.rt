@@ -84,7 +84,7 @@ pub(crate) fn zero_literal() -> Literal
     }
 }
 
-/// NOT behind a test.
+/// NOT after a test.
 pub(crate) fn emit_negation(code: &mut Code, negated: bool) -> Result<(), AllocError>
     ensures { OnOk result
         (code.new ≡ append code.old (works_fragment (negation negated) code.old)) }
@@ -421,7 +421,7 @@ impl<'a> Emitter<'a> {
         self.emit_each_or(code, more)
     }
 
-    /// The further conditions behind AND.
+    /// The further conditions after AND.
     #[cycle(condition)]
     fn emit_each_and(&self, code: &mut Code, more: &[Condition]) -> Result<(), AllocError>
         requires declared { IsDeclared self.now.declarations.now }
@@ -437,7 +437,7 @@ impl<'a> Emitter<'a> {
         Ok(())
     }
 
-    /// The further conditions behind OR.
+    /// The further conditions after OR.
     #[cycle(condition)]
     fn emit_each_or(&self, code: &mut Code, more: &[Condition]) -> Result<(), AllocError>
         requires declared { IsDeclared self.now.declarations.now }
@@ -453,7 +453,7 @@ impl<'a> Emitter<'a> {
         Ok(())
     }
 
-    /// A condition behind AND: it is asked where the truth is true so far.
+    /// A condition after AND: it is asked where the truth is true so far.
     #[cycle(condition)]
     fn emit_and(&self, code: &mut Code, one: &Condition) -> Result<(), AllocError>
         requires declared { IsDeclared self.now.declarations.now }
@@ -468,7 +468,7 @@ impl<'a> Emitter<'a> {
         emit_meeting(code, branch, other)
     }
 
-    /// A condition behind OR: it is asked where the truth is false so far.
+    /// A condition after OR: it is asked where the truth is false so far.
     #[cycle(condition)]
     fn emit_or(&self, code: &mut Code, one: &Condition) -> Result<(), AllocError>
         requires declared { IsDeclared self.now.declarations.now }

@@ -73,7 +73,7 @@ impl<'a> Emitter<'a> {
         Ok(())
     }
 
-    /// DISPLAY of operands, behind its `tick`.
+    /// DISPLAY of operands, after its `tick`.
     pub(crate) fn emit_display(
         &self,
         code: &mut Code,

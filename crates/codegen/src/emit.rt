@@ -121,6 +121,7 @@ impl<'a> Emitter<'a> {
             TextStatement::Accept { receiver } => self.emit_accept(code, receiver),
             TextStatement::AcceptDate { receiver } => self.emit_date(code, receiver),
             TextStatement::Inspect(inspecting) => self.emit_inspect(code, inspecting),
+            TextStatement::Convert(converting) => self.emit_convert(code, converting),
         }
     }
 

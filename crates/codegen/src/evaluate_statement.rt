@@ -70,7 +70,7 @@ impl<'a> Emitter<'a> {
         Ok(ways)
     }
 
-    /// The subjects, the groups of WHENs, and OTHER; all ways meet behind it.
+    /// The subjects, the groups of WHENs, and OTHER; all ways meet after it.
     #[cycle(statement)]
     pub(crate) fn emit_evaluate(
         &self,

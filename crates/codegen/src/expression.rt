@@ -108,7 +108,7 @@ impl<'a> Emitter<'a> {
         }
     }
 
-    /// What stands behind the first operand of a chain: each further one, and its operator.
+    /// What follows the first operand of a chain: each further one, and its operator.
     #[cycle(expression)]
     fn emit_chain(&self, code: &mut Code, all: &[(Operator, Expression)]) -> Result<(), AllocError>
         requires declared { IsDeclared self.now.declarations.now }

@@ -220,7 +220,7 @@ impl<'a> Emitter<'a> {
         emit_meeting(code, branch, other)
     }
 
-    /// The statements behind a success.
+    /// The statements after a success.
     #[cycle(statement)]
     fn emit_success(
         &self,

@@ -30,7 +30,7 @@ impl<'a> Emitter<'a> {
         emit_overlay(code, self.initial_overlay(one)?)
     }
 
-    /// INITIALIZE, behind its `tick`.
+    /// INITIALIZE, after its `tick`.
     pub(crate) fn emit_initializes(
         &self,
         code: &mut Code,
@@ -64,7 +64,7 @@ impl<'a> Emitter<'a> {
         emit_overlay(code, made)
     }
 
-    /// SET, behind its `tick`.
+    /// SET, after its `tick`.
     pub(crate) fn emit_sets(&self, code: &mut Code, all: &[Reference]) -> Result<(), AllocError>
         requires declared { IsDeclared self.now.declarations.now }
         requires entries { entry_rules self.now.declarations.now.storage.now ≡ [] }

@@ -84,7 +84,7 @@ impl<'a> Emitter<'a> {
         Ok(())
     }
 
-    /// MOVE of a sender to receivers, behind its `tick`.
+    /// MOVE of a sender to receivers, after its `tick`.
     pub(crate) fn emit_move(
         &self,
         code: &mut Code,

@@ -138,7 +138,7 @@ fn sent_entry(
     })
 }
 
-/// The items, and behind them what READ INTO sends of each file.
+/// The items, and after them what READ INTO sends of each file.
 fn storage_items(
     alloc: Global,
     declarations: &Declarations<'_>,

@@ -54,7 +54,7 @@ impl<'a> Emitter<'a> {
         emit_work(code, discard())
     }
 
-    /// Where the truth is false, VARYING goes on, and the truth is false behind it.
+    /// Where the truth is false, VARYING goes on, and the truth is false after it.
     fn emit_onward(&self, code: &mut Code, one: &Option<Varying>) -> Result<(), AllocError>
         requires declared { IsDeclared self.now.declarations.now }
         requires rules { varying_rules (items_in self.now.declarations.now) one.now ≡ [] }
@@ -153,7 +153,7 @@ impl<'a> Emitter<'a> {
         emit_way_back(code, begin)
     }
 
-    /// The test stands behind what is performed.
+    /// The test follows what is performed.
     #[cycle(statement)]
     fn emit_until_after(
         &self,

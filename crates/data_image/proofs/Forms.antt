@@ -144,7 +144,7 @@ module _ {B : Type 0} (spelled : B → List ℕ) (fits : B → Type 0) where
       → Took spelled fits (n ∷ rest) x
   byte_is k n rest x e t = subst (λ (m : ℕ). Took spelled fits (m ∷ rest) x) (sym (eqb-true n k e)) t
 
-  -- a part behind a byte
+  -- a part after a byte
   pub behind_took : {A : Type 0} {read : List ℕ → ReadResult A} {inner : A → List ℕ} {holds : A → Type 0}
       → IsForm read inner holds → (k : ℕ) (make : A → B)
       → ((a : A) → spelled (make a) ≡ k ∷ inner a) → ((a : A) → holds a → fits (make a))
@@ -156,7 +156,7 @@ module _ {B : Type 0} (spelled : B → List ℕ) (fits : B → Type 0) where
       (sym (same a.value)) (takes_kind k rest (inner a.value) a.rest a.takes) in
       subst (Took spelled fits (k ∷ rest)) (ok_is (make a.value, a.rest) x a.goes) (t, sound a.value a.sound)
 
-  -- nothing behind the byte
+  -- nothing after the byte
   pub alone_took : (k : ℕ) (y : B) (rest : List ℕ) (x : B × List ℕ) → (spelled y ≡ k ∷ []) × fits y → IsBytes rest
       → done (y, rest) ≡ Ok x → Took spelled fits (k ∷ rest) x
   alone_took k y rest x told is e =
@@ -164,7 +164,7 @@ module _ {B : Type 0} (spelled : B → List ℕ) (fits : B → Type 0) where
       record { parts = ap (λ (s : List ℕ). s ++ rest) (sym told.0); rest_fits = is } in
       subst (Took spelled fits (k ∷ rest)) (ok_is (y, rest) x e) (t, told.1)
 
-  -- what a byte tells, with nothing behind it
+  -- what a byte tells, with nothing after it
   pub told_took : (told : ℕ → Option B) → ((n : ℕ) (y : B) → told n ≡ Some y → (spelled y ≡ n ∷ []) × fits y)
       → (n : ℕ) (rest : List ℕ) (x : B × List ℕ) → IsBytes rest → (or_value (told n) >>= λ y. Ok (y, rest)) ≡ Ok x
       → Took spelled fits (n ∷ rest) x

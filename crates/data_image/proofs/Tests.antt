@@ -1,4 +1,4 @@
--- Relations and classes, and the tests that have one behind their first byte, read and spelled.
+-- Relations and classes, and the tests that have one after their first byte, read and spelled.
 use Rattle.std.proofs.Common.{◌≡◌, ℕ, ◌<◌, ◌^◌, List, [], ◌∷◌, ◌++◌, Ok, refl, ap, subst, ◌∙◌, append_assoc}
 use Rattle.std.specs.Prelude.{Some}
 use Rattle.source_tree.specs.declared.condition.Relation.{Relation}

@@ -12,6 +12,7 @@ gather_bytes g.UpToPlace = 63 ∷ []
 gather_bytes (g.UpToText delimiter) = 64 ∷ short_bytes delimiter.number
 gather_bytes (g.TextUpToPlace text) = 65 ∷ short_bytes text.number
 gather_bytes g.Sized = 68 ∷ []
+gather_bytes g.Measured = 74 ∷ []
 
 -- STRING, by whether it has a pointer
 abbrev pub string_byte : Bool → ℕ
@@ -24,11 +25,15 @@ HasText g.UpToPlace = Unit {0}
 HasText (g.UpToText delimiter) = FitsFourBytes delimiter.number
 HasText (g.TextUpToPlace text) = FitsFourBytes text.number
 HasText g.Sized = Unit {0}
+HasText g.Measured = Unit {0}
 
 -- ---- reading
 
 abbrev pub inspect : ℕ → DataInstruction
 inspect number = i.Inspect (record { number = number })
+
+abbrev pub convert : ℕ → DataInstruction
+convert number = i.Convert (record { number = number })
 
 abbrev pub overlay : ℕ → DataInstruction
 overlay number = i.Overlay (record { number = number })

@@ -55,7 +55,7 @@ pub fn put_short(out: &mut Vec<u8>, number: u32) -> Result<(), AllocError>
     out.extend_from_slice(&bytes)
 }
 
-/// Puts a byte, and a number of four bytes behind it.
+/// Puts a byte, and a number of four bytes after it.
 pub fn put_naming(out: &mut Vec<u8>, first: u8, number: u32) -> Result<(), AllocError>
     ensures bytes { OnOk result (out.new.items ≡ out.old.items ++ (first ∷ short_bytes number)) }
     ensures fits { FitsFourBytes number }

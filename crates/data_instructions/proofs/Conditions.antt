@@ -55,7 +55,7 @@ kept_same : {A : Type 0} (r : Evaluation A) (take : A → Sender) (truth_of : A 
 kept_same (Ok x) take truth_of s = refl
 kept_same (Err fault) take truth_of s = refl
 
--- the sender that is left behind a truth, if there is one
+-- the sender that is left after a truth, if there is one
 abbrev sender_behind : Evaluation Bool → (Bool → Option Sender) → Option Sender
 sender_behind (Ok truth) sender = sender truth
 sender_behind (Err fault) sender = None

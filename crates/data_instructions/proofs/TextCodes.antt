@@ -164,7 +164,7 @@ module _ (items : List LocatedItem) (tables : DataTables) (order : IsTables tabl
   sent_works (Some delimiter) (operand.Literal one) code is s =
       text_works items tables order (delimited_characters delimiter (shown_literal one.value)) code is s
 
-  -- one text after another, each put behind what is in the line
+  -- one text after another, each put after what is in the line
   both_put :
       (delimiter : Option (List ℕ)) (one : Operand) (more : List Operand) (back : List DataInstruction) (s : Scratch)
       → ((t : Scratch) → t.storage ≡ s.storage → t.places ≡ s.places → works tables back t ≡ step_with

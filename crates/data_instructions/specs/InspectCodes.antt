@@ -1,12 +1,17 @@
 -- The code of INSPECT (own choice), and what it does: INSPECT as it is laid out.
-use Rattle.std.specs.Prelude.{◌≡◌, ℕ, List, [], ◌∷◌, ◌++◌, Some, slice_get}
+use Rattle.std.specs.Prelude.{◌≡◌, ℕ, zero, suc, ◌+◌, List, [], ◌∷◌, ◌++◌, Option, Some, None, slice_get}
+use Rattle.source_tree.specs.declared.inspect_statement.Converting.{Converting}
 use Rattle.source_tree.specs.declared.inspect_statement.InspectStatement.{InspectStatement}
+use Rattle.source_tree.specs.Converting.{as_replacing, convert_by_spans}
 use Rattle.source_tree.specs.Places.{LocatedItem}
 use Rattle.source_tree.specs.InspectLayout as layout
-use Rattle.source_tree.specs.InspectLayout.{Bytes, Characters, InspectArgument, Counter, Text, takings, inspection, inspected_size, inspect_by_spans}
+use Rattle.source_tree.specs.InspectLayout.{Bytes, Characters, InspectArgument, Counter, Text, takings, inspection}
+use Rattle.source_tree.specs.InspectLayout.{inspected_size, inspect_by_spans, measured_texts}
+use Rattle.source_tree.specs.MeasuredTexts.{room_of}
 use Rattle.data_instructions.specs.declared.index.InspectionIndex.{InspectionIndex}
 use Rattle.data_instructions.specs.declared.tables.Inspection.{Inspection}
 use Rattle.data_instructions.specs.declared.tables.DataTables.{DataTables}
+use Rattle.data_instructions.specs.declared.gather.Gather.{Gather}
 use Rattle.data_instructions.specs.declared.gather.Gather.TheVariants as g
 use Rattle.data_instructions.specs.declared.instruction.DataInstruction.{DataInstruction}
 use Rattle.data_instructions.specs.declared.instruction.DataInstruction.TheVariants as i
@@ -16,18 +21,37 @@ use Rattle.data_instructions.specs.Codes.{works, IsReferenceCode, IsTakingCode, 
 use Rattle.data_instructions.specs.Chains.{LiesAll}
 use Rattle.data_instructions.specs.TextCodes.{KnowsString}
 
+-- What adds an item's text to the line: a text with a room is measured.
+abbrev pub gather_by : Option ℕ → Gather
+gather_by None = g.Sized
+gather_by (Some room) = g.Measured
+
+-- how many numbers are put on the stack: two for each text that is measured
+abbrev pub taken_numbers : List LocatedItem → List InspectArgument → ℕ
+taken_numbers items all = measured_texts items all + measured_texts items all
+
+-- the last instruction, with so many numbers
+abbrev pub inspect_by : InspectionIndex → ℕ → DataInstruction
+inspect_by index zero = i.Inspect index
+inspect_by index (suc n) = i.InspectMeasured index (suc n)
+
+abbrev pub convert_by : InspectionIndex → ℕ → DataInstruction
+convert_by index zero = i.Convert index
+convert_by index (suc n) = i.ConvertMeasured index (suc n)
+
 module _ (items : List LocatedItem) (tables : DataTables) where
   -- A counter's place stays on the stack; a text is added to the line.
   abbrev pub IsTakenCode : InspectArgument → List DataInstruction → Type 0
   IsTakenCode (Counter one) code = IsReferenceCode items tables one code
-  IsTakenCode (Text (Bytes one)) code = IsTakingCode items tables (i.Gather g.Sized) one code
+  IsTakenCode (Text (Bytes one)) code = IsTakingCode items tables (i.Gather (gather_by (room_of items one))) one code
   IsTakenCode (Text (Characters text)) code = IsTextCode items tables text code
 
   -- in the order of writing
   abbrev pub AreTakenCode : List InspectArgument → List DataInstruction → Type 0
   AreTakenCode [] code = code ≡ []
   AreTakenCode (one ∷ more) code =
-      (front : List DataInstruction) × IsTakenCode one front × (back : List DataInstruction) × AreTakenCode more back × (code ≡ front ++ back)
+      (front : List DataInstruction) × IsTakenCode one front × (back : List DataInstruction) × AreTakenCode more back
+      × (code ≡ front ++ back)
 
   -- what the table has of an INSPECT, whose texts have this size
   pub record HasInspection (how : layout.Inspection) (size : ℕ) (index : InspectionIndex) : Type 0 where
@@ -42,12 +66,27 @@ module _ (items : List LocatedItem) (tables : DataTables) where
       (subject : List DataInstruction) × IsReferenceCode items tables one.subject subject
       × (parts : List DataInstruction) × AreTakenCode (takings items one) parts
       × (index : InspectionIndex) × HasInspection (inspection items one) (inspected_size items one) index
-      × (code ≡ subject ++ (parts ++ (i.Inspect index ∷ [])))
+      × (code ≡ subject ++ (parts ++ (inspect_by index (taken_numbers items (takings items one)) ∷ [])))
 
   -- with nothing in the line, which is empty again
   abbrev pub DoesInspect : InspectStatement → List DataInstruction → Type 0
   DoesInspect one code =
-      (s : Scratch) → s.line ≡ [] → works tables code s ≡ step_with (inspect_by_spans items one s.storage) (λ after. Continues (record s { storage = after }))
+      (s : Scratch) → s.line ≡ [] → works tables code s ≡ step_with (inspect_by_spans items one s.storage)
+      (λ after. Continues (record s { storage = after }))
+
+  -- CONVERTING takes the same as the INSPECT that replaces its first text, and ends with another instruction.
+  abbrev pub IsConvertCode : Converting → List DataInstruction → Type 0
+  IsConvertCode one code =
+      (subject : List DataInstruction) × IsReferenceCode items tables one.subject subject
+      × (parts : List DataInstruction) × AreTakenCode (takings items (as_replacing one)) parts
+      × (index : InspectionIndex)
+      × HasInspection (inspection items (as_replacing one)) (inspected_size items (as_replacing one)) index
+      × (code ≡ subject ++ (parts ++ (convert_by index (taken_numbers items (takings items (as_replacing one))) ∷ [])))
+
+  abbrev pub DoesConvert : Converting → List DataInstruction → Type 0
+  DoesConvert one code =
+      (s : Scratch) → s.line ≡ [] → works tables code s ≡ step_with (convert_by_spans items one s.storage)
+      (λ after. Continues (record s { storage = after }))
 
   -- ---- what is known along it
 

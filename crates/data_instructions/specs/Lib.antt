@@ -15,3 +15,4 @@ pub mod ArithmeticCodes
 pub mod ConditionCodes
 pub mod TextCodes
 pub mod InspectCodes
+pub mod Laws

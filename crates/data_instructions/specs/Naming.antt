@@ -41,3 +41,6 @@ NamesEntries tables (i.Gather one) = GathersEntries tables one
 NamesEntries tables (i.Part one) = Unit {0}
 NamesEntries tables (i.String pointer) = Unit {0}
 NamesEntries tables (i.Inspect inspection) = inspection.number < length tables.inspections
+NamesEntries tables (i.Convert inspection) = inspection.number < length tables.inspections
+NamesEntries tables (i.InspectMeasured inspection numbers) = inspection.number < length tables.inspections
+NamesEntries tables (i.ConvertMeasured inspection numbers) = inspection.number < length tables.inspections

@@ -2,7 +2,7 @@
 
 use crate::index::ItemIndex;
 
-/// An item of the table, at so many bytes behind the start of its area, and how many of its bytes there are.
+/// An item of the table, at so many bytes after the start of its area, and how many of its bytes there are.
 #[derive(Clone, Copy, PartialEq, Eq)]
 pub struct Place {
     pub item: ItemIndex,

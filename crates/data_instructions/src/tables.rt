@@ -6,7 +6,7 @@ use picture::Picture;
 use sqlite_items::Items;
 use text_ops::Entry;
 
-/// An item that code names. Its first occurrence begins `offset` bytes behind the start of its area.
+/// An item that code names. Its first occurrence begins `offset` bytes after the start of its area.
 #[derive(Drop)]
 pub struct DataItem {
     pub item: Item,

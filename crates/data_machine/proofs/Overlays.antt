@@ -8,7 +8,7 @@ use Rattle.data_instructions.specs.Table.{replacement_byte, pattern_of}
 use Rattle.data_machine.specs.Overlays.{byte_over}
 
 module _ (old : ℕ) where
-  -- behind the last byte, or mark, nothing changes
+  -- after the last byte, or mark, nothing changes
   pub past_bytes : (bytes marks : List ℕ) (i : ℕ) → length bytes ≤ i
       → old ≡ byte_over (slice_get (pattern_of bytes marks) i) old
   past_bytes [] marks i h = refl

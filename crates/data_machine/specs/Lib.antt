@@ -4,6 +4,7 @@ pub mod Areas
 pub mod Writing
 pub mod Finds
 pub mod Data
+pub mod Measured
 pub mod Inspecting
 pub mod Comes
 pub mod Ready

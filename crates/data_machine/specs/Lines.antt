@@ -6,7 +6,7 @@ use Rattle.data_instructions.specs.declared.place.Place.{Place}
 use Rattle.data_instructions.specs.declared.tables.DataItem.{DataItem}
 use Rattle.data_instructions.specs.declared.tables.DataTables.{DataTables}
 
--- for what is shown of the newest place, behind so many bytes
+-- for what is shown of the newest place, after so many bytes
 abbrev pub HasLineRoom : DataTables → List Place → ℕ → ℕ → Type 0
 HasLineRoom tables [] used room = ⊥
 HasLineRoom tables (p ∷ ps) used room = (one : DataItem) → slice_get tables.items p.item.number ≡ Some one → used + shown_length one.item.kind p.length ≤ room
@@ -15,6 +15,11 @@ HasLineRoom tables (p ∷ ps) used room = (one : DataItem) → slice_get tables.
 abbrev pub HasPartRoom : DataTables → List Place → ℕ → ℕ → Type 0
 HasPartRoom tables [] used room = ⊥
 HasPartRoom tables (p ∷ ps) used room = used + p.length ≤ room
+
+-- for all bytes of its item in the table
+abbrev pub HasWholeRoom : DataTables → List Place → ℕ → ℕ → Type 0
+HasWholeRoom tables [] used room = ⊥
+HasWholeRoom tables (p ∷ ps) used room = (one : DataItem) → slice_get tables.items p.item.number ≡ Some one → used + one.item.length ≤ room
 
 -- for a text
 abbrev pub HasTextRoom : DataTables → TextIndex → ℕ → ℕ → Type 0

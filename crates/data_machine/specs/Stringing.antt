@@ -12,7 +12,7 @@ use Rattle.data_instructions.specs.Scratch.{Scratch, Step, Continues}
 abbrev pub put_from : ItemPlace → ItemPlace → List ℕ → Storage → Evaluation Strings
 put_from receiver pointer text storage = held_position storage pointer >>= (λ at. put_text receiver (Some pointer) at text storage)
 
--- what is left behind it: the truth is whether there was an overflow, and the line is empty
+-- what is left after it: the truth is whether there was an overflow, and the line is empty
 abbrev pub strung_with : Scratch → Strings → Step
 strung_with s after = Continues (record s { storage = after.storage; truth = after.overflow; line = [] })
 

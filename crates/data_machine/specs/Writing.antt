@@ -18,7 +18,7 @@ abbrev pub Stores : Result (Unit {0}) DataFault → Storage → Storage → Eval
 Stores (Ok done) old new answer = answer ≡ Ok new
 Stores (Err fault) old new answer = (answer ≡ Err Data) × (new ≡ old)
 
--- Bytes written behind so many, which stay, up to where it is told; or nothing.
+-- Bytes written after so many, which stay, up to where it is told; or nothing.
 abbrev pub WritesBehind : Result ℕ DataFault → ℕ → List ℕ → List ℕ → Option (List ℕ) → Type 0
 WritesBehind (Ok end) used old new answer = (bytes : List ℕ) × (answer ≡ Some bytes) × (take end new ≡ take used old ++ bytes)
 WritesBehind (Err fault) used old new answer = (answer ≡ None) × (new ≡ old)

@@ -6,6 +6,8 @@ ghost use Rattle.items.specs.Texts.{padded_text};
 ghost use Rattle.source_tree.specs.References.{part_of, storage_with};
 ghost use Rattle.source_tree.specs.Initializing.{overlaid_storage};
 ghost use Rattle.text_ops.specs.Strings.{string_of_senders};
+ghost use Rattle.text_ops.specs.Entries.{AreWithin};
+ghost use Rattle.text_ops.specs.Convert.{converted_subject};
 ghost use Rattle.data_instructions.specs.Table.{pattern_of};
 ghost use Rattle.source_tree.specs.Moving.{move_to};
 ghost use Rattle.source_tree.specs.Arithmetic as arithmetic;
@@ -18,6 +20,7 @@ ghost use Rattle.data_machine.specs.Writing.{Stores};
 ghost use Rattle.data_machine.specs.KeptNumbers.{StoresNumber};
 ghost use Rattle.data_machine.specs.KeptAtScale.{FitsDigits, bytes_at_scale};
 
+use crate::converting::convert_part;
 use crate::fitting::store_part;
 use crate::overlaying::overlay_part;
 use crate::receiving::{move_part, pad_part};
@@ -30,6 +33,7 @@ use items::{DataFault, Kind, Taken, part};
 use sqlite_items::Items;
 use std::alloc::{AllocError, Global};
 use std::marker::Model;
+use text_ops::Entry;
 
 /// Areas of bytes. What instructions do leaves each its length.
 #[derive(Drop)]
@@ -164,7 +168,20 @@ impl Areas {
         overlay_part(one, area.as_mut_slice(), offset, bytes, marks);
     }
 
-    /// Puts a text into an item that stands at an offset, from a position on, which counts from 1. Answers the position behind
+    /// Converts the characters of an item that stands at an offset, by the first entry. The entries' texts are spans of `texts`.
+    pub fn convert(&mut self, one: &DataItem, offset: usize, texts: &[u8], entries: &[Entry])
+        requires stands { IsAtOffset one.now self.old offset }
+        requires entries { AreWithin entries.now (length texts.now) }
+        ensures stores { self.new ≡ storage_with (item_place one.now offset)
+            (converted_subject texts.now entries.now
+            (part_of self.old (item_place one.now offset))) self.old }
+        ensures lengths { map length self.new ≡ map length self.old }
+    {
+        let area = &mut self.areas[one.area as usize];
+        convert_part(one, area.as_mut_slice(), offset, texts, entries);
+    }
+
+    /// Puts a text into an item that stands at an offset, from a position on, which counts from 1. Answers the position after
     /// it, and whether there was an overflow.
     pub fn string_into(
         &mut self,

@@ -133,7 +133,7 @@ fn replace_front(
     replace(texts, entries, progress, front);
 }
 
-/// Writes what DISPLAY shows of an item behind so many bytes, and answers where it ends.
+/// Writes what DISPLAY shows of an item after so many bytes, and answers where it ends.
 fn put_shown(item: Item, bytes: &[u8], used: usize, room: &mut [u8]) -> Result<usize, DataFault>
     requires item { HasLengthOf item bytes.now }
     requires room { used + shown_length item.kind (length bytes.now) ≤ length room.old }

@@ -5,6 +5,7 @@
 mod areas;
 mod buffer;
 mod calculating;
+mod converting;
 mod data;
 mod fitting;
 mod gathering;
@@ -13,6 +14,7 @@ mod inspect_statement;
 mod integers;
 mod item_part;
 mod laws;
+mod measuring;
 mod move_items;
 mod numbers;
 mod occurrence;

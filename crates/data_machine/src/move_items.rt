@@ -40,7 +40,7 @@ pub fn move_numbers(
     Ok(())
 }
 
-/// Writes characters from the left, with spaces behind them: those that fill the bytes are copied in the caller's own code.
+/// Writes characters from the left, with spaces after them: those that fill the bytes are copied in the caller's own code.
 #[inline(always)]
 #[tactic(auto, using(items::proofs::Repeats::full_text))]
 pub fn put_text(text: &[u8], bytes: &mut [u8])

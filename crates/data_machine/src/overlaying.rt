@@ -34,7 +34,7 @@ fn byte_over(bytes: &[u8], marks: &[u8], at: usize, old: u8) -> u8
     bytes[at]
 }
 
-/// Lays bytes over others, where their marks aren't 0. Behind the last byte or mark nothing changes.
+/// Lays bytes over others, where their marks aren't 0. After the last byte or mark nothing changes.
 fn overlay(bytes: &[u8], marks: &[u8], to: &mut [u8])
     ensures { to.new ≡ overlaid (spec.pattern_of bytes.now marks.now) to.old }
 {

@@ -27,7 +27,7 @@ use decimal18::Dec;
 use text_ops::string_into;
 
 /// Puts a text into an item at an offset in its area, from a position on, which counts from 1: the other bytes stay. Answers the
-/// position behind it, and whether there was an overflow.
+/// position after it, and whether there was an overflow.
 pub fn string_part(
     one: &DataItem,
     area: &mut [u8],
@@ -82,7 +82,7 @@ fn put_from_first(areas: &mut Areas, one: &DataItem, offset: usize, text: &[u8])
     areas.string_into(one, offset, text, 1).1
 }
 
-/// The same from the position on that a pointer holds, which then holds the one behind the text. Where it is outside of the item
+/// The same from the position on that a pointer holds, which then holds the one after the text. Where it is outside of the item
 /// nothing changes. Fault 90 where the pointer holds no integer.
 fn put_from_pointer(
     areas: &mut Areas,

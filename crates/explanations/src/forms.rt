@@ -58,11 +58,12 @@ IF condition [THEN] statement ... [ELSE statement ...] [END-IF]
 INITIALIZE item ...
 
 @ INSPECT
-INSPECT item {tallying [replacing] | replacing}
+INSPECT item {tallying [replacing] | replacing | converting}
 tallying: TALLYING {counter FOR {CHARACTERS limits | {ALL | LEADING} {text
     limits} ...} ...} ...
 replacing: REPLACING {CHARACTERS BY text limits | {ALL | LEADING | FIRST} {text
     BY text limits} ...} ...
+converting: CONVERTING text TO text limits
 limits: [BEFORE [INITIAL] text] [AFTER [INITIAL] text], in either order
 
 @ MOVE

@@ -430,10 +430,6 @@ MOVE the values.
 INITIALIZE has no phrases
 MOVE the values.
 
-@ INSPECT CONVERTING
-INSPECT has no CONVERTING
-Write REPLACING ALL for each character: ALL "a" BY "A" ALL "b" BY "B".
-
 @ LENGTH
 LENGTH OF is not in this language
 Write the number. `cobol layout SOURCE` shows the length of each item.

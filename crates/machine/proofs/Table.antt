@@ -82,7 +82,7 @@ not_too_long : (o b : Bool) → (o && b) ≡ false → o ≡ true → b ≡ fals
 not_too_long true b e so = e
 not_too_long false b e so = absurd cc
 
--- ---- a row that was sought stands behind the place
+-- ---- a row that was sought follows the place
 
 kept : (first : Row) (spec : Spec) (key : KeyOfReference) (rest : Option Row) (row : Row)
     → lesser spec key first rest ≡ Some row → (row ≡ first) ⊎ (rest ≡ Some row)

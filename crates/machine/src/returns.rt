@@ -12,7 +12,7 @@ use std::marker::Model;
 pub(crate) struct Return {
     /// The number of the last code paragraph that it performs.
     pub(crate) last: usize,
-    /// The address behind it.
+    /// The address after it.
     pub(crate) next: usize,
 }
 

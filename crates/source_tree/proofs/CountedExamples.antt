@@ -1,4 +1,4 @@
--- As many turns as an item says, on an item of a digit behind its sign. Expected is what the manual says of it.
+-- As many turns as an item says, on an item of a digit after its sign. Expected is what the manual says of it.
 use Prim.Native.String.{String}
 use Rattle.std.proofs.Common.{◌≡◌, ℕ, true, List, [], ◌∷◌, refl}
 use Rattle.std.specs.Prelude.{codes, map}

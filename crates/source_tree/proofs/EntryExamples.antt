@@ -210,7 +210,7 @@ values : Break ((
       ∷ valued (number (codes "12")) (item (codes "77") (codes "B") (codes "9")) ∷ []),
   47 ∷ [],
 )
-    -- zeros in front and behind aren't cut
+    -- zeros in front and after aren't cut
     ∷ (entries (valued (decimal (codes "001") (codes "500")) (item (codes "77") (codes "A") (codes "9V9")) ∷ []), [])
     ∷ (entries (valued (decimal (codes "1") (codes "55")) (item (codes "77") (codes "A") (codes "9V9")) ∷ []), 47 ∷ [])
     ∷ (

@@ -75,7 +75,7 @@ at_object = at 3 17
 abbrev when : List Choice → When
 when choices = record { place = at_when; objects = map (λ one. record { place = at_object; choice = one }) choices }
 
--- WHENs one after the other, and the bytes that are shown behind them, each by a statement
+-- WHENs one after the other, and the bytes that are shown after them, each by a statement
 abbrev whens : List (List Choice) → String → Selected ℕ
 whens each shown = record { whens = map when each; statements = codes shown }
 
@@ -192,7 +192,7 @@ abbrev Faults : List ((String → String → Outcome) × String × String) → T
 Faults [] = Unit {0}
 Faults (row ∷ more) = (row.0 row.1 row.2 ≡ Over (Faulted fault.Data 9) (after row.1 row.2 "")) × Faults more
 
--- A subject is taken beside ANY, behind an object that isn't met, where another one decides, and alone; and so is a
+-- A subject is taken beside ANY, after an object that isn't met, where another one decides, and alone; and so is a
 -- condition.
 taken : Faults ((beside_two choice.Any, "2", "x")
     ∷ (beside_two (is (counted "1")), "3", "x")
@@ -203,7 +203,7 @@ taken : Faults ((beside_two choice.Any, "2", "x")
 unfolding computing
 taken = (simp told_by_form, (simp told_by_form, (simp told_by_form, (simp told_by_form, (simp told_by_form, tt)))))
 
--- The same with numbers; and an object that isn't asked, behind a WHEN that is met, has no fault.
+-- The same with numbers; and an object that isn't asked, after a WHEN that is met, has no fault.
 no_fault : Shows ((beside_two choice.Any, "2", "0", "P")
     ∷ (beside_two (is (counted "1")), "3", "0", "R")
     ∷ (zero_also_false, "2", "1", "R")

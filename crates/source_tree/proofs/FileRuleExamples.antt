@@ -182,7 +182,7 @@ fifteen_files = refl
 sixteen_files : named_by (codes "ABCDEFGHIJKLMNOP") ≡ 69 ∷ []
 sixteen_files = refl
 
--- entries of records: 46 REDEFINES at 01, 47 VALUE but for a condition name, 43 levels
+-- entries of records: 46 REDEFINES at 01, 47 VALUE except for a condition name, 43 levels
 abbrev Holds : List (List Entry × List ℕ) → Type 0
 Holds [] = Unit {0}
 Holds (row ∷ more) = (of_files (f ∷ []) (described "F" row.0 ∷ []) ≡ row.1) × Holds more

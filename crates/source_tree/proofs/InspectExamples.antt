@@ -201,7 +201,7 @@ unfolding replaced_subject walk
 replaced_alone = (refl, refl, refl)
 
 -- ---- C is a counter in T: what is replaced is T as it was, and the store comes last; without REPLACING nothing is
--- stored behind C.
+-- stored after C.
 
 abbrev overlapping : List Entry
 overlapping = entries (group (codes "01") (codes "T") ∷ item (codes "05") (codes "C") (codes "9")

@@ -167,7 +167,7 @@ module _ (texts : List ℕ) where
       (sym (leads one.first one.fit_ends at))
   met (f.First span) p one at rest is far = first_met span p.first p.limit at rest one one.fit_ends is far.0 far.1
 
-  -- ---- behind a fit
+  -- ---- after a fit
 
   entry_stays : (p : Progress) (what : Fit) (at : ℕ) → (progress_after p what at).entry ≡ p.entry
   entry_stays p f.Characters at = refl
@@ -267,7 +267,7 @@ skipped_some c rest active at n h =
     ∙ ap (λ l. walk l active (at + 1 + (n - 1)) 0) (sym (drop_some c n rest h))
     ∙ ap (λ k. walk (drop n (c ∷ rest)) active k 0) (omega (arith, h))
 
--- behind what is done a text is put in the place of as many characters
+-- after what is done a text is put in the place of as many characters
 put_behind : (done by left : List ℕ) (at : ℕ) → length done ≡ at
     → text_written_at at by (done ++ left) ≡ (done ++ by) ++ drop (length by) left
 put_behind done by left at e =

@@ -21,10 +21,15 @@ pub mod MoveExamples
 pub mod PartExamples
 pub mod StringExamples
 pub mod InspectWalks
-pub mod InspectTaking
+pub mod Evaluations
 pub mod Parts
+pub mod PartLengths
+pub mod Cells
+pub mod InspectTaking
+pub mod Measures
 pub mod InspectMeaning
 pub mod InspectKept
+pub mod InspectConverting
 pub mod InspectExamples
 pub mod DataExamples
 pub mod UntilExamples

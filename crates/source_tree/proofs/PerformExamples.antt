@@ -33,7 +33,7 @@ use Rattle.source_tree.proofs.Examples.{at, text, display, stop_run, meaning}
 abbrev given : ℕ → List ℕ → Name
 given line called = record { characters = called; place = at line 8 }
 
--- a name behind PERFORM, and one behind THRU
+-- a name after PERFORM, and one after THRU
 abbrev first : List ℕ → Name
 first called = record { characters = called; place = at 9 20 }
 
@@ -116,7 +116,7 @@ no_rule_is_broken = refl
 each_name_is_one_procedure_s : procedure_name_rules some_sections ≡ []
 each_name_is_one_procedure_s = refl
 
--- 40: a name that names none, before THRU and behind it
+-- 40: a name that names none, before THRU and after it
 unknown_first : rules some_sections (codes "X") None ≡ broken 40 (at 9 20) ∷ []
 unknown_first = refl
 

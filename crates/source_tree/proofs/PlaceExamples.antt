@@ -33,7 +33,7 @@ mixed_places : places (entries (
 unfolding computing
 mixed_places = refl
 
--- groups in a group, an item without a name, and a 77 behind
+-- groups in a group, an item without a name, and a 77 after
 nested_places : places (entries (
     group (codes "01") (codes "G")
     ∷ group (codes "02") (codes "H")

@@ -118,7 +118,7 @@ unless_true_agrees n test go other a = record { by = λ s le. unless_true_same (
 
 -- Turns with two depths above the budget.
 module _ (test : ConditionValue) (line : ℕ) (next : State → Outcome) (nr : IsRun next) where
-  -- one turn, where those behind it agree with less
+  -- one turn, where those after it agree with less
   before_step : (n d e : ℕ) (go other : State → Outcome) → IsRun go → Agrees n go other
       → ((left : ℕ) → left < n → Agrees left (until_before line d test next go) (until_before line e test next other))
       → Agrees n (until_before line (suc d) test next go) (until_before line (suc e) test next other)

@@ -20,6 +20,7 @@ use Rattle.source_tree.specs.Accepting.{next_line, later_lines, accept_line, acc
 use Rattle.source_tree.specs.Arithmetic.{StoreResult, operation, is_there, in_phrase, phrase_for, arithmetic_outcome}
 use Rattle.source_tree.specs.Stringing.{Strings, string_stores, string_outcome}
 use Rattle.source_tree.specs.Inspecting.{inspect}
+use Rattle.source_tree.specs.Converting.{convert}
 use Rattle.source_tree.specs.declared.phrases.Phrases.{Phrases}
 use Rattle.source_tree.specs.declared.string_statement.StringStatement.{StringStatement}
 use Rattle.source_tree.specs.declared.arithmetic.Arithmetic.{Arithmetic}
@@ -176,6 +177,7 @@ texts_runs items (text.Display operands advancing) =
 texts_runs items (text.Accept receiver) = accept_runs items receiver
 texts_runs items (text.AcceptDate receiver) = accept_date_runs items receiver
 texts_runs items (text.Inspect one) = changing_runs (inspect items one)
+texts_runs items (text.Convert one) = changing_runs (convert items one)
 
 pub finish_runs : (one : ControlStatement) → IsRun (finish one)
 finish_runs ending.StopRun = stop_runs
@@ -197,7 +199,7 @@ module _ {S : Type 0} (run : S → State → Outcome) (range : Range → State �
   body_runs procedures (Procedures first last) = performed_runs (range_of procedures first last)
   body_runs procedures (Statements statements) = in_turn_runs run r statements
 
--- A phrase behind stores.
+-- A phrase after stores.
 module _ {S : Type 0} (run : S → State → Outcome) (r : (one : S) → IsRun (run one)) where
   pub in_phrase_runs : (phrase : Option (List S)) → IsRun (in_phrase run phrase)
   in_phrase_runs None = done_runs

@@ -69,7 +69,7 @@ kept false rule place e = absurd cc
 less_or_equal : (a b : ℕ) → not (a == b) ≡ true → nat_lt b a ≡ false → nat_lt a b ≡ true
 less_or_equal a b e f = grind arith
 
--- the first of these stands behind a place
+-- the first of these follows a place
 abbrev before : ℕ → List AlternateKey → Bool
 before offset [] = true
 before offset (one ∷ more) = nat_lt offset one.place.offset
@@ -196,7 +196,7 @@ module _ (items : List LocatedItem) (there : DescribedFile) where
       let found = items_named items key.item in
       found_keeps there taken key found (without_part key (key_item there taken key) found e)
 
-  -- alternate keys behind keys at some places
+  -- alternate keys after keys at some places
   record AreSound (taken : List ℕ) (keys : List AlternateKey) : Type 0 where
     apart : list_all (is_apart taken) keys ≡ true
     order : in_order keys ≡ true

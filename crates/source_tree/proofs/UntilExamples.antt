@@ -42,7 +42,7 @@ three_turns : until_from Before 9 20 is_four add_one show_item (after_turns 10 1
     ≡ Done (after_turns 7 4 (1 ∷ 2 ∷ 3 ∷ []))
 three_turns = refl
 
--- with the test behind each turn 4 is shown too, and nothing is added behind the last one
+-- with the test after each turn 4 is shown too, and nothing is added after the last one
 four_turns : until_from After 9 20 is_four add_one show_item (after_turns 10 1 [])
     ≡ Done (after_turns 6 4 (1 ∷ 2 ∷ 3 ∷ 4 ∷ []))
 four_turns = refl

@@ -16,7 +16,7 @@ abbrev pub next_line : List (List ℕ) → List ℕ
 next_line [] = []
 next_line (line ∷ more) = line
 
--- those behind it
+-- those after it
 abbrev pub later_lines : List (List ℕ) → List (List ℕ)
 later_lines lines = drop 1 lines
 

@@ -47,7 +47,7 @@ number_rules items (operand.Literal one) = where_so (not (is_number_literal one.
 abbrev pub updated_rules : List LocatedItem → List Receiver → List RuleBreach
 updated_rules items receivers = each (λ (one : Receiver). reference_rules items numeric_item one.item) receivers
 
--- receivers behind GIVING, REMAINDER and COMPUTE
+-- receivers after GIVING, REMAINDER and COMPUTE
 abbrev pub given_rules : List LocatedItem → List Receiver → List RuleBreach
 given_rules items receivers = each (λ (one : Receiver). reference_rules items number_receiver one.item) receivers
 

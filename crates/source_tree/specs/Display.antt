@@ -31,7 +31,7 @@ abbrev pub shown_decimals : List ℕ → List ℕ
 shown_decimals [] = []
 shown_decimals (digit ∷ digits) = point ∷ digit ∷ digits
 
--- A number is shown as it was written (own choice, but for unsigned integers).
+-- A number is shown as it was written (own choice, except for unsigned integers).
 abbrev pub literal_text : NumericLiteral → List ℕ
 literal_text n = shown_sign n.sign ++ n.whole ++ shown_decimals n.decimals
 

@@ -157,7 +157,7 @@ module _ (items : List LocatedItem) where
   selected_condition subjects one = Any (when_conditions subjects one.whens)
 
   module _ {S : Type 0} (run : S → State → Outcome) where
-    -- the statements behind the first WHENs of which one is met, else those of OTHER
+    -- the statements after the first WHENs of which one is met, else those of OTHER
     abbrev pub selection_outcome : List Subject → List (Selected S) → Option (List S) → State → Outcome
     selection_outcome subjects [] other s = in_phrase run other s
     selection_outcome subjects (one ∷ more) other s =

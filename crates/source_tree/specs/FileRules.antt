@@ -88,7 +88,7 @@ record_storage_rules before (one ∷ more) =
     where_so (nat_lt most_storage (before + record_length one.entries)) 48 one.name.place
     ++ record_storage_rules (before + record_length one.entries) more
 
--- behind these entries of working storage
+-- after these entries of working storage
 abbrev pub descriptions_rules : List Entry → List FileDescription → List RuleBreach
 descriptions_rules storage descriptions =
     each excess (drop (most_entries - length storage) (file_entries descriptions))
@@ -163,7 +163,7 @@ module _ (items : List LocatedItem) where
   abbrev pub clause_item : (Reference → LocatedItem → List RuleBreach) → Reference → List RuleBreach
   clause_item asked one = unique_name_rules one.item.name.place (λ found. no_part_rules one ++ asked one found) (items_named items one.item)
 
-  -- alternate keys, behind keys at these places
+  -- alternate keys, after keys at these places
   abbrev pub alternate_rules : DescribedFile → List ℕ → List AlternateKeyClause → List RuleBreach
   alternate_rules there before [] = []
   alternate_rules there before (one ∷ more) =

@@ -115,7 +115,7 @@ abbrev pub start_key_item : ProgramFile → Reference → LocatedItem → List R
 start_key_item file reference one =
     where_so (not (is_key_of file reference one || begins_key_of file reference one || is_relative_key file reference one)) 63 reference.item.name.place
 
--- =, > and >=, and < behind NOT
+-- =, > and >=, and < after NOT
 abbrev pub may_start : Bool → Relation → Bool
 may_start false relation.Equal = true
 may_start false relation.Greater = true

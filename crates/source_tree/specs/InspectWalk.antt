@@ -1,6 +1,6 @@
 -- INSPECT over texts (COBOL-85, Nucleus, "The INSPECT statement"): which entries fit where, how often, and what replaces what they fit.
 -- The walk goes from the left. At each place the entries are tried in order; the first that fits counts or replaces, and the walk goes on
--- behind what it fits, else one place on.
+-- after what it fits, else one place on.
 use Rattle.std.specs.Prelude.{ℕ, zero, suc, ◌+◌, ◌-◌, ◌==◌, nat_eq, nat_le, Bool, true, false, ◌&&◌, if◌then◌else◌, List, [], ◌∷◌, ◌++◌, length, map, Option, Some, None}
 use Rattle.std.specs.List.{starts_with}
 use Rattle.std.specs.Option.{option_map, unwrap_or}
@@ -29,7 +29,7 @@ pub record TextEntry : Type 0 where
 
 -- ---- limits, found beforehand. Places count from 0.
 
--- AFTER: right behind the first occurrence of its text; without an occurrence nowhere.
+-- AFTER: right after the first occurrence of its text; without an occurrence nowhere.
 abbrev pub first_place_after : Option (List ℕ) → List ℕ → ℕ
 first_place_after None subject = 0
 first_place_after (Some text) subject = unwrap_or (option_map (λ at. at + length text) (first_place text subject)) (length subject)

@@ -31,6 +31,7 @@ pub mod Until
 pub mod Showing
 pub mod InspectWalk
 pub mod Inspecting
+pub mod MeasuredTexts
 pub mod InspectLayout
 pub mod Texts
 pub mod Accepting
@@ -50,6 +51,7 @@ pub mod ConditionRules
 pub mod SettingRules
 pub mod StringRules
 pub mod InspectRules
+pub mod Converting
 pub mod EvaluateRules
 pub mod PerformRules
 pub mod FileRules

@@ -80,7 +80,7 @@ abbrev pub part_rules : List LocatedItem → Option Part → List RuleBreach
 part_rules items None = []
 part_rules items (Some part) = subscript_rules items part.first ++ length_rules items part.length
 
--- the numbers in parentheses behind a name
+-- the numbers in parentheses after a name
 abbrev pub number_rules_of : List LocatedItem → Reference → List RuleBreach
 number_rules_of items one = each (subscript_rules items) one.subscripts ++ part_rules items one.part
 

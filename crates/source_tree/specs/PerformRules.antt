@@ -24,7 +24,7 @@ abbrev pub is_among : Name → List Name → Bool
 is_among name [] = false
 is_among name (one ∷ more) = same name one || is_among name more
 
--- names of which each is no other's, behind these
+-- names of which each is no other's, after these
 abbrev pub given_once : List Name → List Name → List RuleBreach
 given_once before [] = []
 given_once before (one ∷ more) = where_so (is_among one before) 42 one.place ++ given_once (before ++ one ∷ []) more

@@ -15,7 +15,7 @@ use Rattle.source_tree.specs.Levels.{Forest, End, Tree, forest_of}
 use Rattle.source_tree.specs.Clauses.{nothing_around, inside, editing_of, occurrences}
 use Rattle.source_tree.specs.Rooms.{redefines, item_with}
 
--- An item where it stands: its first occurrence is `offset` bytes behind the start of its area.
+-- An item where it stands: its first occurrence is `offset` bytes after the start of its area.
 pub record LocatedItem : Type 0 where
   pub entry : ItemEntry
   pub item : Item

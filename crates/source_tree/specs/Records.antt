@@ -1,5 +1,5 @@
 -- The records of files (COBOL-85, Sequential I-O, "File description entry", "Record description entry"): those of one FD share one
--- area. The record areas stand behind the areas of working storage, in the order of the FDs (own choice).
+-- area. The record areas follow the areas of working storage, in the order of the FDs (own choice).
 use Rattle.std.specs.Prelude.{ℕ, ◌+◌, map, List, [], ◌∷◌, ◌++◌, length}
 use Rattle.items.specs.Texts.{padded_text}
 use Rattle.source_tree.specs.declared.name.Name.{Name}

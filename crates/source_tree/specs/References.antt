@@ -21,7 +21,7 @@ use Rattle.source_tree.specs.Evaluated as fault
 use Rattle.source_tree.specs.LookUp.{items_named, first}
 use Rattle.source_tree.specs.Parts.{part_item}
 
--- An item where a statement finds it: so many bytes behind the start of its area.
+-- An item where a statement finds it: so many bytes after the start of its area.
 pub record ItemPlace : Type 0 where
   pub item : Item
   -- the picture by which it is edited, if it is
@@ -36,7 +36,7 @@ part_of storage place = bytes_at storage place.area place.offset place.item.leng
 abbrev pub storage_with : ItemPlace → List ℕ → Storage → Storage
 storage_with place bytes storage = with_bytes storage place.area place.offset place.item.length bytes
 
--- so many bytes behind the first occurrence
+-- so many bytes after the first occurrence
 abbrev pub place_after : LocatedItem → ℕ → ItemPlace
 place_after one behind = record { item = one.item; editing = one.editing; area = one.area; offset = one.offset + behind }
 
@@ -82,7 +82,7 @@ occurrence items subscripts one storage =
 abbrev pub part_after : ItemPlace → ℕ → ℕ → ItemPlace
 part_after place before length = record { item = part_item place.item.kind length; editing = None; area = place.area; offset = place.offset + before }
 
--- A length is 1 or more, and no end is behind the item's.
+-- A length is 1 or more, and no end is after the item's.
 abbrev pub part_of_length : ItemPlace → ℕ → ℤ → Evaluation ItemPlace
 part_of_length place before (pos length) =
     if nat_le 1 length && nat_le (before + length) place.item.length then Ok (part_after place before length) else Err fault.Part

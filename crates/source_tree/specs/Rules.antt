@@ -1,5 +1,6 @@
--- The rules of a program: those that it breaks, and where; its entries first, then its files, the names of its procedures, its statements
--- in order, and then whether there is a procedure, and how many statements there are. Rule 54 looks at the whole program, and comes after these.
+-- The rules of a program: those that it breaks, and where; its entries first, then its files, the names of its
+-- procedures, its statements in order, and then whether there is a procedure, and how many statements there are. Rule
+-- 54 looks at the whole program, and comes after these.
 use Rattle.std.specs.Prelude.{Bool, true, false, not, ◌&&◌, List, [], ◌∷◌, ◌++◌, Option, Some, None}
 use Rattle.lexical.specs.declared.place.Place.{Place}
 use Rattle.source_tree.specs.declared.name.Name.{Name}
@@ -7,6 +8,7 @@ use Rattle.source_tree.specs.declared.data_statement.DataStatement.{DataStatemen
 use Rattle.source_tree.specs.declared.data_statement.DataStatement.TheVariants.{Move, Initialize, Set}
 use Rattle.source_tree.specs.declared.text_statement.TextStatement.{TextStatement}
 use Rattle.source_tree.specs.declared.text_statement.TextStatement.TheVariants.{Display, Accept, AcceptDate, Inspect}
+use Rattle.source_tree.specs.declared.text_statement.TextStatement.TheVariants.{Convert}
 use Rattle.source_tree.specs.declared.phrases.Phrases.{Phrases}
 use Rattle.source_tree.specs.declared.arithmetic.Arithmetic.{Arithmetic}
 use Rattle.source_tree.specs.declared.perform_statement.Repetition.{Repetition}
@@ -38,6 +40,7 @@ use Rattle.source_tree.specs.ConditionRules.{condition_rules, until_rules}
 use Rattle.source_tree.specs.SettingRules.{initialize_rules, set_rules}
 use Rattle.source_tree.specs.StringRules.{string_rules}
 use Rattle.source_tree.specs.InspectRules.{inspect_rules}
+use Rattle.source_tree.specs.Converting.{convert_rules}
 use Rattle.source_tree.specs.Records.{program_items}
 use Rattle.source_tree.specs.FileRules.{program_file_rules}
 use Rattle.source_tree.specs.FilingRules.{filing_rules}
@@ -60,6 +63,7 @@ text_rules items (Display operands advancing) = display_rules items operands
 text_rules items (Accept receiver) = accept_line_rules items receiver
 text_rules items (AcceptDate receiver) = accept_date_rules items receiver
 text_rules items (Inspect one) = inspect_rules items one
+text_rules items (Convert one) = convert_rules items one
 
 -- A phrase that is absent breaks none; `inside` has the rules of the statements in one.
 abbrev pub phrase_rules : {S : Type 0} → (S → List RuleBreach) → Option (List S) → List RuleBreach
@@ -77,11 +81,14 @@ file_phrases_rules inside (InvalidKey phrases) = phrases_rules inside phrases
 abbrev pub arithmetic_rules : List LocatedItem → {S : Type 0} → (S → List RuleBreach) → Arithmetic S → List RuleBreach
 arithmetic_rules items inside one = operation_rules items one.operation ++ phrases_rules inside one.phrases
 
-abbrev pub stringing_rules : List LocatedItem → {S : Type 0} → (S → List RuleBreach) → StringStatement S → List RuleBreach
+abbrev pub stringing_rules : List LocatedItem → {S : Type 0} → (S → List RuleBreach) → StringStatement S
+    → List RuleBreach
 stringing_rules items inside one = string_rules items one ++ phrases_rules inside one.phrases
 
--- What is performed; `permits` says which ranges may be, where the PERFORM stands, and `inside` has the rules of the statements in it.
-abbrev pub performed_rules : List Procedure → (Range → Bool) → {S : Type 0} → (S → List RuleBreach) → Performed S → List RuleBreach
+-- What is performed; `permits` says which ranges may be, where the PERFORM stands, and `inside` has the rules of the
+-- statements in it.
+abbrev pub performed_rules : List Procedure → (Range → Bool) → {S : Type 0} → (S → List RuleBreach) → Performed S
+    → List RuleBreach
 performed_rules procedures permits inside (Procedures first last) = range_rules permits procedures first last
 performed_rules procedures permits inside (Statements statements) = each inside statements
 
@@ -96,14 +103,18 @@ turns_rules items (often.Times count) = []
 turns_rules items (often.CountedBy one) = reference_rules items integer_item one
 turns_rules items (often.Until one) = until_rules items one
 
-abbrev pub performing_rules : Scope → (Range → Bool) → {S : Type 0} → (S → List RuleBreach) → PerformStatement S → List RuleBreach
-performing_rules scope permits inside one = turns_rules scope.items one.turns ++ performed_rules scope.procedures permits inside one.performed
+abbrev pub performing_rules : Scope → (Range → Bool) → {S : Type 0} → (S → List RuleBreach) → PerformStatement S
+    → List RuleBreach
+performing_rules scope permits inside one =
+    turns_rules scope.items one.turns ++ performed_rules scope.procedures permits inside one.performed
 
 abbrev pub evaluate_rules : List LocatedItem → {S : Type 0} → (S → List RuleBreach) → Evaluate S → List RuleBreach
 evaluate_rules items inside one =
-    each (subject_rules items) one.subjects ++ each (selected_rules items inside one.subjects) one.selected ++ phrase_rules inside one.other
+    each (subject_rules items) one.subjects ++ each (selected_rules items inside one.subjects) one.selected
+    ++ phrase_rules inside one.other
 
-abbrev pub branching_rules : List LocatedItem → {S : Type 0} → (S → List RuleBreach) → ConditionalStatement S → List RuleBreach
+abbrev pub branching_rules : List LocatedItem → {S : Type 0} → (S → List RuleBreach) → ConditionalStatement S
+    → List RuleBreach
 branching_rules items inside (branch.If condition statements otherwise) =
     condition_rules items condition ++ each inside statements ++ phrase_rules inside otherwise
 branching_rules items inside (branch.Evaluate one) = evaluate_rules items inside one
@@ -116,7 +127,8 @@ verb_rules scope permits inside (verb.ConditionalStatement one) = branching_rule
 verb_rules scope permits inside (verb.PerformStatement one) = performing_rules scope permits inside one
 verb_rules scope permits inside (verb.TextStatement one) = text_rules scope.items one
 verb_rules scope permits inside (verb.StringStatement one) = stringing_rules scope.items inside one
-verb_rules scope permits inside (verb.FileStatement one) = filing_rules scope.items scope.files one ++ file_phrases_rules inside (phrases_of one)
+verb_rules scope permits inside (verb.FileStatement one) =
+    filing_rules scope.items scope.files one ++ file_phrases_rules inside (phrases_of one)
 verb_rules scope permits inside (verb.ControlStatement one) = []
 
 module _ (scope : Scope) (permits : Range → Bool) where
@@ -159,7 +171,8 @@ are_empty (one ∷ more) = is_empty one.paragraphs && are_empty more
 -- 56: sections without any paragraph or sentence are no procedure; 69: more statements than may be.
 abbrev pub procedure_rules : Program → List RuleBreach
 procedure_rules program =
-    where_so (are_empty program.sections) 56 (procedures_place program.name.place program.sections) ++ statement_count_rules program
+    where_so (are_empty program.sections) 56 (procedures_place program.name.place program.sections)
+    ++ statement_count_rules program
 
 -- all ranges may be performed
 abbrev pub all_permitted : Range → Bool

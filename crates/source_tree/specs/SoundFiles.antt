@@ -23,7 +23,7 @@ pub record IsSound (areas : ℕ) (file : ProgramFile) : Type 0 where
   pub relative_key : IfSome file.places.relative_key (IsRelativeKey file.places.area)
   pub status : IfSome file.places.status (IsStatus areas)
 
--- Of these areas, so many of them working storage's, one behind those is its record area.
+-- Of these areas, so many of them working storage's, one after those is its record area.
 pub record HasRecordArea (areas : ℕ) (storage : Storage) (file : ProgramFile) : Type 0 where
   pub behind : areas ≤ file.places.area
   pub there : file.places.area < length storage

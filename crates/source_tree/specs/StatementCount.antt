@@ -42,7 +42,7 @@ abbrev pub in_performed : {S : Type 0} → Performed S → List S
 in_performed (Procedures first last) = []
 in_performed (Statements statements) = statements
 
--- behind the WHENs of an EVALUATE
+-- after the WHENs of an EVALUATE
 abbrev pub in_selected : {S : Type 0} → List (Selected S) → List S
 in_selected [] = []
 in_selected (one ∷ more) = one.statements ++ in_selected more

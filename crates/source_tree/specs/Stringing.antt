@@ -38,7 +38,7 @@ abbrev pub sent_of_each : Option (List ℕ) → List (List ℕ) → List ℕ
 sent_of_each delimiter [] = []
 sent_of_each delimiter (text ∷ more) = sent_of delimiter text ++ sent_of_each delimiter more
 
--- The delimiter is written behind its senders.
+-- The delimiter is written after its senders.
 abbrev pub sent_bytes : List LocatedItem → Sending → Storage → Evaluation (List ℕ)
 sent_bytes items one storage =
     texts_of items one.senders storage >>= (λ texts. delimiter_of items one.delimiter storage >>= (λ delimiter. Ok (sent_of_each delimiter texts)))

@@ -7,6 +7,7 @@ use Rattle.source_tree.specs.State.{State, Outcome, Done, state_after_output, ch
 use Rattle.source_tree.specs.Showing.{displayed_bytes}
 use Rattle.source_tree.specs.Accepting.{next_line, later_lines, accept_line, accept_date}
 use Rattle.source_tree.specs.Inspecting.{inspect}
+use Rattle.source_tree.specs.Converting.{convert}
 
 abbrev pub texts : List LocatedItem → TextStatement → State → Outcome
 texts items (text.Display operands advancing) s =
@@ -16,3 +17,4 @@ texts items (text.Accept receiver) s =
     (λ after. Done (record s { storage = after; lines = later_lines s.lines }))
 texts items (text.AcceptDate receiver) s = change_outcome (accept_date items s.day receiver) s
 texts items (text.Inspect one) s = change_outcome (inspect items one) s
+texts items (text.Convert one) s = change_outcome (convert items one) s

@@ -48,7 +48,7 @@ has_form (literal.All bytes) = are_some most_literal_characters (length bytes)
 
 -- ---- 47
 
--- Zeros in front of the digits that the item keeps, and behind them, aren't cut.
+-- Zeros in front of the digits that the item keeps, and after them, aren't cut.
 abbrev pub is_cut : Numeric → Fraction → Bool
 is_cut numeric x = not (equals (low_digits x numeric.digits numeric.scale Truncated) x)
 

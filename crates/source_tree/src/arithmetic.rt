@@ -29,7 +29,7 @@ pub enum Operation {
         operands: Items<Operand>,
         receivers: Items<Receiver>,
     },
-    /// The operand behind TO is the last.
+    /// The operand after TO is the last.
     AddGiving {
         operands: Items<Operand>,
         receivers: Items<Receiver>,

@@ -48,7 +48,7 @@ pub struct When {
     pub objects: Items<Object>,
 }
 
-/// WHENs, and the statements behind them.
+/// WHENs, and the statements after them.
 #[derive(Drop)]
 pub struct Selected<S> {
     /// One or more.

@@ -24,7 +24,7 @@ pub enum Operator {
 pub enum Expression {
     Operand(Operand),
     Negated(Boxed<Expression>),
-    /// Operators of one precedence, which associate from the left: the first operand, and each further one behind its
+    /// Operators of one precedence, which associate from the left: the first operand, and each further one after its
     /// operator.
     Chain {
         first: Boxed<Expression>,

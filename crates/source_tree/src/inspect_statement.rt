@@ -48,7 +48,7 @@ pub struct Tallying {
     pub tallied: Items<Tallied>,
 }
 
-/// A text that is replaced.
+/// A text that is replaced, or under CONVERTING each of its characters.
 #[derive(Drop)]
 pub struct ReplacedText {
     pub text: Operand,
@@ -77,4 +77,11 @@ pub struct InspectStatement {
     pub tallying: Items<Tallying>,
     /// None without REPLACING.
     pub replacing: Items<Replacing>,
+}
+
+/// An INSPECT CONVERTING: each character of a text is replaced by the one at its place in the other text.
+#[derive(Drop)]
+pub struct Converting {
+    pub subject: Reference,
+    pub texts: ReplacedText,
 }

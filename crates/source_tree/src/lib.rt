@@ -38,7 +38,8 @@ pub use evaluate_statement::{Choice, Evaluate, Object, Selected, Subject, When};
 pub use expression::{Expression, Operand, Operator};
 pub use file_statement::{FileStatement, Opening, StartKey};
 pub use inspect_statement::{
-    InspectStatement, Limits, Occurrences, ReplacedText, Replacing, Tallied, TalliedText, Tallying,
+    Converting, InspectStatement, Limits, Occurrences, ReplacedText, Replacing, Tallied,
+    TalliedText, Tallying,
 };
 pub use laws::{
     budget_law, depth_law, file_verb_law, output_law, part_law, record_areas_law, sound_files_law,

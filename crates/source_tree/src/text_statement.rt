@@ -1,7 +1,7 @@
 //! Statements on texts: DISPLAY, ACCEPT and INSPECT.
 
 use crate::expression::Operand;
-use crate::inspect_statement::InspectStatement;
+use crate::inspect_statement::{Converting, InspectStatement};
 use crate::reference::Reference;
 use sqlite_items::Items;
 
@@ -22,4 +22,6 @@ pub enum TextStatement {
         receiver: Reference,
     },
     Inspect(InspectStatement),
+    /// INSPECT CONVERTING.
+    Convert(Converting),
 }

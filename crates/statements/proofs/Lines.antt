@@ -39,7 +39,8 @@ use Rattle.statements.proofs.Verbs.Filing.{file_verb, filing_shrinks, filing_sta
 use Rattle.statements.proofs.Verbs.Initializing.{initializing_shrinks, initializing_stands, initializing_complete}
 use Rattle.statements.proofs.Verbs.Initializing.{initializing_sound}
 use Rattle.statements.proofs.Verbs.Inspecting.{inspecting_shrinks, inspecting_stands, inspecting_complete}
-use Rattle.statements.proofs.Verbs.Inspecting.{inspecting_sound}
+use Rattle.statements.proofs.Verbs.Inspecting.{inspecting_sound, converting_shrinks, converting_stands}
+use Rattle.statements.proofs.Verbs.Inspecting.{converting_complete}
 use Rattle.statements.proofs.Verbs.Moving.{moving_shrinks, moving_stands, moving_complete, moving_sound}
 use Rattle.statements.proofs.StatementLists.{statements_shrink, statements_start, statements_complete}
 use Rattle.statements.proofs.Verbs.Performing.{performing_shrinks, performing_stands, performing_complete}
@@ -69,6 +70,7 @@ module _ (depth : ℕ) (p : Statement → Part) where
   verb_shrinks fewer (verb.TextStatement (text.AcceptDate receiver)) i rest s =
       accepting_shrinks receiver false i rest s
   verb_shrinks fewer (verb.TextStatement (text.Inspect one)) i rest s = inspecting_shrinks one i rest s
+  verb_shrinks fewer (verb.TextStatement (text.Convert one)) i rest s = converting_shrinks one i rest s
   verb_shrinks fewer (verb.StringStatement one) i rest s =
       stringing_shrinks (g.statements p) (statements_shrink p fewer) one i rest s
   verb_shrinks fewer (verb.FileStatement one) i rest s =
@@ -94,6 +96,7 @@ module _ (depth : ℕ) (p : Statement → Part) where
   word_of (verb.TextStatement (text.Accept receiver)) = v.Accept
   word_of (verb.TextStatement (text.AcceptDate receiver)) = v.Accept
   word_of (verb.TextStatement (text.Inspect one)) = v.Inspect
+  word_of (verb.TextStatement (text.Convert one)) = v.Inspect
   word_of (verb.StringStatement one) = v.String
   word_of (verb.FileStatement one) = v.Filing (file_verb one)
   word_of (verb.ControlStatement ending.StopRun) = v.Stop
@@ -115,6 +118,7 @@ module _ (depth : ℕ) (p : Statement → Part) where
   verb_stands (verb.TextStatement (text.Accept receiver)) i rest s = accepting_stands receiver true i rest s
   verb_stands (verb.TextStatement (text.AcceptDate receiver)) i rest s = accepting_stands receiver false i rest s
   verb_stands (verb.TextStatement (text.Inspect one)) i rest s = inspecting_stands one i rest s
+  verb_stands (verb.TextStatement (text.Convert one)) i rest s = converting_stands one i rest s
   verb_stands (verb.StringStatement one) i rest s = stringing_stands (g.statements p) one i rest s
   verb_stands (verb.FileStatement one) i rest s = filing_stands (g.statements p) one i rest s
   verb_stands (verb.ControlStatement ending.StopRun) i rest s = stop_run_stands i rest s
@@ -191,6 +195,7 @@ module _ (Allowed : Halt → Type 0) (depth depth' : ℕ) (computes : Complete A
   by_verb_complete (verb.TextStatement (text.Accept receiver)) i rest s = accepting_complete receiver true i rest s
   by_verb_complete (verb.TextStatement (text.AcceptDate receiver)) i rest s = accepting_complete receiver false i rest s
   by_verb_complete (verb.TextStatement (text.Inspect one)) i rest s = inspecting_complete one i rest s
+  by_verb_complete (verb.TextStatement (text.Convert one)) i rest s = converting_complete one i rest s
   by_verb_complete (verb.StringStatement one) i rest s =
       stringing_complete (g.statements p) (r.statements nested) Allowed
       (statements_complete Allowed p nested each fewer begins) one i rest s

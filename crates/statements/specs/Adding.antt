@@ -19,7 +19,7 @@ add_statement operands to = word w.Add then numbers operands then word w.To then
 abbrev pub adding_up : List Operand → List Receiver → Part
 adding_up operands all = word w.Add then numbers operands then word w.Giving then receivers all
 
--- ADD num... [TO num] GIVING rd...: the operand behind TO is the last
+-- ADD num... [TO num] GIVING rd...: the operand after TO is the last
 abbrev pub adding_giving : List Operand → List Receiver → Part
 adding_giving operands all =
     adding_up operands all or (λ from rest. (others : List Operand) × (last : Operand) × (operands ≡ others ++ last ∷ []) × add_statement others (Giving last all) from rest)

@@ -54,7 +54,7 @@ module _ (first : Operand) (order : DivisionOrder) (second : Operand) where
     remainder ← reference_reader
     pure (DivideRemainder first order second quotient remainder)
 
-  -- behind what is given: REMAINDER takes one quotient
+  -- after what is given: REMAINDER takes one quotient
   unfoldable pub given_reader : List Receiver → Parser Operation
   given_reader all i = if begins_word w.Remainder i then remainder_of (only all) i else Ok (DivideGiving first order second all, i)
 

@@ -23,7 +23,7 @@ use Rattle.statements.specs.declared.verb.FileVerb.TheVariants as v
 use Rattle.statements.specs.FilePhrases.{key_phrases, read_phrases, key_phrases_reader, read_phrases_reader}
 use Rattle.statements.specs.Opening.{openings, close_statement, openings_reader, close_reader}
 
--- ---- items behind words
+-- ---- items after words
 
 -- words and d, or neither where the words do not stand
 abbrev pub item_after : Part → Option Reference → Part
@@ -84,7 +84,7 @@ item_after_reader words i = item_at (words i) i
 unfoldable pub after_key_is : Words
 after_key_is i = option_map (past_word w.Is) (after_word w.Key i)
 
--- behind KEY
+-- after KEY
 unfoldable pub some_key_reader : Parser (Option StartKey)
 some_key_reader = do
   operator ← relation_reader

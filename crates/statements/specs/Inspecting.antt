@@ -14,13 +14,17 @@ use Rattle.source_tree.specs.declared.inspect_statement.Tallying.{Tallying}
 use Rattle.source_tree.specs.declared.inspect_statement.ReplacedText.{ReplacedText}
 use Rattle.source_tree.specs.declared.inspect_statement.Replacing.{Replacing}
 use Rattle.source_tree.specs.declared.inspect_statement.Replacing.TheVariants as replacing_as
+use Rattle.source_tree.specs.declared.inspect_statement.Converting.{Converting}
 use Rattle.source_tree.specs.declared.inspect_statement.InspectStatement.{InspectStatement}
+use Rattle.source_tree.specs.declared.text_statement.TextStatement.{TextStatement}
 use Rattle.source_tree.specs.declared.text_statement.TextStatement.TheVariants as text_as
+use Rattle.source_tree.specs.declared.reference.Reference.{Reference}
 use Rattle.source_tree.specs.declared.statement.Verb.{Verb}
 use Rattle.source_tree.specs.declared.statement.Verb.TheVariants as verb
 use Rattle.source_tree.specs.declared.statement.Statement.{Statement}
 use Rattle.grammar.specs.Parts as g
-use Rattle.grammar.specs.Parts.{Part, ◌then◌, ◌but◌, absence_of, lookahead, token_with, begins_telling, word, begins_name}
+use Rattle.grammar.specs.Parts.{Part, ◌then◌, ◌but◌, absence_of, lookahead, token_with, begins_telling, word}
+use Rattle.grammar.specs.Parts.{begins_name}
 use Rattle.grammar.specs.Reading as r
 use Rattle.grammar.specs.Reading.{Parser, ◌>>=◌, ◌>>◌, pure, refuse, begins_word, expect, one_token}
 use Rattle.expressions.specs.References.{reference, reference_reader}
@@ -67,14 +71,16 @@ tallied_text one = (text one.text then limit_phrases one.limits) but reference_b
 -- CHARACTERS bd|{ALL|LEADING} {x bd}...
 abbrev pub tally_clause : Tallied → Part
 tally_clause (tallied_as.Characters limits) = word w.Characters then limit_phrases limits
-tally_clause (tallied_as.Texts occurrences texts) = token_with tallied_in occurrences then g.several tallied_text begin_tallied_text texts
+tally_clause (tallied_as.Texts occurrences texts) =
+    token_with tallied_in occurrences then g.several tallied_text begin_tallied_text texts
 
 abbrev pub begins_tallied : List Token → Bool
 begins_tallied i = begins_word w.Characters i || begins_telling tallied_in i
 
 -- d FOR {CHARACTERS bd|{ALL|LEADING} {x bd}...}...
 abbrev pub counter_clause : Tallying → Part
-counter_clause one = reference one.counter then word w.For then g.several tally_clause (lookahead begins_tallied) one.tallied
+counter_clause one =
+    reference one.counter then word w.For then g.several tally_clause (lookahead begins_tallied) one.tallied
 
 -- tal: TALLYING {d FOR {CHARACTERS bd|{ALL|LEADING} {x bd}...}...}...
 abbrev pub tallying_phrase : List Tallying → Part
@@ -88,8 +94,10 @@ replaced_text one = text one.text then word w.By then text one.by then limit_phr
 
 -- CHARACTERS BY x bd|{ALL|LEADING|FIRST} {x BY x bd}...
 abbrev pub replacement_clause : Replacing → Part
-replacement_clause (replacing_as.Characters by limits) = word w.Characters then word w.By then text by then limit_phrases limits
-replacement_clause (replacing_as.Texts occurrences texts) = token_with replaced_in occurrences then g.several replaced_text (lookahead begins_text) texts
+replacement_clause (replacing_as.Characters by limits) =
+    word w.Characters then word w.By then text by then limit_phrases limits
+replacement_clause (replacing_as.Texts occurrences texts) =
+    token_with replaced_in occurrences then g.several replaced_text (lookahead begins_text) texts
 
 abbrev pub begins_replaced : List Token → Bool
 begins_replaced i = begins_word w.Characters i || begins_telling replaced_in i
@@ -113,6 +121,14 @@ phrases (one ∷ more) all = tallying_phrase (one ∷ more) then perhaps_replaci
 -- INSPECT d {tal [rep]|rep} (COBOL-85, Nucleus, "The INSPECT statement")
 abbrev pub inspect_statement : InspectStatement → Part
 inspect_statement one = word w.Inspect then reference one.subject then phrases one.tallying one.replacing
+
+-- CONVERTING x TO x bd
+abbrev pub converted_texts : ReplacedText → Part
+converted_texts one = word w.Converting then text one.text then word w.To then text one.by then limit_phrases one.limits
+
+-- INSPECT d CONVERTING x TO x bd (COBOL-85, Nucleus, "The INSPECT statement")
+abbrev pub convert_statement : Converting → Part
+convert_statement one = word w.Inspect then reference one.subject then converted_texts one.texts
 
 -- ---- reading TALLYING
 
@@ -206,9 +222,32 @@ uncounted_reader = do
 unfoldable pub phrases_reader : Parser (List Tallying × List Replacing)
 phrases_reader i = if begins_word w.Tallying i then counted_reader i else uncounted_reader i
 
+unfoldable pub converted_texts_reader : Parser ReplacedText
+converted_texts_reader = do
+  expect w.Converting
+  one ← text_reader
+  expect w.To
+  by ← text_reader
+  limits ← limits_reader
+  pure (record { text = one; by = by; limits = limits })
+
+-- after the subject
+unfoldable pub convert_of : Reference → Parser TextStatement
+convert_of subject = do
+  texts ← converted_texts_reader
+  pure (text_as.Convert (record { subject = subject; texts = texts }))
+
+unfoldable pub phrases_of : Reference → Parser TextStatement
+phrases_of subject = do
+  both ← phrases_reader
+  pure (text_as.Inspect (record { subject = subject; tallying = both.0; replacing = both.1 }))
+
+unfoldable pub inspected_of : Reference → Parser TextStatement
+inspected_of subject i = if begins_word w.Converting i then convert_of subject i else phrases_of subject i
+
 unfoldable pub inspect_reader : Parser (Verb Statement)
 inspect_reader = do
   expect w.Inspect
   subject ← reference_reader
-  both ← phrases_reader
-  pure (verb.TextStatement (text_as.Inspect (record { subject = subject; tallying = both.0; replacing = both.1 })))
+  one ← inspected_of subject
+  pure (verb.TextStatement one)

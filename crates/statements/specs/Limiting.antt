@@ -29,7 +29,7 @@ abbrev pub limit_phrase : Reserved → Option Operand → Part
 limit_phrase which None = absence_of (word which)
 limit_phrase which (Some one) = limit which one
 
--- The two in either order, each at most once. With AFTER alone, BEFORE stands neither in front of it nor behind it.
+-- The two in either order, each at most once. With AFTER alone, BEFORE stands neither in front of it nor after it.
 abbrev pub ordered_limits : Option Operand → Option Operand → Bool → Part
 ordered_limits None (Some after) false = limit w.After after then absence_of (word w.Before)
 ordered_limits (Some before) (Some after) true = limit w.After after then limit w.Before before
@@ -50,7 +50,7 @@ bound_reader = do
   skip w.Initial
   text_reader
 
--- by the tokens behind BEFORE or AFTER
+-- by the tokens after BEFORE or AFTER
 abbrev pub limit_at : Option (List Token) → Parser (Option Operand)
 limit_at None i = Ok (None, i)
 limit_at (Some behind) i = (bound_reader >>= (λ one. pure (Some one))) behind
@@ -65,14 +65,14 @@ before_first_reader = do
   after ← limit_reader w.After
   pure (record { before = before; after = after; after_first = false })
 
--- behind an AFTER in front
+-- after an AFTER in front
 unfoldable pub after_first_reader : Parser Limits
 after_first_reader = do
   after ← bound_reader
   before ← limit_reader w.Before
   pure (record { before = before; after = Some after; after_first = is_some before })
 
--- by the tokens behind AFTER
+-- by the tokens after AFTER
 abbrev pub limits_at : Option (List Token) → Parser Limits
 limits_at None i = before_first_reader i
 limits_at (Some behind) i = after_first_reader behind

@@ -44,7 +44,7 @@ opened_file mode one = λ from rest. (one.mode ≡ mode) × name one.file from r
 abbrev pub mode_phrase : List Opening → Part
 mode_phrase files = λ from rest. (mode : OpenMode) × (token_with mode_in mode then several (opened_file mode) (lookahead begins_name) files) from rest
 
--- lists one behind another
+-- lists one after another
 abbrev pub all_openings : List (List Opening) → List Opening
 all_openings [] = []
 all_openings (one ∷ more) = one ++ all_openings more

@@ -1,4 +1,4 @@
--- Operands and receivers of arithmetic statements, and what GIVING stands behind: their rules, and how they are read.
+-- Operands and receivers of arithmetic statements, and what GIVING follows: their rules, and how they are read.
 use Rattle.std.specs.Prelude.{◌&&◌, not, is_some, if◌then◌else◌, Bool, List}
 use Rattle.tokens.specs.declared.reserved.Reserved.TheVariants as w
 use Rattle.tokens.specs.declared.token.Token.{Token}
@@ -26,7 +26,7 @@ receiver one = reference one.item then optional_part (word w.Rounded) one.rounde
 abbrev pub receivers : List Receiver → Part
 receivers all = g.several receiver (lookahead begins_name) all
 
--- rd... | num GIVING rd...: a reference with GIVING behind it is an operand (COBOL-85, Nucleus, "The GIVING phrase")
+-- rd... | num GIVING rd...: a reference with GIVING after it is an operand (COBOL-85, Nucleus, "The GIVING phrase")
 abbrev pub target : Target → Part
 target (Receivers all) = receivers all but reference_before w.Giving
 target (Giving operand all) = number_operand operand then word w.Giving then receivers all

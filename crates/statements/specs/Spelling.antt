@@ -20,7 +20,7 @@ use Rattle.statements.specs.Display.{display}
 use Rattle.statements.specs.Exiting.{exit_statement}
 use Rattle.statements.specs.Filing.{file_statement}
 use Rattle.statements.specs.Initializing.{initialize_statement}
-use Rattle.statements.specs.Inspecting.{inspect_statement}
+use Rattle.statements.specs.Inspecting.{inspect_statement, convert_statement}
 use Rattle.statements.specs.Moving.{move_statement}
 use Rattle.statements.specs.Performing.{perform_statement}
 use Rattle.statements.specs.Setting.{set_statement}
@@ -41,6 +41,7 @@ text_line (text.Display operands advancing) = display operands advancing
 text_line (text.Accept receiver) = accept_statement receiver true
 text_line (text.AcceptDate receiver) = accept_statement receiver false
 text_line (text.Inspect one) = inspect_statement one
+text_line (text.Convert one) = convert_statement one
 
 abbrev pub ending_line : ControlStatement → Part
 ending_line ending.StopRun = stop_run
@@ -50,7 +51,8 @@ ending_line ending.Exit = exit_statement
 abbrev pub statements : (Statement → Part) → List Statement → Part
 statements statement = several statement (lookahead begins_statement)
 
--- `depth` is how deep what stands in a statement may still nest, and `statement` spells the statements that stand in it.
+-- `depth` is how deep what stands in a statement may still nest, and `statement` spells the statements that stand in
+-- it.
 module _ (depth : ℕ) (statement : Statement → Part) where
   -- Each optional part is left out only where its words do not stand, and each list ends only where no more of it can
   -- begin, so that what stands belongs to the innermost statement that can take it (COBOL-85, Nucleus, "Statements").

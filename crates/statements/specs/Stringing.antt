@@ -41,7 +41,7 @@ pointer_phrase None = absence_of with_pointer
 pointer_phrase (Some one) = with_pointer then reference one
 
 -- STRING {x... DELIMITED [BY] {x|SIZE}}... INTO d [[WITH] POINTER d] [[ON] OVERFLOW s] [NOT [ON] OVERFLOW s] [END-STRING]
--- (COBOL-85, Nucleus, "The STRING statement"). Behind a delimiter INTO stands, or the senders of another.
+-- (COBOL-85, Nucleus, "The STRING statement"). After a delimiter INTO stands, or the senders of another.
 abbrev pub string_statement : (List Statement → Part) → StringStatement Statement → Part
 string_statement statements one =
     word w.String then g.several delimited_senders (lookahead begins_operand) one.sendings then word w.Into then reference one.receiver
@@ -49,7 +49,7 @@ string_statement statements one =
 
 -- ---- reading
 
--- by the tokens behind SIZE
+-- by the tokens after SIZE
 abbrev pub delimiter_at : Option (List Token) → Parser (Option Operand)
 delimiter_at None i = (operand_reader >>= (λ one. pure (Some one))) i
 delimiter_at (Some after) i = Ok (None, after)
@@ -68,7 +68,7 @@ sending_reader = do
 unfoldable pub after_with_pointer : Words
 after_with_pointer i = after_word w.Pointer (past_word w.With i)
 
--- by the tokens behind POINTER
+-- by the tokens after POINTER
 abbrev pub pointer_at : Option (List Token) → Parser (Option Reference)
 pointer_at None i = Ok (None, i)
 pointer_at (Some after) i = (reference_reader >>= (λ one. pure (Some one))) after

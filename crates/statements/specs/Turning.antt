@@ -76,7 +76,7 @@ turns depth (turns_as.Until one) = until depth one
 unfoldable pub after_with_test : Words
 after_with_test i = after_word w.Test (past_word w.With i)
 
--- by the tokens behind TEST
+-- by the tokens after TEST
 abbrev pub time_at : Option (List Token) → Parser TestTime
 time_at None i = Ok (Before, i)
 time_at (Some after) i = one_token time_in after

@@ -21,7 +21,7 @@ pub fn read_add(alloc: Global, tokens: &mut Tokens<'_>) -> Result<Operation, Rea
     added(alloc, operands, tokens)
 }
 
-/// Behind the operands: TO, and receivers or the last operand with GIVING.
+/// After the operands: TO, and receivers or the last operand with GIVING.
 #[tactic(auto, unfolding(crate::specs::Adding::adding_to_reader))]
 fn adding_to(
     alloc: Global,
@@ -47,7 +47,7 @@ fn adding_to(
     }
 }
 
-/// Behind the operands: GIVING and receivers.
+/// After the operands: GIVING and receivers.
 #[tactic(auto, unfolding(crate::specs::Adding::adding_up_reader))]
 fn adding_up(
     alloc: Global,
@@ -64,7 +64,7 @@ fn adding_up(
     })
 }
 
-/// Behind the operands.
+/// After the operands.
 #[tactic(auto, unfolding(crate::specs::Adding::added_reader))]
 fn added(
     alloc: Global,

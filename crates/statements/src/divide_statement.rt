@@ -35,7 +35,7 @@ fn only(receivers: Items<Receiver>) -> Option<Receiver>
     }
 }
 
-/// REMAINDER and a reference, behind the one quotient.
+/// REMAINDER and a reference, after the one quotient.
 fn remainder_of(
     alloc: Global,
     first: Operand,
@@ -59,7 +59,7 @@ fn remainder_of(
     })
 }
 
-/// Behind the receivers of GIVING: REMAINDER takes one quotient.
+/// After the receivers of GIVING: REMAINDER takes one quotient.
 #[tactic(auto, unfolding(crate::specs::Dividing::given_reader))]
 fn given(
     alloc: Global,

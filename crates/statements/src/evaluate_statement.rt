@@ -50,14 +50,14 @@ impl<F: Fn(Global, &mut Tokens<'_>, usize) -> Result<Statement, ReadFault>> Nest
     }
 }
 
-/// ALSO and the subject behind it.
+/// ALSO and the subject after it.
 #[derive(Clone, Copy)]
 struct FurtherSubjects {
     /// How deep what the subject holds may nest.
     depth: usize,
 }
 
-/// ALSO and the object behind it.
+/// ALSO and the object after it.
 #[derive(Clone, Copy)]
 struct FurtherObjects {
     /// How deep what the object holds may nest.
@@ -71,7 +71,7 @@ struct Whens {
     depth: usize,
 }
 
-/// WHENs and the statements behind them.
+/// WHENs and the statements after them.
 #[derive(Drop)]
 struct Selections<'a, F> {
     nesting: &'a Nesting<F>,
@@ -123,7 +123,7 @@ impl Part<Object> for FurtherObjects {
     }
 }
 
-/// The first and those behind it.
+/// The first and those after it.
 fn listed<T: Drop>(alloc: Global, first: T, more: Items<T>) -> Result<Items<T>, AllocError>
     ensures { IfOk result (λ all. all ≡ first ∷ more) }
 {

@@ -162,7 +162,7 @@ impl<F: Fn(Global, &mut Tokens<'_>, usize) -> Result<Statement, ReadFault>> Nest
     }
 }
 
-/// The item behind words that `after` follows; none where the words aren't there.
+/// The item after words that `after` follows; none where the words aren't there.
 fn item_at<'a>(
     alloc: Global,
     tokens: &mut Tokens<'a>,
@@ -177,7 +177,7 @@ fn item_at<'a>(
     Ok(Some(reference(alloc, tokens)?))
 }
 
-/// The item behind this word, where it stands.
+/// The item after this word, where it stands.
 #[tactic(auto, unfolding(crate::specs::Filing::item_after_reader))]
 fn item_after(
     alloc: Global,
@@ -208,7 +208,7 @@ fn read_key(alloc: Global, tokens: &mut Tokens<'_>) -> Result<Option<Reference>,
     item_at(alloc, tokens, after)
 }
 
-/// The relation and the key of a START, behind KEY.
+/// The relation and the key of a START, after KEY.
 #[tactic(auto, unfolding(crate::specs::Filing::some_key_reader))]
 fn some_key(alloc: Global, tokens: &mut Tokens<'_>) -> Result<Option<StartKey>, ReadFault>
     ensures { Reads (rule.some_key_reader tokens.old) result tokens.new }

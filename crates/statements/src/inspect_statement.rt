@@ -10,26 +10,78 @@ use crate::limit_phrases::{begins_text, limits, text};
 use expressions::{after_reference_before, reference};
 use grammar::{Part, ReadFault, Tokens, begins_name, beside, several};
 use source_tree::{
-    InspectStatement, Occurrences, ReplacedText, Replacing, Statement, Tallied, TalliedText,
-    Tallying, TextStatement, Verb,
+    Converting, InspectStatement, Occurrences, Reference, ReplacedText, Replacing, Statement,
+    Tallied, TalliedText, Tallying, TextStatement, Verb,
 };
 use sqlite_items::Items;
 use std::alloc::Global;
 use tokens::{Kind, Reserved, Token};
 
-/// From the verb on: an item, and what of its text is counted and replaced.
+/// From the verb on: an item, and what of its text is counted and replaced, or how its characters are converted.
 #[tactic(auto, unfolding(crate::specs::Inspecting::inspect_reader))]
 pub fn read_inspect(alloc: Global, tokens: &mut Tokens<'_>) -> Result<Verb<Statement>, ReadFault>
     ensures { Reads (rule.inspect_reader tokens.old) result tokens.new }
 {
     tokens.expect(Reserved::Inspect)?;
     let subject = reference(alloc, tokens)?;
+    Ok(Verb::TextStatement(inspected(subject, alloc, tokens)?))
+}
+
+/// What is after the subject.
+#[tactic(auto, unfolding(crate::specs::Inspecting::inspected_of))]
+fn inspected(
+    subject: Reference,
+    alloc: Global,
+    tokens: &mut Tokens<'_>,
+) -> Result<TextStatement, ReadFault>
+    ensures { Reads (rule.inspected_of subject tokens.old) result tokens.new }
+{
+    if tokens.at_word(Reserved::Converting) {
+        converting(subject, alloc, tokens)
+    } else {
+        with_phrases(subject, alloc, tokens)
+    }
+}
+
+#[tactic(auto, unfolding(crate::specs::Inspecting::convert_of))]
+fn converting(
+    subject: Reference,
+    alloc: Global,
+    tokens: &mut Tokens<'_>,
+) -> Result<TextStatement, ReadFault>
+    ensures { Reads (rule.convert_of subject tokens.old) result tokens.new }
+{
+    let (subject, texts) = beside(subject, converted_texts(alloc, tokens))?;
+    Ok(TextStatement::Convert(Converting { subject, texts }))
+}
+
+#[tactic(auto, unfolding(crate::specs::Inspecting::phrases_of))]
+fn with_phrases(
+    subject: Reference,
+    alloc: Global,
+    tokens: &mut Tokens<'_>,
+) -> Result<TextStatement, ReadFault>
+    ensures { Reads (rule.phrases_of subject tokens.old) result tokens.new }
+{
     let (subject, (tallying, replacing)) = beside(subject, phrases(alloc, tokens))?;
-    Ok(Verb::TextStatement(TextStatement::Inspect(InspectStatement {
+    Ok(TextStatement::Inspect(InspectStatement {
         subject,
         tallying,
         replacing,
-    })))
+    }))
+}
+
+/// CONVERTING, a text, TO, and the text whose characters come in its place.
+#[tactic(auto, unfolding(crate::specs::Inspecting::converted_texts_reader))]
+fn converted_texts(alloc: Global, tokens: &mut Tokens<'_>) -> Result<ReplacedText, ReadFault>
+    ensures { Reads (rule.converted_texts_reader tokens.old) result tokens.new }
+{
+    tokens.expect(Reserved::Converting)?;
+    let one = text(alloc, tokens)?;
+    let (one, ()) = beside(one, tokens.expect(Reserved::To))?;
+    let both = beside(one, text(alloc, tokens))?;
+    let ((text, by), limits) = beside(both, limits(alloc, tokens))?;
+    Ok(ReplacedText { text, by, limits })
 }
 
 /// How texts are counted, where the token says it.
@@ -145,7 +197,7 @@ impl Part<TalliedText> for TalliedTexts {
     }
 }
 
-/// ALL or LEADING, and the texts behind it.
+/// ALL or LEADING, and the texts after it.
 #[tactic(auto, unfolding(crate::specs::Inspecting::tallied_texts_reader))]
 fn tallied_texts(alloc: Global, tokens: &mut Tokens<'_>) -> Result<Tallied, ReadFault>
     ensures { Reads (rule.tallied_texts_reader tokens.old) result tokens.new }
@@ -263,7 +315,7 @@ impl Part<ReplacedText> for ReplacedTexts {
     }
 }
 
-/// ALL, LEADING or FIRST, and the texts behind it.
+/// ALL, LEADING or FIRST, and the texts after it.
 #[tactic(auto, unfolding(crate::specs::Inspecting::replaced_texts_reader))]
 fn replaced_texts(alloc: Global, tokens: &mut Tokens<'_>) -> Result<Replacing, ReadFault>
     ensures { Reads (rule.replaced_texts_reader tokens.old) result tokens.new }

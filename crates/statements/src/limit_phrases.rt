@@ -28,7 +28,7 @@ pub fn begins_text(tokens: &Tokens<'_>) -> bool
     begins_operand(tokens) && !tokens.at_word(Reserved::All)
 }
 
-/// The text behind BEFORE or AFTER.
+/// The text after BEFORE or AFTER.
 #[tactic(auto, unfolding(crate::specs::Limiting::bound_reader))]
 fn bound(alloc: Global, tokens: &mut Tokens<'_>) -> Result<Operand, ReadFault>
     ensures { Reads (rule.bound_reader tokens.old) result tokens.new }
@@ -37,7 +37,7 @@ fn bound(alloc: Global, tokens: &mut Tokens<'_>) -> Result<Operand, ReadFault>
     text(alloc, tokens)
 }
 
-/// The text behind this word, BEFORE or AFTER, where it stands.
+/// The text after this word, BEFORE or AFTER, where it stands.
 #[tactic(auto, unfolding(crate::specs::Limiting::limit_reader))]
 fn limit(
     alloc: Global,
@@ -67,7 +67,7 @@ fn before_first(alloc: Global, tokens: &mut Tokens<'_>) -> Result<Limits, ReadFa
     })
 }
 
-/// The text of an AFTER in front, from behind that word on, and then BEFORE.
+/// The text of an AFTER in front, from after that word on, and then BEFORE.
 #[tactic(auto, unfolding(crate::specs::Limiting::after_first_reader))]
 fn after_first(alloc: Global, tokens: &mut Tokens<'_>) -> Result<Limits, ReadFault>
     ensures { Reads (rule.after_first_reader tokens.old) result tokens.new }

@@ -11,12 +11,12 @@ use sqlite_items::Items;
 use std::alloc::Global;
 use tokens::Reserved;
 
-/// What stands behind TO, FROM, BY or INTO.
+/// What follows TO, FROM, BY or INTO.
 #[derive(Drop)]
 pub enum Target {
     /// One or more receivers.
     Receivers(Items<Receiver>),
-    /// An operand, and the receivers behind GIVING.
+    /// An operand, and the receivers after GIVING.
     Giving {
         operand: Operand,
         receivers: Items<Receiver>,
@@ -94,7 +94,7 @@ fn giving(alloc: Global, tokens: &mut Tokens<'_>) -> Result<Target, ReadFault>
     Ok(Target::Giving { operand, receivers })
 }
 
-/// Receivers, or an operand and the receivers behind GIVING.
+/// Receivers, or an operand and the receivers after GIVING.
 #[tactic(auto, unfolding(crate::specs::Receivers::target_reader))]
 pub fn target_of(alloc: Global, tokens: &mut Tokens<'_>) -> Result<Target, ReadFault>
     ensures { Reads (spec.target_reader tokens.old) result tokens.new }

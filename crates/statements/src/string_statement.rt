@@ -101,7 +101,7 @@ fn after_with_pointer(tokens: &[Token]) -> Option<&[Token]>
     after_word(past_word(tokens, Reserved::With), Reserved::Pointer)
 }
 
-/// The item behind POINTER, where the phrase stands.
+/// The item after POINTER, where the phrase stands.
 #[tactic(auto, unfolding(crate::specs::Stringing::pointer_reader))]
 fn pointer(alloc: Global, tokens: &mut Tokens<'_>) -> Result<Option<Reference>, ReadFault>
     ensures { Reads (rule.pointer_reader tokens.old) result tokens.new }

@@ -1,4 +1,4 @@
--- What a replacing text leaves behind it.
+-- What a replacing text leaves after it.
 use Rattle.std.proofs.Common.{◌≡◌, ℕ, ◌+◌, ◌≤◌, List, [], ◌++◌, length, take, drop, Option, Some, None, ap, sym, ◌∙◌}
 use Rattle.std.proofs.Common.{arith, length-append}
 use Rattle.std.proofs.lemmas.List.{take-append-drop, append-nil, length-take-le}

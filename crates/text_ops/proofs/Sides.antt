@@ -49,7 +49,7 @@ item_first item ones other others e =
     ap (λ o. both order_of_texts (characters_in item.kind ones) o) (plain other others size e)
     ∙ both_right (characters_in item.kind ones) (plain_bytes other others size)
 
--- an item behind one
+-- an item after one
 pub item_second : (one : Taken) (ones : List ℕ) (item : Item) (others : List ℕ)
     → is_numeric_item one ≡ false → both order_of_texts (characters one ones (size_of (t.Item item) others))
     (characters (t.Item item) others (size_of one ones)) ≡ option_map ordering_reverse (option_map (λ text.

@@ -21,7 +21,7 @@ abbrev pub place_or : ℕ → Option ℕ → ℕ
 place_or none None = none
 place_or none (Some at) = at
 
--- AFTER: behind the first occurrence of its text; without one nowhere.
+-- AFTER: after the first occurrence of its text; without one nowhere.
 abbrev pub first_place_after : List ℕ → Option Span → List ℕ → ℕ
 first_place_after texts None subject = 0
 first_place_after texts (Some span) subject = end_of_first span.length (length subject) (first_place (bytes_in texts span) subject)
@@ -50,7 +50,7 @@ fits_at texts p (f.First text) at rest = nat_le p.first at && starts_with nat_eq
 abbrev pub fits : List ℕ → Progress → ℕ → List ℕ → Bool
 fits texts p at rest = nat_le (at + fit_length p.entry.fit) p.limit && fits_at texts p p.entry.fit at rest
 
--- After a fit at this place: LEADING fits next right behind it, FIRST nowhere.
+-- After a fit at this place: LEADING fits next right after it, FIRST nowhere.
 abbrev pub progress_after : Progress → Fit → ℕ → Progress
 progress_after p (f.Leading text) at = record p { first = at + text.length }
 progress_after p (f.First text) at = record p { limit = 0 }

@@ -25,7 +25,7 @@ pub struct Fitted {
     pub at: usize,
 }
 
-/// The first place behind AFTER's text; all places without AFTER, none where the text isn't there.
+/// The first place after AFTER's text; all places without AFTER, none where the text isn't there.
 fn first_after(texts: &[u8], after: Option<Span>, subject: &[u8]) -> usize
     requires { IfSpan (length texts.now) after }
     ensures { result ≡ spec.first_place_after texts.now after subject.now }
@@ -50,7 +50,8 @@ fn end_before(texts: &[u8], before: Option<Span>, subject: &[u8]) -> usize
     first_place(span.of(texts), subject).unwrap_or(subject.len())
 }
 
-fn begun(texts: &[u8], subject: &[u8], entry: Entry) -> Progress
+/// An entry at the start, with its places found in the subject.
+pub fn begun(texts: &[u8], subject: &[u8], entry: Entry) -> Progress
     requires { IsEntry (length texts.now) entry }
     ensures { result ≡ spec.initial_progress texts.now subject.now entry }
 {
@@ -96,7 +97,7 @@ impl Progress {
         }
     }
 
-    /// The same behind a fit at this place.
+    /// The same after a fit at this place.
     fn passed(self, at: usize) -> Progress
         requires { at + fit_length self.entry.fit ≤ self.limit }
         ensures { result ≡ spec.progress_after self self.entry.fit at }

@@ -18,7 +18,7 @@ pub fn delimited<'a>(delimiter: &[u8], text: &'a [u8]) -> &'a [u8]
 }
 
 /// Puts the characters of all senders into the receiver, from the pointer on, which counts from 1 (COBOL-85, Nucleus, the
-/// STRING statement). Answers the pointer behind them, and whether there was an overflow.
+/// STRING statement). Answers the pointer after them, and whether there was an overflow.
 #[tactic(auto, unfolding(crate::specs::Strings::string_of_senders))]
 pub fn string_into(text: &[u8], pointer: usize, receiver: &mut [u8]) -> (usize, bool)
     requires { length receiver.old < 2 ^ 63 }

@@ -42,7 +42,7 @@ use Rattle.statements.proofs.FilePhrases.{read_phrases_shrink, read_phrases_soun
 use Rattle.statements.proofs.Verbs.Opening.{openings_shrink, openings_stand, openings_complete, openings_sound}
 use Rattle.statements.proofs.Verbs.Opening.{closing_shrinks, closing_stands, closing_complete, closing_sound}
 
--- ---- items behind words
+-- ---- items after words
 
 module _ {p : Part} {words : Words} (finds : Finds p words) where
   item_sound : Sound (rule.item_after p) (item_after_reader words)

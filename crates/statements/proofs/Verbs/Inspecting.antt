@@ -1,19 +1,20 @@
 -- INSPECT: what is read is spelled, and what is spelled is read.
-use Rattle.std.proofs.Common.{◌≡◌, ◌<◌, ◌≤◌, ℕ, Bool, true, false, if◌then◌else◌, List, [], ◌∷◌, length, Option, Some}
-use Rattle.std.proofs.Common.{None, Ok, refl, ap, ◌∙◌, subst, arith}
+use Rattle.std.proofs.Common.{◌≡◌, ◌<◌, ◌≤◌, ℕ, Bool, true, false, if◌then◌else◌, List, [], ◌∷◌, length, Some}
+use Rattle.std.proofs.Common.{Ok, refl, ap, ◌∙◌, subst, arith}
 use Rattle.std.specs.Prelude.{◌||◌, is_some}
 use Rattle.tokens.specs.declared.reserved.Reserved.TheVariants as w
 use Rattle.tokens.specs.declared.token.Token.{Token}
 use Rattle.tokens.specs.Reserved.{same_word}
-use Rattle.source_tree.specs.declared.inspect_statement.Occurrences.{Occurrences}
 use Rattle.source_tree.specs.declared.inspect_statement.TalliedText.{TalliedText}
-use Rattle.source_tree.specs.declared.inspect_statement.Tallied.{Tallied}
 use Rattle.source_tree.specs.declared.inspect_statement.Tallied.TheVariants as tallied_as
 use Rattle.source_tree.specs.declared.inspect_statement.Tallying.{Tallying}
 use Rattle.source_tree.specs.declared.inspect_statement.ReplacedText.{ReplacedText}
 use Rattle.source_tree.specs.declared.inspect_statement.Replacing.{Replacing}
 use Rattle.source_tree.specs.declared.inspect_statement.Replacing.TheVariants as replacing_as
+use Rattle.source_tree.specs.declared.inspect_statement.Converting.{Converting}
 use Rattle.source_tree.specs.declared.inspect_statement.InspectStatement.{InspectStatement}
+use Rattle.source_tree.specs.declared.reference.Reference.{Reference}
+use Rattle.source_tree.specs.declared.text_statement.TextStatement.{TextStatement}
 use Rattle.source_tree.specs.declared.text_statement.TextStatement.TheVariants as text_as
 use Rattle.source_tree.specs.declared.statement.Verb.TheVariants as verb
 use Rattle.source_tree.specs.declared.statement.Statement.{Statement}
@@ -23,13 +24,13 @@ use Rattle.grammar.specs.Parts.{Part, is_told, token_with, begins_telling, looka
 use Rattle.grammar.specs.Reading as read
 use Rattle.grammar.specs.Reading.{begins_word, refuse, one_token}
 use Rattle.grammar.proofs.Outcomes.{Answers, Reached, step, unstep, value, after, last}
-use Rattle.grammar.proofs.Looking.{Tests, finds_word, tests_tested, tests_words, tests_but, true_not_false, word_begins}
+use Rattle.grammar.proofs.Looking.{Tests, tests_tested, tests_words, tests_but, true_not_false, word_begins}
 use Rattle.grammar.proofs.Looking.{begins_no_other}
 use Rattle.grammar.proofs.Lists as lists
 use Rattle.grammar.proofs.Lists.{Sound, Complete, Shrinks, Starts}
 use Rattle.grammar.proofs.Parts.{word_sound, word_complete, word_shrinks, one_token_sound, one_token_complete}
 use Rattle.grammar.proofs.Parts.{telling_shrinks, telling_starts}
-use Rattle.expressions.specs.References.{reference_reader}
+use Rattle.expressions.specs.References.{reference, reference_reader}
 use Rattle.expressions.specs.Looking.{after_reference_before}
 use Rattle.expressions.proofs.Exact.Marks.{either}
 use Rattle.expressions.proofs.Exact.References.{reference_sound, reference_complete, reference_shrinks}
@@ -46,7 +47,7 @@ use Rattle.statements.specs.Inspecting.{tallied_texts_reader, tallied_characters
 use Rattle.statements.specs.Inspecting.{counting_reader, tallying_reader, replaced_text_reader, replaced_texts_reader}
 use Rattle.statements.specs.Inspecting.{replaced_characters_reader, replaced_reader, replacing_reader}
 use Rattle.statements.specs.Inspecting.{perhaps_replacing_reader, counted_reader, uncounted_reader, phrases_reader}
-use Rattle.statements.specs.Inspecting.{inspect_reader}
+use Rattle.statements.specs.Inspecting.{converted_texts_reader, convert_of, phrases_of, inspected_of, inspect_reader}
 use Rattle.statements.specs.Spelling as g
 use Rattle.statements.proofs.Except.{both}
 use Rattle.statements.proofs.Standing.{stands}
@@ -440,6 +441,51 @@ phrases_shrink (one ∷ more) entries i rest (i1, counters, s) =
     let a = tallying_shrinks (one ∷ more) i i1 counters in
     let b = perhaps_shrinks entries i1 rest s in omega arith
 
+-- neither phrase begins with CONVERTING
+phrases_no_converting : (counters : List Tallying) (entries : List Replacing) (i rest : List Token)
+    → rule.phrases counters entries i rest → begins_word w.Converting i ≡ false
+unfolding same_word
+phrases_no_converting [] entries i rest s = begins_no_other w.Replacing w.Converting refl i s.0 s.1
+phrases_no_converting (one ∷ more) entries i rest (i1, counters, s) =
+    begins_no_other w.Tallying w.Converting refl i counters.0 counters.1
+
+-- ---- CONVERTING
+
+converted_sound : Sound rule.converted_texts converted_texts_reader
+unfolding converted_texts_reader
+converted_sound x i rest e =
+    unstep (read.expect w.Converting i) _ e (λ t i1 is1 e1.
+    unstep (text_reader i1) _ e1 (λ one i2 is2 e2.
+    unstep (read.expect w.To i2) _ e2 (λ u i3 is3 e3.
+    unstep (text_reader i3) _ e3 (λ by i4 is4 e4.
+    unstep (limits_reader i4) _ e4 (λ limits i5 is5 e5.
+    subst (λ y. rule.converted_texts y i rest) (value e5) (
+      i1,
+      word_sound w.Converting t i i1 is1,
+      (
+        i2,
+        text_sound one i1 i2 is2,
+        (i3, word_sound w.To u i2 i3 is3, (i4, text_sound by i3 i4 is4, limits_sound limits i4 rest (last is5 e5))),
+      ),
+    ))))))
+
+converted_complete : {Allowed : Halt → Type 0} → Complete Allowed rule.converted_texts converted_texts_reader
+unfolding converted_texts_reader
+converted_complete x i rest (i1, verb, (i2, one, (i3, word, (i4, by, limits)))) =
+    step (read.expect w.Converting i) _ (word_complete w.Converting tt i i1 verb)
+    (step (text_reader i1) _ (text_complete x.text i1 i2 one)
+    (step (read.expect w.To i2) _ (word_complete w.To tt i2 i3 word)
+    (step (text_reader i3) _ (text_complete x.by i3 i4 by)
+    (step (limits_reader i4) _ (limits_complete x.limits i4 rest limits) (Reached refl)))))
+
+converted_shrinks : Shrinks rule.converted_texts
+converted_shrinks x i rest (i1, verb, (i2, one, (i3, word, (i4, by, limits)))) =
+    let a = word_shrinks w.Converting i i1 verb in
+    let b = text_shrinks x.text i1 i2 one in
+    let c = word_shrinks w.To i2 i3 word in
+    let d = text_shrinks x.by i3 i4 by in
+    let e = limits_shrink x.limits i4 rest limits in omega arith
+
 -- ---- the statement
 
 pub inspecting_shrinks : (one : InspectStatement) (i rest : List Token) → rule.inspect_statement one i rest
@@ -453,6 +499,33 @@ pub inspecting_stands : (one : InspectStatement) (i rest : List Token) → rule.
     → verb_at i ≡ Some v.Inspect
 inspecting_stands one i rest s = stands w.Inspect i s.0 s.1
 
+pub converting_shrinks : (one : Converting) (i rest : List Token) → rule.convert_statement one i rest
+    → length rest < length i
+converting_shrinks one i rest (i1, verb, (i2, subject, s)) =
+    let a = word_shrinks w.Inspect i i1 verb in
+    let b = reference_shrinks one.subject i1 i2 subject in
+    let c = converted_shrinks one.texts i2 rest s in omega arith
+
+pub converting_stands : (one : Converting) (i rest : List Token) → rule.convert_statement one i rest
+    → verb_at i ≡ Some v.Inspect
+converting_stands one i rest s = stands w.Inspect i s.0 s.1
+
+phrases_of_complete : {Allowed : Halt → Type 0} (one : InspectStatement) (i rest : List Token)
+    → rule.phrases one.tallying one.replacing i rest
+    → Answers Allowed (inspected_of one.subject i) (text_as.Inspect one) rest
+unfolding inspected_of phrases_of
+phrases_of_complete one i rest s =
+    rw (phrases_no_converting one.tallying one.replacing i rest s)
+    (step (phrases_reader i) _ (phrases_complete one.tallying one.replacing i rest s) (Reached refl))
+
+convert_of_complete : {Allowed : Halt → Type 0} (one : Converting) (i rest : List Token)
+    → rule.converted_texts one.texts i rest
+    → Answers Allowed (inspected_of one.subject i) (text_as.Convert one) rest
+unfolding inspected_of convert_of
+convert_of_complete one i rest s =
+    rw (word_begins w.Converting i s.0 s.1)
+    (step (converted_texts_reader i) _ (converted_complete one.texts i rest s) (Reached refl))
+
 pub inspecting_complete : {Allowed : Halt → Type 0} (one : InspectStatement) (i rest : List Token)
     → rule.inspect_statement one i rest
     → Answers Allowed (inspect_reader i) (verb.TextStatement (text_as.Inspect one)) rest
@@ -460,16 +533,41 @@ unfolding inspect_reader
 inspecting_complete one i rest (i1, verb, (i2, subject, s)) =
     step (read.expect w.Inspect i) _ (word_complete w.Inspect tt i i1 verb)
     (step (reference_reader i1) _ (reference_complete one.subject i1 i2 subject)
-    (step (phrases_reader i2) _ (phrases_complete one.tallying one.replacing i2 rest s) (Reached refl)))
+    (step (inspected_of one.subject i2) _ (phrases_of_complete one i2 rest s) (Reached refl)))
+
+pub converting_complete : {Allowed : Halt → Type 0} (one : Converting) (i rest : List Token)
+    → rule.convert_statement one i rest
+    → Answers Allowed (inspect_reader i) (verb.TextStatement (text_as.Convert one)) rest
+unfolding inspect_reader
+converting_complete one i rest (i1, verb, (i2, subject, s)) =
+    step (read.expect w.Inspect i) _ (word_complete w.Inspect tt i i1 verb)
+    (step (reference_reader i1) _ (reference_complete one.subject i1 i2 subject)
+    (step (inspected_of one.subject i2) _ (convert_of_complete one i2 rest s) (Reached refl)))
+
+-- with the verb and the subject in front
+subject_sound : (depth : ℕ) (p : Statement → Part) (subject : Reference) (one : TextStatement)
+    (i i1 i2 rest : List Token) → word w.Inspect i i1 → reference subject i1 i2
+    → inspected_of subject i2 ≡ Ok (one, rest) → g.verb_line depth p (verb.TextStatement one) i rest
+unfolding inspected_of convert_of phrases_of
+subject_sound depth p subject one i i1 i2 rest begun there e = go (begins_word w.Converting i2) e
+  where
+    go : (b : Bool) → (if b then convert_of subject i2 else phrases_of subject i2) ≡ Ok (one, rest)
+        → g.verb_line depth p (verb.TextStatement one) i rest
+    go true e =
+        unstep (converted_texts_reader i2) _ e (λ texts i3 is3 e3.
+        subst (λ y. g.verb_line depth p (verb.TextStatement y) i rest) (value e3)
+        (i1, begun, (i2, there, converted_sound texts i2 rest (last is3 e3))))
+    go false e =
+        unstep (phrases_reader i2) _ e (λ phrases i3 is3 e3.
+        subst (λ y. g.verb_line depth p (verb.TextStatement y) i rest) (value e3)
+        (i1, begun, (i2, there, phrases_sound phrases i2 rest (last is3 e3))))
 
 pub inspecting_sound : (depth : ℕ) (p : Statement → Part) → Sound (g.verb_line depth p) inspect_reader
 unfolding inspect_reader
 inspecting_sound depth p x i rest e =
     unstep (read.expect w.Inspect i) _ e (λ u i1 is1 e1.
     unstep (reference_reader i1) _ e1 (λ subject i2 is2 e2.
-    unstep (phrases_reader i2) _ e2 (λ phrases i3 is3 e3.
-    subst (λ y. g.verb_line depth p y i rest) (value e3) (
-      i1,
-      word_sound w.Inspect u i i1 is1,
-      (i2, reference_sound subject i1 i2 is2, phrases_sound phrases i2 rest (last is3 e3)),
-    ))))
+    unstep (inspected_of subject i2) _ e2 (λ one i3 is3 e3.
+    subst (λ y. g.verb_line depth p y i rest) (value e3)
+    (subject_sound depth p subject one i i1 i2 rest (word_sound w.Inspect u i i1 is1)
+    (reference_sound subject i1 i2 is2) (last is3 e3)))))

@@ -127,7 +127,7 @@ sendings_complete {Allowed = Allowed} =
 sendings_shrink : Shrinks (grammar.several rule.delimited_senders (lookahead begins_operand))
 sendings_shrink = lists.several_shrinks rule.delimited_senders (lookahead begins_operand) sending_shrinks
 
--- ---- senders up to INTO, and the receiver behind it
+-- ---- senders up to INTO, and the receiver after it
 
 abbrev strung : List Sending × Reference → Part
 strung both =

@@ -276,7 +276,7 @@ count_stands : (i rest : List Token) → reference_before w.Times i rest → beg
 count_stands i rest s = second_holds (begins_name i) (is_some (after_reference_before w.Times i))
     (ap is_some ((reference_before_found w.Times).stands i rest s))
 
--- where no name begins behind it
+-- where no name begins after it
 pub turns_no_procedures : (depth : ℕ) (x : Repetition) (i rest : List Token) → rule.turns depth x i rest
     → begins_name rest ≡ false → begins_procedures i ≡ false
 turns_no_procedures depth Once i rest s none = name_fails i (ap begins_name s.0 ∙ none)

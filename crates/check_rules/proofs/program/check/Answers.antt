@@ -22,7 +22,7 @@ returns-in_err-declarations-clause-exact c =
     (told_first program fault (is_first_front fault (declared ++ statements) (procedure_rules program)
     (is_first_front fault declared statements c.in_err-declarations.ensures.rules)))
 
--- What was made is held where nothing failed behind it.
+-- What was made is held where nothing failed after it.
 nothing_failed : {A E : Type 0} (first : A) (behind : Result (Unit {0}) E) (held : A) (end : Unit {0})
     → result_map_both {U = A × Unit {0}} (λ b. (first, b)) (λ e. e) behind ≡ Ok (held, end)
     → (held ≡ first) × (behind ≡ Ok end)

@@ -15,7 +15,7 @@ use Rattle.data_machine.proofs.ReadyTogether.{item_stands, move_found}
 use Rattle.data_machine.proofs.ReadyBehind.{ready_behind}
 use Rattle.data_machine.proofs.data.Data.move_item.Goals as goal
 
--- behind `place` and `take`
+-- after `place` and `take`
 behind_take : (tables : DataTables) (old new : Data) (from to : ItemIndex)
     → IsReadyAlong tables old (i.Place from ∷ i.Take ∷ i.Place to ∷ i.Move ∷ [])
     → at_item tables from take_step (scratch_of old) ≡ Continues (scratch_of new) → KeepsRoom old new

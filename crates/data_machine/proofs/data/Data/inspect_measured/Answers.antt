@@ -1,0 +1,103 @@
+use Rattle.std.proofs.Common.{◌<◌, sym, subst, length, List}
+use Rattle.data_instructions.specs.declared.tables.Inspection.{Inspection}
+use Rattle.data_instructions.specs.Scratch.{step_at}
+use Rattle.data_instructions.specs.Table.{inspected_with, measured_inspection, at_numbers}
+use Rattle.data_machine.specs.Data.{scratch_of}
+use Rattle.data_machine.specs.Comes.{IsStepOf}
+use Rattle.data_machine.proofs.Readies.{ready_inspect_measured, inspection_measured_there}
+use Rattle.data_machine.proofs.Inspects.{entry_read}
+use Rattle.data_machine.proofs.data.Data.inspect_measured.Goals as goal
+
+pub bounds-as_slice-inspection : goal.bounds-as_slice-inspection
+bounds-as_slice-inspection c =
+    subst (λ (xs : List Inspection). c.args.inspection.number < length xs) (sym c.as_slice.ensures)
+    (inspection_measured_there c.args.tables.now c.args.self.now c.args.inspection c.args.numbers c.requires)
+
+pub inspect_by-requires-clause-form : goal.inspect_by-requires-clause-form
+inspect_by-requires-clause-form c =
+    let there =
+    inspection_measured_there c.args.tables.now c.args.self.now c.args.inspection c.args.numbers c.requires in
+    let here = entry_read c.as_slice.result.now c.args.tables.now.inspections c.args.inspection.number
+    c.index-as_slice-inspection.result c.as_slice.ensures there c.index-as_slice-inspection.is in
+    c.requires.at.in_order.inspections c.args.inspection.number c.index-as_slice-inspection.result here
+
+pub inspect_by-requires-clause-places : goal.inspect_by-requires-clause-places
+inspect_by-requires-clause-places c =
+    let there =
+    inspection_measured_there c.args.tables.now c.args.self.now c.args.inspection c.args.numbers c.requires in
+    let here = entry_read c.as_slice.result.now c.args.tables.now.inspections c.args.inspection.number
+    c.index-as_slice-inspection.result c.as_slice.ensures there c.index-as_slice-inspection.is in
+    (ready_inspect_measured c.args.tables.now c.args.self.now c.args.inspection c.args.numbers
+    c.index-as_slice-inspection.result here
+    c.requires).0
+
+pub inspect_by-requires-clause-line : goal.inspect_by-requires-clause-line
+inspect_by-requires-clause-line c =
+    let there =
+    inspection_measured_there c.args.tables.now c.args.self.now c.args.inspection c.args.numbers c.requires in
+    let here = entry_read c.as_slice.result.now c.args.tables.now.inspections c.args.inspection.number
+    c.index-as_slice-inspection.result c.as_slice.ensures there c.index-as_slice-inspection.is in
+    (ready_inspect_measured c.args.tables.now c.args.self.now c.args.inspection c.args.numbers
+    c.index-as_slice-inspection.result here
+    c.requires).1
+
+pub inspect_by-requires-clause-tallying : goal.inspect_by-requires-clause-tallying
+inspect_by-requires-clause-tallying c =
+    let there =
+    inspection_measured_there c.args.tables.now c.args.self.now c.args.inspection c.args.numbers c.requires in
+    let here = entry_read c.as_slice.result.now c.args.tables.now.inspections c.args.inspection.number
+    c.index-as_slice-inspection.result c.as_slice.ensures there c.index-as_slice-inspection.is in
+    c.requires.at.inspects.tallying c.args.inspection.number c.index-as_slice-inspection.result here
+
+pub inspect_by-requires-clause-replacing : goal.inspect_by-requires-clause-replacing
+inspect_by-requires-clause-replacing c =
+    let there =
+    inspection_measured_there c.args.tables.now c.args.self.now c.args.inspection c.args.numbers c.requires in
+    let here = entry_read c.as_slice.result.now c.args.tables.now.inspections c.args.inspection.number
+    c.index-as_slice-inspection.result c.as_slice.ensures there c.index-as_slice-inspection.is in
+    c.requires.at.inspects.replacing c.args.inspection.number c.index-as_slice-inspection.result here
+
+pub inspect_by-requires-clause-counts : goal.inspect_by-requires-clause-counts
+inspect_by-requires-clause-counts c =
+    let there =
+    inspection_measured_there c.args.tables.now c.args.self.now c.args.inspection c.args.numbers c.requires in
+    let here = entry_read c.as_slice.result.now c.args.tables.now.inspections c.args.inspection.number
+    c.index-as_slice-inspection.result c.as_slice.ensures there c.index-as_slice-inspection.is in
+    c.requires.at.inspects.counts c.args.inspection.number c.index-as_slice-inspection.result here
+
+pub inspect_by-requires-clause-tallied : goal.inspect_by-requires-clause-tallied
+inspect_by-requires-clause-tallied c =
+    let there =
+    inspection_measured_there c.args.tables.now c.args.self.now c.args.inspection c.args.numbers c.requires in
+    let here = entry_read c.as_slice.result.now c.args.tables.now.inspections c.args.inspection.number
+    c.index-as_slice-inspection.result c.as_slice.ensures there c.index-as_slice-inspection.is in
+    c.requires.at.inspects.tallied c.args.inspection.number c.index-as_slice-inspection.result here
+
+pub inspect_by-requires-clause-replaced : goal.inspect_by-requires-clause-replaced
+inspect_by-requires-clause-replaced c =
+    let there =
+    inspection_measured_there c.args.tables.now c.args.self.now c.args.inspection c.args.numbers c.requires in
+    let here = entry_read c.as_slice.result.now c.args.tables.now.inspections c.args.inspection.number
+    c.index-as_slice-inspection.result c.as_slice.ensures there c.index-as_slice-inspection.is in
+    c.requires.at.inspects.replaced c.args.inspection.number c.index-as_slice-inspection.result here
+
+pub inspect_by-requires-clause-numbers : goal.inspect_by-requires-clause-numbers
+inspect_by-requires-clause-numbers c =
+    let there =
+    inspection_measured_there c.args.tables.now c.args.self.now c.args.inspection c.args.numbers c.requires in
+    let here = entry_read c.as_slice.result.now c.args.tables.now.inspections c.args.inspection.number
+    c.index-as_slice-inspection.result c.as_slice.ensures there c.index-as_slice-inspection.is in
+    (ready_inspect_measured c.args.tables.now c.args.self.now c.args.inspection c.args.numbers
+    c.index-as_slice-inspection.result here c.requires).2
+
+pub returns-clause-does : goal.returns-clause-does
+returns-clause-does c =
+    let there =
+    inspection_measured_there c.args.tables.now c.args.self.now c.args.inspection c.args.numbers c.requires in
+    let one = c.index-as_slice-inspection.result in
+    let here = entry_read c.as_slice.result.now c.args.tables.now.inspections c.args.inspection.number
+    one c.as_slice.ensures there c.index-as_slice-inspection.is in
+    let s = scratch_of c.args.self.now in
+    subst (λ o. IsStepOf c.inspect_by.result (scratch_of c.inspect_by.new.self) (step_at o (λ x.
+    at_numbers c.args.numbers (λ found. inspected_with c.args.tables.now (measured_inspection found x)) s))) (sym here)
+    c.inspect_by.ensures.does

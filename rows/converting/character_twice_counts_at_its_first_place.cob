@@ -1,0 +1,10 @@
+       IDENTIFICATION DIVISION.
+       PROGRAM-ID. P.
+       DATA DIVISION.
+       WORKING-STORAGE SECTION.
+       01 T PIC X(3) VALUE "ABA".
+       PROCEDURE DIVISION.
+       MAIN-1.
+           INSPECT T CONVERTING "AA" TO "12"
+           DISPLAY T
+           STOP RUN.

@@ -1,0 +1,10 @@
+       IDENTIFICATION DIVISION.
+       PROGRAM-ID. P.
+       DATA DIVISION.
+       WORKING-STORAGE SECTION.
+       01 T PIC X(6) VALUE "A-B.C-".
+       PROCEDURE DIVISION.
+       MAIN-1.
+           INSPECT T CONVERTING "-." TO SPACE
+           DISPLAY "[" T "]"
+           STOP RUN.

@@ -1,0 +1,12 @@
+       IDENTIFICATION DIVISION.
+       PROGRAM-ID. P.
+       DATA DIVISION.
+       WORKING-STORAGE SECTION.
+       01 T PIC X(6) VALUE "HELLO!".
+       01 U PIC X(4) VALUE "EHLO".
+       01 I PIC 9 VALUE 2.
+       PROCEDURE DIVISION.
+       MAIN-1.
+           INSPECT T CONVERTING U (1:I) TO SPACE
+           DISPLAY T
+           STOP RUN.

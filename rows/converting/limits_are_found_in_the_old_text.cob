@@ -1,0 +1,10 @@
+       IDENTIFICATION DIVISION.
+       PROGRAM-ID. P.
+       DATA DIVISION.
+       WORKING-STORAGE SECTION.
+       01 T PIC X(5) VALUE "abcab".
+       PROCEDURE DIVISION.
+       MAIN-1.
+           INSPECT T CONVERTING "abc" TO "cba" BEFORE INITIAL "c"
+           DISPLAY T
+           STOP RUN.

@@ -1,0 +1,12 @@
+       IDENTIFICATION DIVISION.
+       PROGRAM-ID. P.
+       DATA DIVISION.
+       WORKING-STORAGE SECTION.
+       01 T PIC X(3) VALUE "aba".
+       PROCEDURE DIVISION.
+       MAIN-1.
+           INSPECT T CONVERTING "a" TO "x" BEFORE INITIAL "?"
+           DISPLAY T
+           INSPECT T CONVERTING "x" TO "y" AFTER INITIAL "?"
+           DISPLAY T
+           STOP RUN.

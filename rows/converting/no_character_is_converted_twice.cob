@@ -1,0 +1,10 @@
+       IDENTIFICATION DIVISION.
+       PROGRAM-ID. P.
+       DATA DIVISION.
+       WORKING-STORAGE SECTION.
+       01 T PIC X(3) VALUE "ABC".
+       PROCEDURE DIVISION.
+       MAIN-1.
+           INSPECT T CONVERTING "ABC" TO "BCA"
+           DISPLAY T
+           STOP RUN.

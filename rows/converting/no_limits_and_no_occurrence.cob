@@ -1,0 +1,10 @@
+       IDENTIFICATION DIVISION.
+       PROGRAM-ID. P.
+       DATA DIVISION.
+       WORKING-STORAGE SECTION.
+       01 T PIC X(3) VALUE "abc".
+       PROCEDURE DIVISION.
+       MAIN-1.
+           INSPECT T CONVERTING "XYZ" TO "123"
+           DISPLAY T
+           STOP RUN.

@@ -1,0 +1,11 @@
+       IDENTIFICATION DIVISION.
+       PROGRAM-ID. P.
+       DATA DIVISION.
+       WORKING-STORAGE SECTION.
+       01 T PIC X(3) VALUE "abc".
+       01 I PIC 9 VALUE 4.
+       PROCEDURE DIVISION.
+       MAIN-1.
+           INSPECT T CONVERTING "a" TO T (I:1)
+           DISPLAY T
+           STOP RUN.

@@ -1,0 +1,10 @@
+       IDENTIFICATION DIVISION.
+       PROGRAM-ID. P.
+       DATA DIVISION.
+       WORKING-STORAGE SECTION.
+       01 T PIC X(3) VALUE "123".
+       PROCEDURE DIVISION.
+       MAIN-1.
+           INSPECT T CONVERTING "1" TO 2
+           DISPLAY T
+           STOP RUN.

@@ -1,0 +1,10 @@
+       IDENTIFICATION DIVISION.
+       PROGRAM-ID. P.
+       DATA DIVISION.
+       WORKING-STORAGE SECTION.
+       01 N PIC S9(4) VALUE 1210.
+       PROCEDURE DIVISION.
+       MAIN-1.
+           INSPECT N CONVERTING "12" TO "34"
+           DISPLAY N
+           STOP RUN.

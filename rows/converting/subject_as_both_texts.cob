@@ -1,0 +1,10 @@
+       IDENTIFICATION DIVISION.
+       PROGRAM-ID. P.
+       DATA DIVISION.
+       WORKING-STORAGE SECTION.
+       01 T PIC X(3) VALUE "ABC".
+       PROCEDURE DIVISION.
+       MAIN-1.
+           INSPECT T CONVERTING T TO "xyz" BEFORE T (3:1)
+           DISPLAY T
+           STOP RUN.

@@ -1,0 +1,12 @@
+       IDENTIFICATION DIVISION.
+       PROGRAM-ID. P.
+       DATA DIVISION.
+       WORKING-STORAGE SECTION.
+       01 G.
+          02 E PIC X(3) OCCURS 3.
+       01 I PIC 9 VALUE 4.
+       PROCEDURE DIVISION.
+       MAIN-1.
+           INSPECT G CONVERTING E (I) TO "XYZ"
+           DISPLAY G
+           STOP RUN.

@@ -1,0 +1,10 @@
+       IDENTIFICATION DIVISION.
+       PROGRAM-ID. P.
+       DATA DIVISION.
+       WORKING-STORAGE SECTION.
+       01 T PIC X(7) VALUE "CABBAGE".
+       PROCEDURE DIVISION.
+       MAIN-1.
+           INSPECT T CONVERTING "AB" TO "1"
+           DISPLAY T
+           STOP RUN.

@@ -1,0 +1,12 @@
+       IDENTIFICATION DIVISION.
+       PROGRAM-ID. P.
+       DATA DIVISION.
+       WORKING-STORAGE SECTION.
+       01 S PIC X(9) VALUE "ABCABABCD".
+       01 T PIC X(5) VALUE "ABCDE".
+       01 I PIC 9 VALUE 2.
+       PROCEDURE DIVISION.
+       MAIN-1.
+           INSPECT S CONVERTING T (1:I) TO SPACE
+           DISPLAY "[" S "]"
+           STOP RUN.

@@ -1,0 +1,15 @@
+       IDENTIFICATION DIVISION.
+       PROGRAM-ID. P.
+       DATA DIVISION.
+       WORKING-STORAGE SECTION.
+       01 S PIC X(9) VALUE "ABCABABCD".
+       01 T PIC X(5) VALUE "ABCDE".
+       01 I PIC 9 VALUE 2.
+       01 J PIC 9 VALUE 1.
+       01 N PIC 99 VALUE 0.
+       PROCEDURE DIVISION.
+       MAIN-1.
+           INSPECT S CONVERTING T (1:I) TO ZERO
+               AFTER T (3:J) BEFORE T (3:I)
+           DISPLAY S
+           STOP RUN.

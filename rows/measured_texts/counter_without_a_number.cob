@@ -1,0 +1,15 @@
+       IDENTIFICATION DIVISION.
+       PROGRAM-ID. P.
+       DATA DIVISION.
+       WORKING-STORAGE SECTION.
+       01 S PIC X(9) VALUE "ABCABABCD".
+       01 T PIC X(5) VALUE "ABCDE".
+       01 I PIC 9 VALUE 2.
+       01 A.
+          02 N PIC 9.
+       PROCEDURE DIVISION.
+       MAIN-1.
+           MOVE SPACE TO A
+           INSPECT S TALLYING N FOR ALL T (1:I)
+               REPLACING ALL T (1:I) BY ZERO
+           STOP RUN.

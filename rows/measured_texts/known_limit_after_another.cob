@@ -1,0 +1,18 @@
+       IDENTIFICATION DIVISION.
+       PROGRAM-ID. P.
+       DATA DIVISION.
+       WORKING-STORAGE SECTION.
+       01 S PIC X(9) VALUE "ABCABABCD".
+       01 T PIC X(5) VALUE "ABCDE".
+       01 I PIC 9 VALUE 2.
+       01 J PIC 9 VALUE 1.
+       01 N PIC 99 VALUE 0.
+       PROCEDURE DIVISION.
+       MAIN-1.
+           INSPECT S TALLYING N FOR CHARACTERS
+               BEFORE T (3:I) AFTER "C"
+           DISPLAY N
+           INSPECT S TALLYING N FOR CHARACTERS
+               AFTER "C" BEFORE T (3:I)
+           DISPLAY N
+           STOP RUN.

@@ -1,0 +1,13 @@
+       IDENTIFICATION DIVISION.
+       PROGRAM-ID. P.
+       DATA DIVISION.
+       WORKING-STORAGE SECTION.
+       01 S PIC X(6) VALUE "121312".
+       01 D PIC 9(4) VALUE 1213.
+       01 I PIC 9 VALUE 2.
+       01 N PIC 99 VALUE 0.
+       PROCEDURE DIVISION.
+       MAIN-1.
+           INSPECT S TALLYING N FOR ALL D (1:I)
+           DISPLAY N
+           STOP RUN.

@@ -1,0 +1,13 @@
+       IDENTIFICATION DIVISION.
+       PROGRAM-ID. P.
+       DATA DIVISION.
+       WORKING-STORAGE SECTION.
+       01 S PIC X(9) VALUE "ABCABABCD".
+       01 T PIC X(5) VALUE "ABCDE".
+       01 I PIC 9 VALUE 1.
+       PROCEDURE DIVISION.
+       MAIN-1.
+           INSPECT S REPLACING ALL "A" BY "x"
+               AFTER INITIAL T (3:I)
+           DISPLAY S
+           STOP RUN.

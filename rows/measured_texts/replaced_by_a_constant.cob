@@ -1,0 +1,15 @@
+       IDENTIFICATION DIVISION.
+       PROGRAM-ID. P.
+       DATA DIVISION.
+       WORKING-STORAGE SECTION.
+       01 S PIC X(9) VALUE "ABCABABCD".
+       01 T PIC X(5) VALUE "ABCDE".
+       01 I PIC 9 VALUE 2.
+       PROCEDURE DIVISION.
+       MAIN-1.
+           INSPECT S REPLACING ALL T (1:I) BY ZERO
+           DISPLAY S
+           MOVE 1 TO I
+           INSPECT S REPLACING ALL T (3:I) BY SPACE
+           DISPLAY "[" S "]"
+           STOP RUN.

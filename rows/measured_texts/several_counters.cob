@@ -1,0 +1,17 @@
+       IDENTIFICATION DIVISION.
+       PROGRAM-ID. P.
+       DATA DIVISION.
+       WORKING-STORAGE SECTION.
+       01 S PIC X(9) VALUE "ABCABABCD".
+       01 T PIC X(5) VALUE "ABCDE".
+       01 I PIC 9 VALUE 2.
+       01 N PIC 99 VALUE 0.
+       01 M PIC 99 VALUE 0.
+       01 K PIC 99 VALUE 0.
+       01 J PIC 9 VALUE 1.
+       PROCEDURE DIVISION.
+       MAIN-1.
+           INSPECT S TALLYING N FOR ALL T (1:I)
+               M FOR ALL T (3:J) K FOR CHARACTERS
+           DISPLAY N M K
+           STOP RUN.
