@@ -50,7 +50,7 @@ fn tell_note(alloc: Global, text: &mut Vec<u8>, note: Note) -> Result<(), AllocE
 }
 
 /// The files that a crash now would leave, by name: `NAME indexed LENGTH ROWS`, and each row in a line of its own, with a space in front, of a
-/// relative file behind its number. Where none can be recovered that is said.
+/// relative file after its number. Where none can be recovered that is said.
 pub fn listed(alloc: Global, station: &mut MemoryStation) -> Result<Vec<u8>, AllocError> {
     station.crash(&[]);
     let mut text = Vec::new(alloc);

@@ -1,4 +1,4 @@
--- The key of a place tells what is behind it.
+-- The key of a place tells what is after it.
 use Rattle.std.proofs.Common.{◌≡◌, ◌≤◌, ◌<◌, ◌+◌, ◌-◌, ◌^◌, ◌/◌, lit<, ℕ, zero, suc, Bool, true, false, not, List, []}
 use Rattle.std.proofs.Common.{◌∷◌, ◌++◌, length, refl, sym, ap, subst, ◌∙◌, arith}
 use Rattle.std.specs.Prelude.{take, replicate, nat_lt, ◌==◌, if◌then◌else◌}
@@ -34,7 +34,7 @@ use Rattle.std.specs.Cmp.{nat_cmp_is}
 use Rattle.volume_format.proofs.Order.{numbers_alone}
 use Rattle.btree_pages.proofs.Numbers.{numbers_in_order, cmp_append, then_equal, byte_at_power}
 
--- a key from zeros on, and a key behind the greatest bytes
+-- a key from zeros on, and a key after the greatest bytes
 zeros_by : (o : Ordering) (x : ℕ) (r : Ordering) → o ≡ nat_cmp x 0 → is_lt r ≡ false → is_lt (ordering_then o r) ≡ false
 zeros_by Less x r is rest = let low : x < 0 = ranked x 0 Less is in absurd (omega arith)
 zeros_by Equal x r is rest = rest

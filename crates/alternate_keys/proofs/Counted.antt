@@ -21,7 +21,7 @@ pub first_at : (entries : List Entry) → first_entry entries ≡ entry_at 0 ent
 first_at [] = refl
 first_at (e ∷ more) = refl
 
--- the first of those that are all behind a key
+-- the first of those that are all after a key
 all_behind : (key : List ℕ) (more : List Entry) → AllByRecursion (λ (k : List ℕ). key_cmp key k ≡ Less)
     (keys_listed more) → first_entry_after more key ≡ entry_at 0 more
 all_behind key [] all = refl

@@ -70,7 +70,7 @@ module _ (spec : Spec) (key : KeyOfReference) (v : List ℕ) where
   not_below : (n : ℕ) → not (is_lt (nat_cmp n 0)) ≡ true
   not_below n = not_below_by (nat_cmp n 0) n refl
 
-  -- a row with that value is behind the place
+  -- a row with that value is after the place
   passes : (row : Row) → has row ≡ true → test row ≡ true
   passes row is =
       let same : value row ≡ v = bytes_same (value row) v is in
@@ -79,7 +79,7 @@ module _ (spec : Spec) (key : KeyOfReference) (v : List ℕ) where
       (tied_itself nat_list_cmp_total v)
       ∙ not_below (pair_under spec key row).number
 
-  -- where the first row behind the place hasn't that value, its value is greater
+  -- where the first row after the place hasn't that value, its value is greater
   greater_by : (o : Ordering) (r : Ordering) → is_eq o ≡ false → not (is_lt (ordering_then o r)) ≡ true → o ≡ Greater
   greater_by Less r other behind = cc
   greater_by Equal r other behind = cc

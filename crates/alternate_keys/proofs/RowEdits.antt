@@ -40,7 +40,7 @@ module _ (o : Organization) (pair : Pair) where
   none_later [] up = tt
   none_later (row ∷ all) up = (apart_from row up.0, none_later all up.1)
 
-  -- behind the row at it no row is at it
+  -- after the row at it no row is at it
   pub alone : (row : Row) (all : List Row) → RowsAscend o (row ∷ all) → is_at o pair row ≡ true
       → AllByRecursion (λ (r : Row). is_at o pair r ≡ false) all
   alone row all up at =

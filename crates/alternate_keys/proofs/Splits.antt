@@ -32,7 +32,7 @@ pub record Found (name : List ℕ) (kept : List FileTrees) (file : File) : Type 
   pub split : Split name kept one
   pub file_is : one.named.file ≡ file
 
--- a name behind all of a list is behind one of it
+-- a name after all of a list is after one of it
 behind : (P : List ℕ → Type 0) (before : List FileTrees) (one : FileTrees) (after : List FileTrees)
     → AllByRecursion P (names (named_of (before ++ one ∷ after))) → P one.named.name
 behind P [] one after all = all.0

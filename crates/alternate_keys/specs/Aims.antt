@@ -1,4 +1,4 @@
--- The key from which a tree is looked into for the first row behind a place.
+-- The key from which a tree is looked into for the first row after a place.
 use Rattle.std.specs.Prelude.{◌≡◌, ◌<◌, ◌≤◌, ◌+◌, ◌-◌, ◌^◌, ◌++◌, ◌==◌, ℕ, Bool, false, not, nat_lt, List, map, length, replicate, Option, None, if◌then◌else◌}
 use Rattle.std.specs.Option.{option_map}
 use Rattle.std.specs.List.{All}
@@ -21,7 +21,7 @@ use Rattle.alternate_keys.specs.declared.search_start.SearchStart.TheVariants as
 use Rattle.volume_format.specs.Trees.{key_under, entry_under, AreOf}
 use Rattle.volume_format.specs.Pairs.{IsPair, IsUnder}
 
--- behind a value, zeros; behind all that begins with it, the greatest bytes
+-- after a value, zeros; after all that begins with it, the greatest bytes
 abbrev pub fill : Side → ℕ
 fill side.From = 0
 fill side.After = 0
@@ -35,7 +35,7 @@ aim_at side.From = aim.From
 aim_at side.After = aim.After
 aim_at side.Beyond = aim.After
 
--- behind a part of a value
+-- after a part of a value
 abbrev pub aim_short : Side → SearchStart
 aim_short side.From = aim.From
 aim_short side.After = aim.From
@@ -94,7 +94,7 @@ pub record IsBound (spec : Spec) (key : KeyOfReference) (bound : RowBound) : Typ
   pub value : length bound.pair.value ≤ key_length spec key
   pub number : bound.pair.number < 256 ^ 8
 
--- the key that is looked for tells the pairs behind a place
+-- the key that is looked for tells the pairs after a place
 abbrev pub AimsRight : Type 0
 AimsRight = (spec : Spec) (key : KeyOfReference) (bound : RowBound) (pair : Pair) → IsBound spec key bound → IsPair spec key pair →
     All (λ byte. byte < 256) pair.value →

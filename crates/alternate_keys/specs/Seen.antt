@@ -56,7 +56,7 @@ pub record IsPairEntry (spec : Spec) (i : ℕ) (pages : List (Option Sector)) (r
   pub has : Contains rows row
   pub is : entry ≡ entry_under spec (Alternate i) row
 
--- The trees of a file with these rows, and how the tree of a key is looked into for the first row behind a place.
+-- The trees of a file with these rows, and how the tree of a key is looked into for the first row after a place.
 pub record IsSought (spec : Spec) (key : KeyOfReference) (bound : RowBound) (pages : List (Option Sector)) (rows : List Row) (prime under : RootedTree) (way : SearchStart) (at : List ℕ) : Type 0 where
   pub there : HasRows spec pages rows prime
   pub pairs : HasPairs spec key pages rows under

@@ -75,7 +75,7 @@ fn first_in<D: Device>(
     }
 }
 
-/// The entry behind one of a tree.
+/// The entry after one of a tree.
 fn next_in<D: Device>(
     tree: &Tree,
     pages: &mut PageMap,

@@ -135,7 +135,7 @@ fn number_of(organization: Organization, key: &[u8]) -> Result<u64, PagesError>
     }
 }
 
-/// The arrival behind a value in a key.
+/// The arrival after a value in a key.
 fn arrival_in(key: &[u8], value_length: usize) -> Result<u64, PagesError>
     requires { value_length < 65536 }
     ensures ok { IfOk result (λ number. number ≡ big_number 8 (drop value_length key.now)) }

@@ -1,4 +1,4 @@
-//! A row by its value in the tree of rows: its record, and behind it its arrivals.
+//! A row by its value in the tree of rows: its record, and after it its arrivals.
 ghost use Rattle.std.specs.Prelude.{◌≡◌, ◌≤◌, ◌<◌, ◌+◌, ◌*◌, ◌^◌, ◌++◌, length, take, drop, if◌then◌else◌, IfOk, IsOkUnless};
 ghost use Rattle.std.specs.List.{flat_map, list_any};
 ghost use Rattle.byteorder.specs.Endian.{big_bytes, big_number};

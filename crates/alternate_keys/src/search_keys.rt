@@ -1,4 +1,4 @@
-//! How a tree is looked into for the first row behind a place.
+//! How a tree is looked into for the first row after a place.
 ghost use Rattle.std.specs.Prelude.{◌≡◌, ◌≤◌, ◌++◌, length, OnOk, IfOk, IsOkUnless};
 ghost use Rattle.byteorder.specs.Endian.{big_bytes};
 ghost use Rattle.records.specs.Stores.{spec_of, IsKey, key_length, bound_at};
@@ -54,7 +54,7 @@ pub(crate) fn search_start_for(
     }
 }
 
-/// A value, and a number in 8 bytes behind it.
+/// A value, and a number in 8 bytes after it.
 pub(crate) fn pair_bytes(alloc: Global, value: &[u8], number: u64) -> Result<Vec<u8>, StoreFault>
     ensures bytes { IfOk result (λ bytes. bytes.items ≡ value.now ++ big_bytes 8 number) }
     ensures memory { IsOkUnless result StoreFault.Memory }

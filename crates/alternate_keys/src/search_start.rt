@@ -7,6 +7,6 @@ pub enum SearchStart {
     Nothing,
     /// The first from the key on.
     From,
-    /// The first behind the key.
+    /// The first after the key.
     After,
 }

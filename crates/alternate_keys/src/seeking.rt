@@ -20,7 +20,7 @@ use station::Device;
 use std::alloc::Global;
 use volume_format::to_fault;
 
-/// Seeks the first row behind a place in the order of a key. Its record is put into `bytes`, which stays where there is no such row,
+/// Seeks the first row after a place in the order of a key. Its record is put into `bytes`, which stays where there is no such row,
 /// and after a refusal.
 pub(crate) fn seek_in<D: Device>(
     alloc: Global,

@@ -1,5 +1,5 @@
 //! The words "what was returned is what the definition says, unless memory ran out", for the contracts of every crate; and what was
-//! made, held beside what is made behind it.
+//! made, held beside what is made after it.
 #![tactic(auto)]
 
 mod pairs;

@@ -1,9 +1,9 @@
-//! What was made, held beside what is made behind it.
+//! What was made, held beside what is made after it.
 
 ghost use Rattle.std.specs.Prelude.{◌≡◌};
 ghost use Rattle.std.specs.Result.{result_map_both};
 
-/// What was made, with what was made behind it; where the second failed, its error, and the first is dropped.
+/// What was made, with what was made after it; where the second failed, its error, and the first is dropped.
 ///
 /// A caller that holds the first while it makes the second, and returns at the second's error, drops the first itself.
 /// Of a value with many forms that is a path for each form, and each has to be proved. Here dropping is one call, whatever

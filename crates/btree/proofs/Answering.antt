@@ -135,7 +135,7 @@ gap_after layout key rows place up low finds =
     after_gap layout key rows [] rows [] place (alone layout key rows) (gap layout key rows place up low finds)
     ∙ rest_alone layout place rows
 
--- A search in two lists, one behind the other.
+-- A search in two lists, one after the other.
 one_of : Option Entry → Option Entry → Option Entry
 one_of None other = other
 one_of (Some entry) other = Some entry
@@ -171,7 +171,7 @@ passes With layout key rows more below = with_passes layout key rows more below
 passes From layout key rows more below = from_passes layout key rows more below
 passes After layout key rows more below = after_passes layout key rows more below
 
--- the entries of a tree answer what the leaf does, or what is behind it
+-- the entries of a tree answer what the leaf does, or what is after it
 among : (sought : Sought) (layout : RowLayout) (key : List ℕ) (all before rows after : List (List ℕ))
     → IsAround layout key all before rows after
     → sought_in sought (entries_of_rows layout all) key
@@ -244,7 +244,7 @@ found_entry layout pages root key levels steps page right sought entry tree lead
     ∙ one_of_first (sought_in sought (entries_of_rows layout is.rows) key)
     (sought_in sought (entries_of_rows layout leaf.after) key) entry (sym is.is))
 
--- Where the leaf hasn't it, it is the first entry behind the leaf.
+-- Where the leaf hasn't it, it is the first entry after the leaf.
 pub record IsBehind (layout : RowLayout) (key : List ℕ) (levels : List (List TreeNode)) (sought : Sought)
     (right : Option (List ℕ)) : Type 0 where
   pub passed : List (List ℕ)
@@ -296,7 +296,7 @@ from_or_after With layout key rows place not up low finds = absurd (not refl)
 from_or_after From layout key rows place not up low finds = gap_from layout key rows place up low finds
 from_or_after After layout key rows place not up low finds = gap_after layout key rows place up low finds
 
--- The first entry behind the leaf is that of the key to its right,
+-- The first entry after the leaf is that of the key to its right,
 up_there : (layout : RowLayout) (levels : List (List TreeNode)) (passed after : List (List ℕ))
     → Up layout (rows_in_order levels) → rows_in_order levels ≡ passed ++ after → Up layout (passed ++ after)
 up_there layout levels passed after up around = subst (Up layout) around up

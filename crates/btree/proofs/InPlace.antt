@@ -1,4 +1,4 @@
--- An entry comes to a leaf behind its first row, and the tree has one entry more.
+-- An entry comes to a leaf after its first row, and the tree has one entry more.
 use Rattle.std.proofs.Common.{◌≡◌, ℕ, List, [], ◌∷◌, ◌++◌, length, refl, sym, ◌∙◌, ap, subst}
 use Rattle.std.specs.Prelude.{Option, Some, None}
 use Rattle.std.specs.List.{insert}

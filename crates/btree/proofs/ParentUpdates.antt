@@ -33,7 +33,7 @@ named_row layout rows place key page low is =
     ∙ ap (λ (rest : List ℕ). take place rows ++ ((key ++ rest) ∷ drop (suc place) rows)) is
     ∙ ap (λ (n : ℕ). take place rows ++ ((key ++ big_bytes 4 page) ∷ drop n rows)) next
 
--- and a row comes behind it
+-- and a row follows it
 pub named_two : (rows : List (List ℕ)) (place : ℕ) (one two : List ℕ) (behind : List (List ℕ)) → place ≤ length rows
     → insert (take place rows ++ (one ∷ behind)) (place + 1) two ≡ take place rows ++ (one ∷ two ∷ behind)
 named_two rows place one two behind low =
@@ -62,7 +62,7 @@ renamed_stands pages page node place key low key_is can =
       enough = omega (arith, can.enough, length-set node.rows place (key ++ rest_of node.layout row));
     }
 
--- the first row stays where what changes is behind it
+-- the first row stays where what changes is after it
 pub first_same : (place : ℕ) (rows more : List (List ℕ)) → 0 < place → place < length rows
     → slice_index_or (take place rows ++ more) 0 [] ≡ slice_index_or rows 0 []
 first_same zero rows more some low = absurd (omega (arith, some))

@@ -33,7 +33,7 @@ key_length layout pages kind node stands =
     length-take-le layout.key_length (get_or node.rows 0 [])
     (omega (arith, stands.lengths 0 [] (some_row layout pages kind node stands)))
 
--- what a row of an inner page has behind its key: the page of the node
+-- what a row of an inner page has after its key: the page of the node
 pub row_names : (layout : RowLayout) (pages : List (Option Sector)) (kind : Kind) (node : TreeNode)
     → IsOnPage layout pages kind node → rest_of layout (row_of layout node) ≡ big_bytes 4 node.page
 row_names layout pages kind node stands =

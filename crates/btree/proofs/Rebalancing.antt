@@ -26,7 +26,7 @@ use Rattle.btree.specs.Fills.{IsEven}
 use Rattle.btree.proofs.Lessening.{front_fares}
 use Rattle.btree.proofs.Sharing.{still_in}
 
--- a row became another one, and that behind it goes
+-- a row became another one, and that after it goes
 one_named : (rows : List (List ℕ)) (place : ℕ) (row : List ℕ) → place + 1 < length rows
     → remove (set rows place row) (place + 1) ≡ take place rows ++ (row ∷ drop (place + 2) rows)
 one_named rows place row low =
@@ -97,7 +97,7 @@ named_both node middle new place key key' joined right low one two middle_is is 
     ∙ ap (λ r. take place node.rows ++ (map (row_of node.layout) (node_with joined.page joined.left.rows ∷ rights_of r)
     ++ drop (place + 2) node.rows)) (sym some)
 
--- what stands behind the key of a row that names a node
+-- what follows the key of a row that names a node
 pub names_page : (layout : RowLayout) (row : List ℕ) (node : TreeNode) → length row ≡ row_length layout Inner
     → row ≡ row_of layout node → rest_of layout row ≡ big_bytes 4 node.page
 names_page layout row node row_long is =

@@ -150,7 +150,7 @@ shared_evenly layout kind one two left right =
     let halved = λ (node : TreeNode). capacity layout kind ≤ 2 * length node.rows in
     inr (All-cons halved one (two ∷ []) left (All-cons halved two [] right (All-nil halved)))
 
--- rows that were cut in two, of which the upper ones got others behind them
+-- rows that were cut in two, of which the upper ones got others after them
 pub cut_joined : (place : ℕ) (node left rest all : Node) (other : List (List ℕ))
     → left ≡ with_rows node (take place node.rows) → rest ≡ with_rows node (drop place node.rows)
     → all ≡ with_rows rest (rest.rows ++ other)

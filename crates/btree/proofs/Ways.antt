@@ -59,7 +59,7 @@ level_at level place low =
     sym (take-append-drop place level) ∙ ap (λ rest. take place level ++ rest)
     (drop-cons level place spells_none low ∙ ap (λ (n : ℕ). get_or level place spells_none ∷ drop n level) next)
 
--- the rows behind the place name the nodes to the right
+-- the rows after the place name the nodes to the right
 pub names_after : (layout : RowLayout) (spot : LevelZipper) (lower : List TreeNode) (place : ℕ)
     → Names layout spot lower → place < length spot.node.rows → map (row_of layout)
     (spot_at lower (next_place spot place)).after ≡ drop (place + 1) spot.node.rows ++ rows_of spot.after

@@ -1,4 +1,4 @@
--- An entry that comes to a leaf behind its first row, and one that gets another value in its leaf.
+-- An entry that comes to a leaf after its first row, and one that gets another value in its leaf.
 use Rattle.std.specs.Prelude.{◌≡◌, ◌<◌, ◌≤◌, ◌+◌, ◌++◌, ℕ, List, [], length, take, drop, slice_index_or, slice_set, Option, Some, None}
 use Rattle.station.specs.Disk.{Sector}
 use Rattle.btree_pages.specs.declared.row_layout.RowLayout.{RowLayout}
@@ -7,7 +7,7 @@ use Rattle.btree_pages.specs.Keys.{key_of, keys_of, Ascend, AllBelow, AllAbove}
 use Rattle.btree_pages.specs.Node.{Node, node_in}
 use Rattle.btree_pages.specs.Edits.{node_with_row, with_rest}
 
--- The second bytes spell the leaf of the first ones with the entry at a place behind its first row, between lesser keys and greater ones.
+-- The second bytes spell the leaf of the first ones with the entry at a place after its first row, between lesser keys and greater ones.
 pub record EntersIn (layout : RowLayout) (bytes : Sector) (key value : List ℕ) (new : Sector) : Type 0 where
   pub node : Node
   pub place : ℕ

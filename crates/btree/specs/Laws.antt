@@ -59,6 +59,6 @@ EntriesAscend = (layout : RowLayout) (pages : List (Option Sector)) (root : ℕ)
 abbrev pub EntryThere : Type 0
 EntryThere = (entries : List Entry) (entry : Entry) → Ascend (keys_listed entries) → Contains entries entry → entry_with entries entry.key ≡ Some entry
 
--- a tree has few leaves for its entries: each has a quarter of those that it has room for, but for those that have less
+-- a tree has few leaves for its entries: each has a quarter of those that it has room for, except for those that have less
 abbrev pub FewLeaves : Type 0
 FewLeaves = (layout : RowLayout) (levels : List (List TreeNode)) → length (leaves_of levels) * capacity layout Leaf ≤ 4 * length (entries_of layout levels) + thin_leaves layout (leaves_of levels) * capacity layout Leaf

@@ -55,7 +55,7 @@ first_key layout (row ∷ rows) = Some (key_of layout row)
 abbrev pub right_key : RowLayout → LevelZipper → Option (List ℕ)
 right_key layout spot = first_key layout (rows_of spot.after)
 
--- the child for a key: all rows behind it are above the key, and it isn't itself, unless it is the first
+-- the child for a key: all rows after it are above the key, and it isn't itself, unless it is the first
 pub record IsChosen (layout : RowLayout) (key : List ℕ) (rows : List (List ℕ)) (place : ℕ) : Type 0 where
   pub low : place < length rows
   pub after : AllAbove layout key (drop (place + 1) rows)

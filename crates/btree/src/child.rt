@@ -32,7 +32,7 @@ pub(crate) fn child_place(node: &NodeView, key: &[u8]) -> usize
     }
 }
 
-/// Notes the key behind a place, if the page has one. Else what is to the right of the page stays noted.
+/// Notes the key after a place, if the page has one. Else what is to the right of the page stays noted.
 pub(crate) fn note_right(
     alloc: Global,
     node: &NodeView,

@@ -97,7 +97,7 @@ fn release_pages(pages: &mut PageMap, numbers: &[u32]) -> Result<(), PagesError>
     Ok(())
 }
 
-/// Puts the children of an inner page behind the page numbers.
+/// Puts the children of an inner page after the page numbers.
 fn push_children(numbers: &mut Vec<u32>, node: &TreePage) -> Result<(), PagesError>
     requires { node.now.kind ≡ Kind.Inner }
     ensures numbers { OnOk result

@@ -12,7 +12,7 @@ use crate::node::view_node;
 use btree_pages::{Kind, RowLayout};
 use pages::{PageMap, PagesError};
 
-/// Puts an entry into the leaf of that page number, behind its first row. `false` tells that the leaf isn't in memory, or that the
+/// Puts an entry into the leaf of that page number, after its first row. `false` tells that the leaf isn't in memory, or that the
 /// entry can't come there, and then nothing was done.
 pub(crate) fn enter_leaf(
     pages: &mut PageMap,
@@ -50,7 +50,7 @@ pub(crate) fn enter_leaf(
     Ok(true)
 }
 
-/// Puts the bytes of the leaf that these bytes spell, with an entry more behind its first row, into `spelled`. `false` tells that they
+/// Puts the bytes of the leaf that these bytes spell, with an entry more after its first row, into `spelled`. `false` tells that they
 /// spell no leaf, that it has no room, that the key is there, or that the entry would be the first one.
 fn spell_entered(
     bytes: &[u8; 4096],

@@ -225,7 +225,7 @@ fn name_pair(node: &mut TreePage, place: usize, joined: &SplitResult)
         node.new.rows ≡ take place node.old.rows ++ (map (row_of node.old.layout)
         (run_of joined.now) ++ drop (place + 2) node.old.rows) }
 {
-    // That a place behind the row fits is needed below.
+    // That a place after the row fits is needed below.
     let _count = node.count();
     node.set_key(place, joined.left.key(0));
     match &joined.right {

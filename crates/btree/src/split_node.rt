@@ -7,7 +7,7 @@ ghost use Rattle.btree.specs.Nodes.{SameNode};
 
 use btree_pages::{Kind, TreePage};
 
-/// Puts a row into a page of at least three rows that gives rows to another one, which is answered: the lower rows stay. A row behind
+/// Puts a row into a page of at least three rows that gives rows to another one, which is answered: the lower rows stay. A row after
 /// the last one goes into a page of its own, so that ascending rows leave full pages, or, in an inner page, into one with the last row.
 pub(crate) fn split_node(node: &mut TreePage, place: usize, key: &[u8], rest: &[u8]) -> TreePage
     requires full { 3 ≤ length node.old.rows }
@@ -35,7 +35,7 @@ pub(crate) fn split_node(node: &mut TreePage, place: usize, key: &[u8], rest: &[
     right
 }
 
-/// A row behind the last one.
+/// A row after the last one.
 fn split_end(node: &mut TreePage, key: &[u8], rest: &[u8]) -> TreePage
     requires full { 3 ≤ length node.old.rows }
     requires key { length key.now ≡ node.old.layout.key_length }

@@ -188,7 +188,7 @@ impl Tree {
         self.seek(pages, device, &ZEROS[..self.layout.key_length])
     }
 
-    /// The entry that is sought by a key, in the leaf where the key belongs or behind it. Refusals are those of `get`.
+    /// The entry that is sought by a key, in the leaf where the key belongs or after it. Refusals are those of `get`.
     fn search_on<D: Device>(
         &self,
         pages: &mut PageMap,

@@ -51,7 +51,7 @@ pub(crate) fn put_back(
     })
 }
 
-/// A row that names a page comes behind that at a place.
+/// A row that names a page follows that at a place.
 fn put_beside(
     pages: &mut PageMap,
     page: u32,
@@ -76,7 +76,7 @@ fn put_beside(
     ensures full { FullIfUsed pages.new result }
     ensures spent { ExactlyIfSpent pages.old result }
 {
-    // That a place behind the row fits is needed below.
+    // That a place after the row fits is needed below.
     let _count = node.count();
     let number = right.page.to_be_bytes();
     let split = put_row(pages, page, node, place + 1, right.node.key(0), &number)?;
@@ -84,7 +84,7 @@ fn put_beside(
 }
 
 /// The row at a place of an inner page gets the least key of the page that it names, and a row for that page's new neighbour comes
-/// behind it.
+/// after it.
 pub(crate) fn update_parent(
     pages: &mut PageMap,
     page: u32,

@@ -116,6 +116,6 @@ NoLevels layout separators seen depth told pages =
 abbrev pub NoUnmarkedTree : RowLayout → ℕ → List Bool → Type 0 → List (Option Sector) → Type 0
 NoUnmarkedTree layout root seen told pages = told → (levels : List (List TreeNode)) → IsTreeOrEmpty layout pages root levels → All (IsUnmarked seen) (pages_of levels) → ⊥
 
--- these rows are below the separator behind a place, if there is one
+-- these rows are below the separator after a place, if there is one
 abbrev pub BelowNext : RowLayout → List Separator → ℕ → List (List ℕ) → Type 0
 BelowNext layout separators place rows = (none : Separator) → place + 1 < length separators → AllBelow layout (slice_index_or separators (place + 1) none).key rows

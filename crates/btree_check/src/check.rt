@@ -159,7 +159,7 @@ fn check_inner<D: Device>(
     Ok(lower)
 }
 
-/// Whether the keys of a leaf ascend, and are below that of the separator behind the one at its place, if there is one.
+/// Whether the keys of a leaf ascend, and are below that of the separator after the one at its place, if there is one.
 fn is_in_order(leaf: &TreePage, separators: &[Separator], place: usize) -> bool
     requires { 0 < length leaf.now.rows }
     ensures ascends { result ≡ true → Ascend (keys_of leaf.now.layout leaf.now.rows) }

@@ -26,7 +26,7 @@ fn number(bytes: &[u8]) -> u32
     BigEndian::read_u32(bytes)
 }
 
-/// Puts what the rows of an inner page name behind the separators.
+/// Puts what the rows of an inner page name after the separators.
 pub(crate) fn push_separators(
     alloc: Global,
     separators: &mut Vec<Separator>,

@@ -42,7 +42,7 @@ module _ (layout : RowLayout) (kind : Kind) (n : ℕ) (bytes : List ℕ) (node :
       ∙ sym (drop-rows_in row place more n (place * row) all en refl)
       ∙ ap (drop place) rows_are
 
--- rows before a row, the row, and the rows behind it
+-- rows before a row, the row, and the rows after it
 rows_around : (row n place more : ℕ) (before one behind tail : List ℕ) → n ≡ place + suc more
     → length before ≡ place * row → length one ≡ row → length behind ≡ more * row
     → rows_in row n ((before ++ (one ++ behind)) ++ tail) ≡ rows_in row place before ++ (one ∷ rows_in row more behind)

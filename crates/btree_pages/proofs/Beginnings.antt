@@ -9,7 +9,7 @@ use Rattle.std.specs.declared.cmp.Ordering.{Ordering}
 use Rattle.std.specs.declared.cmp.Ordering.TheVariants.{Less, Equal, Greater}
 use Rattle.btree_pages.specs.Keys.{key_cmp}
 
--- a key from zeros on, and a key behind the greatest bytes
+-- a key from zeros on, and a key after the greatest bytes
 zeros_by : (o : Ordering) (x : ℕ) (r : Ordering) → o ≡ nat_cmp x 0 → is_lt r ≡ false → is_lt (ordering_then o r) ≡ false
 zeros_by Less x r is rest = let low : x < 0 = ranked x 0 Less is in absurd (omega arith)
 zeros_by Equal x r is rest = rest

@@ -10,7 +10,7 @@ use Rattle.btree_pages.specs.Node.{rows_in}
 use Rattle.btree_pages.proofs.Rows.{drop-rows_in, get_or-rows_in, length-rows_in, rows_in-append, rows_in-front}
 use Rattle.btree_pages.proofs.Rows.{rows_in-take, take-rows_in}
 
--- the bytes of some rows, and of those behind them
+-- the bytes of some rows, and of those after them
 pub together : (row n place more : ℕ) → n ≡ place + more → n * row ≡ place * row + more * row
 together row n place more e = rw e (omega arith)
 
@@ -71,7 +71,7 @@ replaced_rows row n place more at bytes one en ea le el =
     (sym (take-rows_in row place n bytes (omega arith)))
     ∙ sym (set_split (rows_in row n bytes) place one (omega (arith, length-rows_in row n bytes)))
 
--- two parts put one behind the other
+-- two parts put one after the other
 pub put_both : (at : ℕ) (one two bytes : List ℕ) → at ≤ length bytes
     → put_at (at + length one) two (put_at at one bytes)
     ≡ take at bytes ++ ((one ++ two) ++ drop (at + length one + length two) bytes)
@@ -124,7 +124,7 @@ rows_after_insert row n place at end key rest bytes lp ea ee el le =
     ∙ ap (λ (l : List ℕ). take at bytes ++ ((key ++ rest) ++ l)) behind)
     ∙ inserted_rows row n place more at bytes (key ++ rest) tail en ea (omega arith) (length-append key rest ∙ el)
 
--- a gap is closed, and zeros come behind
+-- a gap is closed, and zeros follow
 pub rows_after_remove : (row n place at end : ℕ) (zeros bytes : List ℕ) → place < n → at ≡ place * row → end ≡ n * row
     → end ≤ length bytes
     → rows_in row (n - 1) (put_at (end - row) zeros (copy_within bytes (at + row) end at))
@@ -220,7 +220,7 @@ rows_after_rest row n place at key rest bytes lt ea le lk =
     ∙ replaced_rows row n place more at bytes one en ea le long
     ∙ ap (λ (l : List ℕ). set (rows_in row n bytes) place (l ++ rest)) (sym begin ∙ ap (take key) (sym old))
 
--- the rows that stay at a split, whatever stands behind them
+-- the rows that stay at a split, whatever follows them
 pub rows_left : (row n place at : ℕ) (zeros bytes : List ℕ) → place ≤ n → at ≡ place * row → n * row ≤ length bytes
     → rows_in row place (put_at at zeros bytes) ≡ take place (rows_in row n bytes)
 rows_left row n place at zeros bytes lp ea le =

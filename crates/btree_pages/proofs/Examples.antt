@@ -24,7 +24,7 @@ inner_rows = refl
 no_kind : kind_in 0 ≡ None
 no_kind = refl
 
--- what stands behind the rows is none of them
+-- what follows the rows is none of them
 two_rows : rows_in 3 2 (1 ∷ 2 ∷ 3 ∷ 4 ∷ 5 ∷ 6 ∷ 9 ∷ []) ≡ (1 ∷ 2 ∷ 3 ∷ []) ∷ (4 ∷ 5 ∷ 6 ∷ []) ∷ []
 two_rows = refl
 

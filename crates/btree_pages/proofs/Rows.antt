@@ -1,4 +1,4 @@
--- Rows of one length, one behind the other.
+-- Rows of one length, one after the other.
 use Rattle.std.proofs.Common.{◌≡◌, ℕ, zero, suc, ◌+◌, ◌*◌, ◌<◌, ◌≤◌, List, [], ◌∷◌, ◌++◌, length, take, drop, get_or}
 use Rattle.std.proofs.Common.{refl, sym, ap, ◌∙◌, arith}
 use Rattle.std.proofs.lemmas.List.{drop-drop, length-drop, length-take-le, take-append-le, take-append-drop}
@@ -48,7 +48,7 @@ lengths-rows_in row (suc n) bytes le =
     All-cons (λ one. length one ≡ row) (take row bytes) (rows_in row n (drop row bytes)) (length-take-le row bytes room)
     (lengths-rows_in row n (drop row bytes) (omega (arith, length-drop row bytes)))
 
--- what stands behind the rows is none of them
+-- what follows the rows is none of them
 pub rows_in-front : (row n : ℕ) (front tail : List ℕ) → n * row ≤ length front
     → rows_in row n (front ++ tail) ≡ rows_in row n front
 rows_in-front row zero front tail le = refl
@@ -60,7 +60,7 @@ rows_in-front row (suc n) front tail le =
       rows_in-front row n (drop row front) tail (omega (arith, length-drop row front)),
     ) refl
 
--- rows behind rows
+-- rows after rows
 pub rows_in-append : (row n more all : ℕ) (front tail : List ℕ) → all ≡ n + more → length front ≡ n * row
     → rows_in row all (front ++ tail) ≡ rows_in row n front ++ rows_in row more tail
 rows_in-append row zero more all [] tail e l = let same : all ≡ more = omega arith in rw same refl

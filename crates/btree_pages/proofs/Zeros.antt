@@ -25,7 +25,7 @@ head_zeros a b c place there =
     ∙ get_or-set_other (replicate 16 0) 0 place a 0 first
     ∙ zeros_at 16 place
 
--- what stands behind a place is put as zeros
+-- what follows a place is put as zeros
 pub front_is : (end : ℕ) (bytes : List ℕ) → length bytes ≡ 4080 → end ≤ 4080
     → put_at end (replicate (4080 - end) 0) bytes ≡ take end bytes ++ replicate (4080 - end) 0
 front_is end bytes count le =

@@ -20,7 +20,7 @@ Precedes one two = key_cmp one two ≡ Less
 abbrev pub Ascend : List (List ℕ) → Type 0
 Ascend keys = IsStrictlySortedBy key_cmp keys
 
--- a row's key, and what stands behind it
+-- a row's key, and what follows it
 abbrev pub key_of : RowLayout → List ℕ → List ℕ
 key_of layout row = take layout.key_length row
 

@@ -8,7 +8,7 @@ use Rattle.btree_pages.specs.RowLayouts.{IsRowLayout}
 use Rattle.btree_pages.specs.Keys.{key_cmp, child_of, key_of, rest_of}
 use Rattle.btree_pages.specs.Node.{Node, IsNode, node_in}
 
--- a row made of a key and what stands behind it has these as its parts
+-- a row made of a key and what follows it has these as its parts
 abbrev pub KeyReadsBack : Type 0
 KeyReadsBack = (layout : RowLayout) (key rest : List ℕ) → length key ≡ layout.key_length → key_of layout (key ++ rest) ≡ key
 
@@ -26,12 +26,12 @@ SpellsNode = (layout : RowLayout) (bytes : List ℕ) (node : Node) → IsRowLayo
 abbrev pub NumbersInOrder : Type 0
 NumbersInOrder = (count x y : ℕ) → x < 256 ^ count → y < 256 ^ count → key_cmp (big_bytes count x) (big_bytes count y) ≡ nat_cmp x y
 
--- keys whose first parts are of one length compare by those, and then by what is behind them
+-- keys whose first parts are of one length compare by those, and then by what is after them
 abbrev pub PartsInOrder : Type 0
 PartsInOrder = (one two behind_one behind_two : List ℕ) → length one ≡ length two →
     key_cmp (one ++ behind_one) (two ++ behind_two) ≡ ordering_then (key_cmp one two) (key_cmp behind_one behind_two)
 
--- Where keys that begin with some bytes stand: the first is at or behind these bytes and zeros, and with the greatest bytes in
+-- Where keys that begin with some bytes stand: the first is at or after these bytes and zeros, and with the greatest bytes in
 -- place of the zeros it is the last.
 abbrev pub ZerosAreFirst : Type 0
 ZerosAreFirst = (start key : List ℕ) (more : ℕ) → length key ≡ length start + more →

@@ -16,7 +16,7 @@ pub record Node : Type 0 where
 abbrev pub kind_in : ℕ → Option Kind
 kind_in byte = if byte == 1 then Some Leaf else if byte == 2 then Some Inner else None
 
--- so many rows of this length, one behind the other
+-- so many rows of this length, one after the other
 abbrev pub rows_in : ℕ → ℕ → List ℕ → List (List ℕ)
 rows_in length zero bytes = []
 rows_in length (suc count) bytes = take length bytes ∷ rows_in length count (drop length bytes)

@@ -78,7 +78,7 @@ impl TreePage {
         put_key(&mut self.bytes, row, self.count, place, key);
     }
 
-    /// What stands behind the key of the row at this place becomes this.
+    /// What follows the key of the row at this place becomes this.
     pub fn set_rest(&mut self, place: usize, rest: &[u8])
         requires place { place < length self.old.rows }
         requires rest { length rest.now ≡ rest_length self.old.layout self.old.kind }
@@ -112,7 +112,7 @@ impl TreePage {
         right
     }
 
-    /// The rows of another page of the same kind come behind the last one. There must be room for them.
+    /// The rows of another page of the same kind follow the last one. There must be room for them.
     pub fn append(&mut self, other: &TreePage)
         requires layout { other.now.layout ≡ self.old.layout }
         requires kind { other.now.kind ≡ self.old.kind }

@@ -1,7 +1,7 @@
 //! The laws of rows and pages, which the crates above stand on.
 ghost use Rattle.btree_pages.specs.Laws.{ChildReadsBack, GreatestAreLast, KeyReadsBack, NumbersInOrder, PartsInOrder, RestReadsBack, SpellsNode, ZerosAreFirst};
 
-/// A row made of a key and what stands behind it has these as its parts, and a child's page is read as it was written.
+/// A row made of a key and what follows it has these as its parts, and a child's page is read as it was written.
 pub fn row_reads_back()
     ensures key { KeyReadsBack }
     ensures rest { RestReadsBack }
@@ -18,7 +18,7 @@ pub fn numbers_in_order()
     ensures { NumbersInOrder }
 {}
 
-/// Keys whose first parts are of one length compare by those, and then by what is behind them.
+/// Keys whose first parts are of one length compare by those, and then by what is after them.
 pub fn parts_in_order()
     ensures { PartsInOrder }
 {}

@@ -114,7 +114,7 @@ impl<'a> NodeView<'a> {
         key
     }
 
-    /// What stands behind the key of the row at this place: a leaf's value, or an inner page's page number in 4 bytes.
+    /// What follows the key of the row at this place: a leaf's value, or an inner page's page number in 4 bytes.
     pub fn rest(&self, place: usize) -> &'a [u8]
         requires { place < length self.now.rows }
         ensures rest { result.now

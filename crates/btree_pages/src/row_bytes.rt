@@ -1,4 +1,4 @@
-//! Rows of one length, one behind the other, in the bytes of a page.
+//! Rows of one length, one after the other, in the bytes of a page.
 ghost use Rattle.std.specs.Prelude.{◌≡◌, ◌≤◌, ◌<◌, ◌+◌, ◌-◌, ◌*◌, ◌++◌, [], length, take, drop, replicate, slice_set, slice_index_or};
 ghost use Rattle.std.specs.List.{insert, remove};
 ghost use Rattle.btree_pages.specs.Bytes.{put_at};
@@ -22,7 +22,7 @@ pub(crate) fn front(bytes: &[u8; 4080], end: usize) -> [u8; 4080]
     kept
 }
 
-/// A row comes to this place: a key and what stands behind it.
+/// A row comes to this place: a key and what follows it.
 pub(crate) fn insert_row(
     bytes: &mut [u8; 4080],
     row: usize,
@@ -44,7 +44,7 @@ pub(crate) fn insert_row(
     put(bytes, at + key.len(), rest);
 }
 
-/// The row at this place goes, and zeros come behind the last one.
+/// The row at this place goes, and zeros follow the last one.
 pub(crate) fn remove_row(bytes: &mut [u8; 4080], row: usize, count: usize, place: usize)
     requires place { place < count }
     requires fits { count * row ≤ 4080 }
@@ -68,7 +68,7 @@ pub(crate) fn put_key(bytes: &mut [u8; 4080], row: usize, count: usize, place: u
     put(bytes, at, key);
 }
 
-/// The row at this place gets another end, behind so many bytes of a key.
+/// The row at this place gets another end, after so many bytes of a key.
 pub(crate) fn put_rest(
     bytes: &mut [u8; 4080],
     row: usize,
@@ -107,7 +107,7 @@ pub(crate) fn split_rows(
     right
 }
 
-/// Puts the rows of another page behind the last one.
+/// Puts the rows of another page after the last one.
 pub(crate) fn append_rows(
     bytes: &mut [u8; 4080],
     row: usize,

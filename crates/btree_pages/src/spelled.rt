@@ -41,7 +41,7 @@ impl<'a> NodeView<'a> {
         spell_around(&head, before, key, rest, behind, spelled);
     }
 
-    /// Writes the bytes of this page once what stands behind the key of the row at this place became this. Those that name nothing
+    /// Writes the bytes of this page once what follows the key of the row at this place became this. Those that name nothing
     /// become zeros.
     pub fn spell_with_rest(&self, place: usize, rest: &[u8], spelled: &mut [u8; 4096])
         requires place { place < length self.now.rows }
@@ -75,7 +75,7 @@ fn clear_from(page: &mut [u8; 4096], at: usize)
     page[at..].fill(0);
 }
 
-/// Writes a head, the rows before a row, that row's key and rest, the rows behind it, and zeros.
+/// Writes a head, the rows before a row, that row's key and rest, the rows after it, and zeros.
 fn spell_around(
     head: &[u8; 16],
     before: &[u8],

@@ -113,7 +113,7 @@ operand_in_parentheses : condition_reader 1 (at k.LeftParenthesis ∷ named 65 �
 unfolding computing
 operand_in_parentheses = refl
 
--- A NOT ON: the phrase behind NOT is left
+-- A NOT ON: the phrase after NOT is left
 phrase_is_left : condition_reader 0 (named 65 ∷ word w.Not ∷ word w.On ∷ []) ≡ Ok (name 65, word w.Not ∷ word w.On ∷ [])
 unfolding computing
 phrase_is_left = refl

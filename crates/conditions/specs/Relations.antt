@@ -1,4 +1,4 @@
--- Relational operators by themselves, as behind KEY of START: their rule, and how they are read.
+-- Relational operators by themselves, as after KEY of START: their rule, and how they are read.
 use Rattle.std.specs.Prelude.{if◌then◌else◌, Bool, true, false, List, Option, Some}
 use Rattle.tokens.specs.declared.reserved.Reserved.TheVariants as w
 use Rattle.tokens.specs.declared.token.Token.{Token}

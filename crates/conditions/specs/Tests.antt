@@ -106,14 +106,14 @@ or_equal_phrase_reader = do
 unfoldable pub or_equal_reader : Parser Bool
 or_equal_reader i = if begins_word w.Or i then or_equal_phrase_reader i else Ok (false, i)
 
--- behind GREATER or LESS
+-- after GREATER or LESS
 unfoldable pub order_reader : Bool → Relation → Parser Asked
 order_reader negated order = do
   skip w.Than
   equal ← or_equal_reader
   pure (operator negated (with_equal equal order))
 
--- behind EQUAL
+-- after EQUAL
 unfoldable pub equal_reader : Bool → Parser Asked
 equal_reader negated = do
   skip w.To
@@ -139,7 +139,7 @@ abbrev pub first_known : {A : Type 0} → (Token → Option A) → List Token �
 first_known tells [] = None
 first_known tells (first ∷ more) = tells first
 
--- what is asked, behind IS and NOT
+-- what is asked, after IS and NOT
 abbrev pub next_test : List Token → Option Test
 next_test i = first_known test_in (past_word w.Not (past_word w.Is i))
 

@@ -73,7 +73,7 @@ fn test_in(token: &Token) -> Option<Test>
     }
 }
 
-/// What is asked here, behind IS and NOT.
+/// What is asked here, after IS and NOT.
 pub fn next_test(tokens: &[Token]) -> Option<Test>
     ensures { result ≡ spec.next_test tokens.now }
 {
@@ -153,7 +153,7 @@ fn operator(negated: bool, relation: Relation) -> Asked
     Asked::Relation(RelationalOperator { negated, relation })
 }
 
-/// What stands behind GREATER or LESS.
+/// What follows GREATER or LESS.
 #[tactic(auto, unfolding(crate::specs::Tests::order_reader))]
 fn order(tokens: &mut Tokens<'_>, negated: bool, order: Relation) -> Result<Asked, ReadFault>
     ensures { Reads (spec.order_reader negated order tokens.old) result tokens.new }
@@ -163,7 +163,7 @@ fn order(tokens: &mut Tokens<'_>, negated: bool, order: Relation) -> Result<Aske
     Ok(operator(negated, with_equal(equal, order)))
 }
 
-/// What stands behind EQUAL.
+/// What follows EQUAL.
 #[tactic(auto, unfolding(crate::specs::Tests::equal_reader))]
 fn equal(tokens: &mut Tokens<'_>, negated: bool) -> Result<Asked, ReadFault>
     ensures { Reads (spec.equal_reader negated tokens.old) result tokens.new }

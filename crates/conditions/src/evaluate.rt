@@ -166,7 +166,7 @@ fn choice_condition(
     Ok(Choice::Condition(condition(alloc, tokens, depth)?))
 }
 
-/// What stands behind the first value.
+/// What follows the first value.
 #[tactic(auto, unfolding(crate::specs::Evaluate::choice_value_reader))]
 fn choice_value(
     alloc: Global,

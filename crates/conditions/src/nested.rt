@@ -25,13 +25,13 @@ pub struct Conditions<F> {
     pub simple: F,
 }
 
-/// AND and the simple condition behind it.
+/// AND and the simple condition after it.
 #[derive(Drop)]
 struct FurtherSimple<'a, F> {
     conditions: &'a Conditions<F>,
 }
 
-/// OR and the conjunction behind it.
+/// OR and the conjunction after it.
 #[derive(Drop)]
 struct FurtherConjunctions<'a, F> {
     conditions: &'a Conditions<F>,
@@ -89,7 +89,7 @@ impl<F: Fn(Global, &mut Tokens<'_>, usize) -> Result<Condition, ReadFault>> Part
     }
 }
 
-/// The first condition and those behind it.
+/// The first condition and those after it.
 fn listed(
     alloc: Global,
     first: Condition,
@@ -201,7 +201,7 @@ impl<F: Fn(Global, &mut Tokens<'_>, usize) -> Result<Condition, ReadFault>> Cond
     }
 }
 
-/// A parenthesis comes next, and it opens a condition: nothing goes on behind the one that closes it.
+/// A parenthesis comes next, and it opens a condition: nothing goes on after the one that closes it.
 fn begins_enclosed(tokens: &Tokens<'_>) -> bool
     ensures { result ≡ spec.begins_enclosed tokens.now }
 {

@@ -1,4 +1,4 @@
-//! Relational operators by themselves, as behind KEY of START.
+//! Relational operators by themselves, as after KEY of START.
 
 ghost use Rattle.std.specs.Prelude.{◌≡◌};
 ghost use Rattle.grammar.specs.Reading.{Reads};
@@ -22,7 +22,7 @@ pub fn relation(tokens: &mut Tokens<'_>) -> Result<RelationalOperator, ReadFault
     Err(tokens.refuse())
 }
 
-/// A relational operator comes here, behind IS and NOT.
+/// A relational operator comes here, after IS and NOT.
 fn begins_relation(tokens: &[Token]) -> bool
     ensures { result ≡ spec.begins_relation tokens.now }
 {

@@ -1,4 +1,4 @@
--- The first picture without a form, in one list of entries behind another, and in the entries of files.
+-- The first picture without a form, in one list of entries after another, and in the entries of files.
 use Rattle.std.proofs.Common.{◌≡◌, ℕ, suc, ◌+◌, ◌<◌, ◌≤◌, List, [], ◌∷◌, ◌++◌, length, get_or, drop, refl, sym, ap, ◌∙◌}
 use Rattle.std.proofs.Common.{add-one}
 use Rattle.std.proofs.Math.Seq.{drop-cons}

@@ -9,7 +9,7 @@ use source_tree::{Entry, FileDescription};
 use std::alloc::{AllocError, Global};
 
 /// Where the first picture stands that has no form (COBOL-85, Nucleus, the PICTURE clause), among the entries of files and,
-/// behind them, of working storage.
+/// after them, of working storage.
 pub fn first_formless(
     alloc: Global,
     files: &[FileDescription],

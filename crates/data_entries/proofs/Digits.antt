@@ -44,7 +44,7 @@ times_pow number some more below =
     let e : 10 ^ (some + more) ≡ 10 ^ some * 10 ^ more = pow-add 10 some more in
     omega (arith, k, e)
 
--- The digits before the point fit, and those behind it too.
+-- The digits before the point fit, and those after it too.
 pub first_room : (one : NumericLiteral) (front : List ℕ) → has_form (literal.Numeric one) ≡ true → front ≡ one.whole
     → 1 * 10 ^ length front ≤ 1000000000000000000
 first_room one front form e =

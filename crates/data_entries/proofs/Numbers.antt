@@ -5,7 +5,7 @@ use Rattle.std.specs.Prelude.{nat_le}
 use Rattle.std.proofs.lemmas.Bool.Decides.{nat_tests}
 use Rattle.decimal18.specs.Digits.{digits_after}
 
--- digits behind more stand for more
+-- digits after more stand for more
 behind-le : (a b : ℕ) (cs : List ℕ) → a ≤ b → digits_after a cs ≤ digits_after b cs
 behind-le a b [] h = h
 behind-le a b (c ∷ cs) h = behind-le (10 * a + (c - 48)) (10 * b + (c - 48)) cs (omega arith)

@@ -190,7 +190,7 @@ fn numbers(rt: &impl Abort, alloc: Global) -> Items<Dec> {
     numbers
 }
 
-/// A text that is counted and replaced by the one behind it, both of one character.
+/// A text that is counted and replaced by the one after it, both of one character.
 fn inspections(rt: &impl Abort, alloc: Global) -> Items<Inspection> {
     let sought = Span {
         start: 0,

@@ -1,4 +1,4 @@
--- A coefficient with zeros behind it, and the test of what it may be.
+-- A coefficient with zeros after it, and the test of what it may be.
 use Rattle.std.proofs.Common.{◌≡◌, ℕ, ◌+◌, ◌-◌, ◌*◌, ◌^◌, ◌<◌, ◌≤◌, Bool, true, false, refl, ap, sym, ◌∙◌, ℤ, pos, ◌*ℤ◌}
 use Rattle.std.proofs.Common.{unsigned_abs, nat_lt, nat_le, subst, ◌&&◌, Some, None, if◌then◌else◌}
 use Rattle.std.proofs.lemmas.Bool.{le-ltb, lt-ltb, le-leb}

@@ -30,7 +30,7 @@ behind_front n (x ∷ xs) =
     ∙ ap (λ r. n * (10 ^ length xs * 10) + r) (sym (ap (λ m. digits_after m xs) none ∙ behind_front (x - 48) xs))
     ∙ ap (λ p. n * p + digits_after (10 * 0 + (x - 48)) xs) (sym (pow-suc 10 (length xs)))
 
--- ---- the first eight digits, and those behind them
+-- ---- the first eight digits, and those after them
 
 some_parts : (b : Bool) (n m : ℕ) → Some m ≡ (if b then Some n else None) → (b ≡ true) × (m ≡ n)
 some_parts true n m e = (refl, cc)

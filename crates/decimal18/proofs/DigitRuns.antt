@@ -1,4 +1,4 @@
--- Digits behind a number never make it less.
+-- Digits after a number never make it less.
 use Rattle.std.proofs.Common.{◌≡◌, ℕ, ◌+◌, ◌-◌, ◌*◌, ◌^◌, ◌<◌, ◌≤◌, List, [], ◌∷◌, length, drop, get_or, ap, sym, ◌∙◌}
 use Rattle.std.proofs.Common.{arith, add-one, nat_lt, Some, None, if◌then◌else◌, subst}
 use Rattle.std.proofs.Math.Seq.{drop-cons}

@@ -23,7 +23,7 @@ entry_of_table n i h = entry n 0 i h ∙ ap (λ e. 10 ^ e) (omega arith)
 pub split_power : (k n : ℕ) → k ≤ n → 10 ^ n ≡ 10 ^ (n - k) * 10 ^ k
 split_power k n h = let e : n ≡ (n - k) + k = omega arith in ap (λ x. 10 ^ x) e ∙ pow-add 10 (n - k) k
 
--- With k zeros behind it a number stays below a power of ten exactly where it is below the power k places lower.
+-- With k zeros after it a number stays below a power of ten exactly where it is below the power k places lower.
 pub shifted_below : (m k n : ℕ) → k ≤ n → m < 10 ^ (n - k) → m * 10 ^ k < 10 ^ n
 shifted_below m k n h below = rw (split_power k n h) (mul-lt-mul_of_pos_right below (ten_pos k))
 
@@ -63,7 +63,7 @@ power_le k n h =
 spread : (a p t u : ℕ) → (a * p + t) * u ≡ a * (p * u) + t * u
 spread a p t u = omega arith
 
--- The low digits of a number with zeros behind it.
+-- The low digits of a number with zeros after it.
 pub low_shifted : (m k n r p : ℕ) → k ≤ n → r ≡ m % 10 ^ (n - k) → p ≡ 10 ^ k → r * p ≡ m * 10 ^ k % 10 ^ n
 low_shifted m k n r p h e f =
     let unit : 10 ^ n ≡ 10 ^ (n - k) * 10 ^ k = split_power k n h in

@@ -26,7 +26,7 @@ record Near (k m s t : ℕ) : Type 0 where
   under : 2 * k * 10 ^ s ≤ 2 * m * 10 ^ t + 10 ^ s
   over : 2 * m * 10 ^ t < (2 * k + 1) * 10 ^ s
 
--- With zeros behind it the number is as it was.
+-- With zeros after it the number is as it was.
 longer : (m s t : ℕ) → s ≤ t → m * 10 ^ (t - s) * 10 ^ s ≡ m * 10 ^ t
 longer m s t h = mul_assoc m (10 ^ (t - s)) (10 ^ s) ∙ ap (λ n. m * n) (sym (split_power s t h))
 

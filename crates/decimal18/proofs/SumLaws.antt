@@ -54,7 +54,7 @@ spread a b (suc n) =
     times_suc (a +ℤ b) n ∙ ap (λ t. t +ℤ (a +ℤ b)) (spread a b n) ∙ plus_same (a *ℤ pos n) (b *ℤ pos n) a b
     ∙ sym (ap (λ t. t +ℤ b *ℤ pos (suc n)) (times_suc a n) ∙ ap (λ t. (a *ℤ pos n +ℤ a) +ℤ t) (times_suc b n))
 
--- Zeros behind a coefficient, and then a denominator: the same as the one scale and then the other.
+-- Zeros after a coefficient, and then a denominator: the same as the one scale and then the other.
 widened : (a : ℤ) (s t scale n : ℕ) → s ≤ scale → n ≡ s + t
     → a *ℤ pos (10 ^ (scale - s)) *ℤ pos (10 ^ n) ≡ a *ℤ pos (10 ^ t) *ℤ pos (10 ^ scale)
 widened a s t scale n h e =

@@ -6,7 +6,7 @@ use Rattle.decimal18.specs.Fraction.{Fraction, signed_integer}
 use Rattle.decimal18.specs.Arithmetic.{intermediate}
 use Rattle.decimal18.specs.declared.size_error.Size.{Size}
 
--- The number that ASCII digits stand for, behind those of n.
+-- The number that ASCII digits stand for, after those of n.
 abbrev pub digits_after : ℕ → List ℕ → ℕ
 digits_after n [] = n
 digits_after n (c ∷ cs) = digits_after (10 * n + (c - 48)) cs

@@ -5,7 +5,7 @@ use Rattle.decimal18.specs.Fraction.{Fraction}
 use Rattle.decimal18.specs.Arithmetic.{size_error, is_within}
 use Rattle.decimal18.specs.declared.size_error.Size.{Size}
 
--- The dividend's coefficient with as many zeros behind it as its quotient by the divisor's coefficient wants to have scale q.
+-- The dividend's coefficient with as many zeros after it as its quotient by the divisor's coefficient wants to have scale q.
 abbrev pub extended_dividend : Fraction → Fraction → ℕ → ℤ
 extended_dividend x y q = x.coefficient *ℤ pos (10 ^ (q + y.scale - x.scale))
 

@@ -117,7 +117,7 @@ equals_equiv = record {
   congr = λ x y z e. ap is_eq (order_total.congr x y z (equal-is_eq (order x y) e));
 }
 
--- A comparison with zeros behind the coefficient of the smaller scale.
+-- A comparison with zeros after the coefficient of the smaller scale.
 pub order_raised : (x y : Fraction) → x.scale ≤ y.scale → int_cmp (x.coefficient *ℤ pos (10 ^ (y.scale - x.scale))) y.coefficient ≡ order x y
 unfolding order
 order_raised x y h =

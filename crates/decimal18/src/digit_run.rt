@@ -13,7 +13,7 @@ const EIGHT: usize = 8;
 
 const EIGHT_ZEROS: u64 = 100_000_000;
 
-/// The number that bytes stand for behind the digits of a number, if they are ASCII digits; all together are at most 18
+/// The number that bytes stand for after the digits of a number, if they are ASCII digits; all together are at most 18
 /// digits.
 pub fn number_after(front: u64, digits: &[u8]) -> Option<u64>
     requires { (front + 1) * 10 ^ length digits.now ≤ 10 ^ 18 }

@@ -69,7 +69,7 @@ impl Dec {
     }
 }
 
-/// The number that ASCII digits stand for behind those of `front`, if it has at most 38 digits.
+/// The number that ASCII digits stand for after those of `front`, if it has at most 38 digits.
 fn long_number_after(front: u128, digits: &[u8]) -> Option<u128>
     requires front { front < 10 ^ 38 }
     requires digits { All IsAsciiDigit digits.now }

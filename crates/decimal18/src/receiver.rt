@@ -39,7 +39,7 @@ fn shortened(magnitude: u128, dropped: u8, rounding: Rounding) -> u128
     }
 }
 
-/// A number with zeros behind it, where that has at most so many digits.
+/// A number with zeros after it, where that has at most so many digits.
 fn lengthened(magnitude: u128, zeros: u8, digits: u8) -> Option<u128>
     requires zeros { zeros ≤ digits }
     requires digits { digits ≤ 38 }

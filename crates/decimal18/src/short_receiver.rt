@@ -45,7 +45,7 @@ fn shortened(magnitude: u64, dropped: u8, rounding: Rounding) -> u64
     }
 }
 
-/// A number with zeros behind it, where that has at most so many digits.
+/// A number with zeros after it, where that has at most so many digits.
 fn lengthened(magnitude: u64, zeros: u8, digits: u8) -> Option<u64>
     requires zeros { zeros ≤ digits }
     requires digits { digits ≤ 18 }

@@ -48,7 +48,7 @@ pub is_first_front : (fault : Option RuleBreach) (xs ys : List RuleBreach) → I
 is_first_front None xs ys h = tt
 is_first_front (Some one) xs ys h = first_front xs ys one h
 
--- What is looked for behind rules that are kept is the first of all.
+-- What is looked for after rules that are kept is the first of all.
 pub is_first_behind : (fault : Option RuleBreach) (xs ys : List RuleBreach) → xs ≡ [] → IsFirst fault ys
     → IsFirst fault (xs ++ ys)
 is_first_behind fault xs ys e h = subst (IsFirst fault) (sym (front_none xs ys e)) h

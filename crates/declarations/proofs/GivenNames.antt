@@ -1,4 +1,4 @@
--- The names of files behind those that may be.
+-- The names of files after those that may be.
 use Rattle.std.proofs.Common.{◌≡◌, ℕ, zero, suc, ◌<◌, List, [], ◌∷◌, Some, length, get_or, drop, refl, arith}
 use Rattle.std.specs.Borrow.{Bor}
 use Rattle.source_tree.specs.declared.name.Name.{Name}

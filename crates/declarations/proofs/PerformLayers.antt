@@ -51,7 +51,7 @@ module _ {A B : Type 0} (f : A → B) (performs : B → List Performance) where
       ap (λ l. l ++ each_performs performs (map f other)) (each_map statements)
       ∙ ap (λ l. each_performs (λ a. performs (f a)) statements ++ l) (each_map other)
 
-  -- the statements behind WHENs
+  -- the statements after WHENs
   selected_map : (all : List (Selected A))
       → each_performs (selected_performs performs)
       (map (λ (one : Selected A). record { whens = one.whens; statements = map f one.statements }) all)

@@ -42,7 +42,7 @@ module _ {A B : Type 0} (f : A → B) (rules : B → List RuleBreach) where
   each_map [] = refl
   each_map (one ∷ more) = ap (λ l. rules (f one) ++ l) (each_map more)
 
-  -- the statements behind WHENs
+  -- the statements after WHENs
   selected_map : (items : List LocatedItem) (subjects : List Subject) (all : List (Selected A))
       → each (selected_rules items rules subjects)
       (map (λ (one : Selected A). record { whens = one.whens; statements = map f one.statements }) all)

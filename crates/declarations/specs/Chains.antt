@@ -6,6 +6,6 @@ use Rattle.source_tree.specs.Places.{LocatedItem}
 use Rattle.source_tree.specs.Broken.{RuleBreach}
 use Rattle.source_tree.specs.ArithmeticRules.{expression_rules}
 
--- an operand behind an operator
+-- an operand after an operator
 abbrev pub further_rules : List LocatedItem → Operator × Expression → List RuleBreach
 further_rules items one = expression_rules items one.1

@@ -46,7 +46,7 @@ keys_rules items there prime alternates =
 abbrev pub indexed_file_rules : List LocatedItem → DescribedFile → Select → List RuleBreach
 indexed_file_rules items there one = in_clause another_clause one.relative_key ++ indexed_rules items there one.name one.record_key one.alternate_keys
 
--- behind the keys
+-- after the keys
 abbrev pub later_rules : List LocatedItem → ℕ → Select → List RuleBreach
 later_rules items areas one = each excess_key (drop most_alternate_keys one.alternate_keys) ++ in_clause (clause_item items (status_item areas)) one.status
 

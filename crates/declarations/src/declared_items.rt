@@ -100,7 +100,7 @@ pub(crate) fn item_number(names: &NameTable<'_>, name: &QualifiedName) -> Result
     }
 }
 
-/// The rules of the names of files and of the entries of their records, behind so many bytes of working storage. Answers the bytes of each
+/// The rules of the names of files and of the entries of their records, after so many bytes of working storage. Answers the bytes of each
 /// record area.
 fn file_rules(alloc: Global, program: &Program, bytes: u64) -> Result<Vec<u32>, CheckError>
     requires storage { entry_rules program.now.storage ≡ [] }

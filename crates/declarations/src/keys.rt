@@ -85,7 +85,7 @@ fn is_key(there: RecordArea<'_>, before: &[u32], reference: &Reference, one: &Pl
 }
 
 impl<'a> DeclaredItems<'a> {
-    /// The item of a key, behind keys of which these are the first bytes. Answers its own first byte.
+    /// The item of a key, after keys of which these are the first bytes. Answers its own first byte.
     pub(crate) fn key_rules(
         &self,
         there: RecordArea<'_>,

@@ -41,7 +41,7 @@ fn is_outermost(one: &ItemEntry) -> bool
     level == RECORD || level == INDEPENDENT
 }
 
-/// The item of that number among these entries; where they have fewer, the number behind them.
+/// The item of that number among these entries; where they have fewer, the number after them.
 fn item_among(entries: &[Entry], number: usize) -> Result<&ItemEntry, usize>
     ensures { spec.IsAmong (spec.items_among entries.now) number (spec.result_now result) }
 {

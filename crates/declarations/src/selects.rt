@@ -54,7 +54,7 @@ impl<'a> DeclaredItems<'a> {
         other_keys_rules(one.alternate_keys.as_slice())
     }
 
-    /// Alternate keys behind a prime key with that first byte. No two keys have the same.
+    /// Alternate keys after a prime key with that first byte. No two keys have the same.
     fn alternates_rules(
         &self,
         alloc: Global,
@@ -142,7 +142,7 @@ impl<'a> DeclaredItems<'a> {
         }
     }
 
-    /// What stands behind the keys: their number, and FILE STATUS in one of so many areas.
+    /// What follows the keys: their number, and FILE STATUS in one of so many areas.
     fn later_rules(&self, areas: u32, one: &Select) -> Result<(), BrokenRule>
         requires { AreDeclared self.now }
         ensures { IsFirstBreach result (selecting.later_rules (items_of self.now) areas one.now) }

@@ -15,7 +15,7 @@ behind_joined n (x ∷ xs) ys = behind_joined (10 * n + (x - 48)) xs ys
 pub power_most : (n : ℕ) → n ≤ 18 → 10 ^ n ≤ 10 ^ 18
 power_most n h = pow-le-pow_right (lit< tt) h
 
--- a number below 10^w, and d digits behind it
+-- a number below 10^w, and d digits after it
 pub digits_fit : (front w d : ℕ) → front < 1 * 10 ^ w → w + d ≤ 18 → (front + 1) * 10 ^ d ≤ 10 ^ 18
 digits_fit front w d h within =
     let most = power_most (w + d) within in

@@ -40,7 +40,7 @@ abbrev pub redefined_area : ℕ → Option Area → Option Area
 redefined_area bytes None = None
 redefined_area bytes (Some area) = Some (record { place = area.place; longest = max area.longest bytes })
 
--- behind a 01 or 77 of so many bytes
+-- after a 01 or 77 of so many bytes
 abbrev pub with : Areas → ItemEntry → ℕ → Areas
 with areas one bytes =
     if redefines one then record { before = areas.before; last = redefined_area bytes areas.last; past = areas.past }

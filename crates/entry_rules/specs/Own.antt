@@ -1,4 +1,4 @@
--- The rules of one entry, but for its sizes.
+-- The rules of one entry, except for its sizes.
 use Rattle.std.specs.Prelude.{◌*◌, ◌&&◌, ◌||◌, List, ◌++◌, Option}
 use Rattle.items.specs.declared.item.Item.{Item}
 use Rattle.source_tree.specs.declared.entry.ItemEntry.{ItemEntry}

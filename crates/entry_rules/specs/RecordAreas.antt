@@ -20,7 +20,7 @@ abbrev pub with_past : Option Place → RecordAreas → Place → ℕ → Record
 with_past (Some past) areas place bytes = areas
 with_past None areas place bytes = record { bytes = areas.bytes + bytes; past = past_at (areas.bytes + bytes) place }
 
--- with the record area of one more file; behind the first that goes past the limit nothing is counted
+-- with the record area of one more file; after the first that goes past the limit nothing is counted
 abbrev pub with : RecordAreas → Place → ℕ → RecordAreas
 with areas place bytes = with_past areas.past areas place bytes
 

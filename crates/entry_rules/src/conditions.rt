@@ -24,7 +24,7 @@ use source_tree::{Entry, Figurative, LiteralValue, ValueRange};
 use std::cmp::Ordering;
 use text_ops::compare;
 
-/// The values of an item's condition names, which stand at the front of the entries behind it.
+/// The values of an item's condition names, which stand at the front of the entries after it.
 pub fn conditions_rules(item: Item, entries: &[Entry]) -> Result<(), BrokenRule>
     requires { IsKind item.kind }
     ensures { IsFirstBreach result

@@ -27,7 +27,7 @@ use std::alloc::Global;
 /// The most bytes of a record (own choice).
 const MOST_RECORD_BYTES: u64 = 1_000;
 
-/// Whether the entries of the records of files keep the rules of entries, behind those of working storage, which keep theirs and take so
+/// Whether the entries of the records of files keep the rules of entries, after those of working storage, which keep theirs and take so
 /// many bytes: 43 to 48, 55 and 69. Otherwise the answer is the first that they break, in the order of the definition: the number of
 /// entries, each file's records, and the bytes of all areas. The answer of entries that are accepted is the bytes of each file's record
 /// area.
@@ -99,7 +99,7 @@ fn check_description(alloc: Global, one: &FileDescription) -> Result<u32, CheckE
     Ok(bytes as u32)
 }
 
-/// The records of each file, and then their areas together, behind so many bytes of working storage. Answers the bytes of each record area.
+/// The records of each file, and then their areas together, after so many bytes of working storage. Answers the bytes of each record area.
 fn check_files(
     alloc: Global,
     storage: u64,

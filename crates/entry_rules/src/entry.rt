@@ -1,4 +1,4 @@
-//! The rules of one entry by itself, but for its sizes.
+//! The rules of one entry by itself, except for its sizes.
 
 ghost use Rattle.std.specs.Prelude.{◌≡◌, ◌≤◌, ◌<◌};
 ghost use Rattle.source_tree.specs.Clauses.{occurrences, picture_in};
@@ -66,7 +66,7 @@ fn form_rules(at: Position, one: &Described<'_>, inner: &[Entry]) -> Result<(), 
     Rule::Picture.broken_if(is_wrong_picture(one, inner), place)
 }
 
-/// Level, clauses, picture, REDEFINES and VALUE of an entry behind the one that may be redefined.
+/// Level, clauses, picture, REDEFINES and VALUE of an entry after the one that may be redefined.
 fn own_rules(
     at: Position,
     one: &Described<'_>,

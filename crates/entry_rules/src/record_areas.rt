@@ -1,4 +1,4 @@
-//! Rule 48 of the record areas of files, which stand behind the areas of working storage.
+//! Rule 48 of the record areas of files, which follow the areas of working storage.
 
 ghost use Rattle.std.specs.Prelude.{◌≡◌};
 ghost use Rattle.entry_rules.specs.Areas.{past_rules};
@@ -19,14 +19,14 @@ pub struct RecordAreas {
 }
 
 impl RecordAreas {
-    /// No record area, behind so many bytes of working storage.
+    /// No record area, after so many bytes of working storage.
     pub fn after(bytes: u64) -> RecordAreas
         ensures { result ≡ spec.areas_of_bytes bytes }
     {
         RecordAreas { bytes, past: None }
     }
 
-    /// With the record area of one more file, which is described at that place. Behind the first that goes past the limit
+    /// With the record area of one more file, which is described at that place. After the first that goes past the limit
     /// nothing is counted.
     pub fn with(self, place: Place, bytes: u32) -> RecordAreas
         requires { spec.IsWithinLimit self.past self.bytes }

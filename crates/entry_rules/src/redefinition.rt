@@ -23,7 +23,7 @@ pub struct Redefinable<'a> {
     pub bytes: u64,
 }
 
-/// What may be redefined behind an entry of so many bytes.
+/// What may be redefined after an entry of so many bytes.
 pub fn remembered<'a>(
     entry: &'a ItemEntry,
     bytes: u64,
@@ -64,7 +64,7 @@ fn wrong_object(entry: &ItemEntry, bytes: u64, name: &Name, last: Option<Redefin
         || (level != RECORD && last.bytes < bytes)
 }
 
-/// REDEFINES of an entry of so many bytes, behind the one that may be redefined. Records of a file redefine nothing.
+/// REDEFINES of an entry of so many bytes, after the one that may be redefined. Records of a file redefine nothing.
 pub fn redefinition_rules(
     is_record: bool,
     entry: &ItemEntry,

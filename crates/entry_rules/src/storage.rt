@@ -48,12 +48,12 @@ struct Areas {
     /// The bytes of those before the last one.
     before: u64,
     last: Option<Area>,
-    /// Where the first area stands that goes past the limit, but for the last one.
+    /// Where the first area stands that goes past the limit, except for the last one.
     past: Option<Place>,
 }
 
 impl Area {
-    /// The area as it is behind an entry of so many bytes that redefines.
+    /// The area as it is after an entry of so many bytes that redefines.
     fn redefined(self, bytes: u64) -> Area
         ensures { result ≡ record { place = self.place; longest = max self.longest bytes } }
     {
@@ -98,7 +98,7 @@ impl Areas {
         }
     }
 
-    /// The areas behind a 01 or 77 of so many bytes. One that redefines stands in the last area.
+    /// The areas after a 01 or 77 of so many bytes. One that redefines stands in the last area.
     fn with(self, entry: &ItemEntry, bytes: u64) -> Areas
         requires { spec.bytes_in self + bytes < 2 ^ 64 }
         ensures { result ≡ spec.with self entry.now bytes }

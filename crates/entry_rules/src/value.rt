@@ -38,7 +38,7 @@ pub fn value_rules(forbidden: bool, item: Item, value: &Option<Literal>) -> Resu
     }
 }
 
-/// Zeros in front of the digits that the item keeps, and behind them, aren't cut.
+/// Zeros in front of the digits that the item keeps, and after them, aren't cut.
 fn is_cut(numeric: Numeric, x: Dec) -> bool
     requires { IsNumeric numeric }
     ensures { result ≡ spec.is_cut numeric x }

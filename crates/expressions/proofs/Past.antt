@@ -111,7 +111,7 @@ part_from_passes first i =
     ∙ ap (λ o. and_past o (λ j. and_past (past_length j) (past_token right_in))) (token_passes colon_in i)
     ∙ joined (past_token colon_in i) past_length (past_token right_in)
 
--- behind a left parenthesis and a number
+-- after a left parenthesis and a number
 numbered_passes : {A : Type 0} (next : Subscript → Parser A) (words : Words)
     → ((first : Subscript) (j : List Token) → tokens_past (next first) j ≡ words j) → (i : List Token)
     → rest_of (and_then (one_token left_in i) (λ u j. and_then (s.subscript_reader j) next))

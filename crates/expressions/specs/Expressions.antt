@@ -24,7 +24,7 @@ abbrev pub operator_chain : Expression → List (Operator × Expression) → Exp
 operator_chain first [] = first
 operator_chain first (one ∷ more) = e.Chain first (one ∷ more)
 
--- an operator and the operand behind it
+-- an operator and the operand after it
 abbrev pub further_operand : (Token → Option Operator) → (Expression → Part) → Operator × Expression → Part
 further_operand tells lower one = token_with tells one.0 then lower one.1
 

@@ -18,7 +18,7 @@ past_first false i = None
 past_first true [] = None
 past_first true (first ∷ more) = Some more
 
--- ---- the numbers in parentheses behind a name
+-- ---- the numbers in parentheses after a name
 
 abbrev pub past_token : {A : Type 0} → (Token → Option A) → Words
 past_token tells i = past_first (begins_telling tells i) i
@@ -29,7 +29,7 @@ past_subscript = tokens_past subscript_reader
 abbrev pub past_length : Words
 past_length i = if begins_subscript i then past_subscript i else Some i
 
--- behind the first place
+-- after the first place
 abbrev pub past_part_from : Words
 past_part_from i = and_past (and_past (past_token colon_in i) past_length) (past_token right_in)
 
@@ -39,7 +39,7 @@ past_part i = and_past (and_past (past_token left_in i) past_subscript) past_par
 abbrev pub past_part_behind : Words
 past_part_behind i = if begins_left i then past_part i else Some i
 
--- behind the first subscript
+-- after the first subscript
 abbrev pub past_subscripted : Words
 past_subscripted i = and_past (and_past (past_any past_subscript begins_subscript i) (past_token right_in)) past_part_behind
 

@@ -35,7 +35,7 @@ numbers (one ∷ more) part =
 abbrev pub reference : Reference → Part
 reference one = qualified_name one.item then numbers one.subscripts one.part
 
--- ---- reading: what is behind the first number in parentheses shows whether it is a subscript or begins a part
+-- ---- reading: what is after the first number in parentheses shows whether it is a subscript or begins a part
 
 unfoldable pub some_length_reader : Parser (Option Subscript)
 some_length_reader = do
@@ -45,7 +45,7 @@ some_length_reader = do
 unfoldable pub length_reader : Parser (Option Subscript)
 length_reader i = if begins_subscript i then some_length_reader i else Ok (None, i)
 
--- behind the first place
+-- after the first place
 unfoldable pub part_from_reader : Subscript → Parser ItemPart
 part_from_reader first = do
   one_token colon_in
@@ -69,7 +69,7 @@ item_part_reader item first = do
   part ← part_from_reader first
   pure (record { item = item; subscripts = []; part = Some part })
 
--- behind the first subscript
+-- after the first subscript
 unfoldable pub subscripted_reader : QualifiedName → Subscript → Parser Reference
 subscripted_reader item first = do
   more ← r.any subscript_reader begins_subscript

@@ -25,13 +25,13 @@ pub struct Factors<F> {
     pub factor: F,
 }
 
-/// An operator of a product and the factor behind it.
+/// An operator of a product and the factor after it.
 #[derive(Drop)]
 struct FurtherFactors<'a, F> {
     factors: &'a Factors<F>,
 }
 
-/// An operator of a sum and the product behind it.
+/// An operator of a sum and the product after it.
 #[derive(Drop)]
 struct FurtherProducts<'a, F> {
     factors: &'a Factors<F>,

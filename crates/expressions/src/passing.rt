@@ -212,7 +212,7 @@ fn past_part_behind(tokens: &[Token]) -> Option<&[Token]>
     }
 }
 
-/// The tokens after the subscripts behind the first, and a part.
+/// The tokens after the further subscripts and a part.
 fn past_subscripted(tokens: &[Token]) -> Option<&[Token]>
     ensures { option_copied result ≡ spec.past_subscripted tokens.now }
 {

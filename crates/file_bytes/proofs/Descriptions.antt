@@ -104,7 +104,7 @@ spec_long spec few =
     filled_long 35 (flat_map key_bytes spec.alternates) (let k = keys_long spec.alternates in omega arith) in
     omega (arith, keys)
 
--- a description is read again, whatever is behind it
+-- a description is read again, whatever is after it
 module _ (spec : Spec) (more bytes : List ℕ) (sound : is_spec spec ≡ true) (is : bytes ≡ spec_bytes spec ++ more) where
   abbrev zeros : List ℕ
   zeros = replicate (35 - length (flat_map key_bytes spec.alternates)) 0

@@ -24,7 +24,7 @@ key_long Relative row within = refl
 key_long (Indexed place) row within = length-take-le place.length (drop place.offset row.bytes)
     (omega (arith, within, length-drop place.offset row.bytes))
 
--- a row, whatever is behind its key and behind its arrivals
+-- a row, whatever is after its key and after its arrivals
 module _ (spec : Spec) (next : ℕ) (lt : next < 2 ^ 64) (row : Row) (good : IsRow spec next row) where
   abbrev arrived : List ℕ
   arrived = flat_map (big_bytes 8) row.arrivals

@@ -1,4 +1,4 @@
--- Items of one size, one behind the other, are read again.
+-- Items of one size, one after the other, are read again.
 use Rattle.std.proofs.Common.{◌≡◌, ◌<◌, ◌+◌, ◌*◌, ◌^◌, ℕ, zero, suc, List, [], ◌∷◌, ◌++◌, length, drop, append_assoc}
 use Rattle.std.proofs.Common.{length-append, refl, sym, ◌∙◌, ap, arith}
 use Rattle.std.specs.List.{AllByRecursion, flat_map}
@@ -24,7 +24,7 @@ module _ {A : Type 0} (size : ℕ) (one : List ℕ → A) where
   one_more k bytes so_far after next is read pushed = pushed ∙ ap (λ (l : List A). l ++ next ∷ []) is
       ∙ ap (λ (x : A). several size one k bytes ++ x ∷ []) read ∙ sym (several_more k bytes)
 
--- what a spelling has in front is read, and what is behind it stays
+-- what a spelling has in front is read, and what is after it stays
 pub record Back {A : Type 0} (size : ℕ) (one : List ℕ → A) (spelled : A → List ℕ) (a : A) : Type 0 where
   pub same : (more : List ℕ) → one (spelled a ++ more) ≡ a
   pub rest : (more : List ℕ) → drop size (spelled a ++ more) ≡ more

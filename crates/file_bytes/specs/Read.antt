@@ -26,7 +26,7 @@ place_in bytes = record { offset = big_number 2 bytes; length = big_number 2 (dr
 abbrev pub key_in : List ℕ → AlternateKey
 key_in bytes = record { place = place_in bytes; duplicates = not (slice_index bytes 4 == 0) }
 
--- so many of one size, one behind the other
+-- so many of one size, one after the other
 abbrev pub several : {A : Type 0} → ℕ → (List ℕ → A) → ℕ → List ℕ → List A
 several size one zero bytes = []
 several size one (suc k) bytes = one bytes ∷ several size one k (drop size bytes)

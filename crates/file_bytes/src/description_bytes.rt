@@ -26,7 +26,7 @@ pub fn spell_description(alloc: Global, file: &FileSpec) -> Result<Vec<u8>, Stor
     Ok(out)
 }
 
-/// Puts the description of a file behind: its organization, the bytes of a record, its prime key and its alternate keys.
+/// Puts the description of a file after: its organization, the bytes of a record, its prime key and its alternate keys.
 pub fn push_description(out: &mut Vec<u8>, file: &FileSpec) -> Result<(), StoreFault>
     ensures bytes { OnOk result (out.new.items ≡ out.old.items ++ spec_bytes (spec_of file.now)) }
     ensures memory { IsOkUnless result StoreFault.Memory }
@@ -37,7 +37,7 @@ pub fn push_description(out: &mut Vec<u8>, file: &FileSpec) -> Result<(), StoreF
     Ok(())
 }
 
-/// Puts zeros behind, so many.
+/// Puts zeros after, so many.
 pub fn push_zeros(out: &mut Vec<u8>, count: usize) -> Result<(), StoreFault>
     requires { count ≤ 100 }
     ensures bytes { OnOk result (out.new.items ≡ out.old.items ++ replicate count 0) }

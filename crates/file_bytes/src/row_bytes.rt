@@ -1,4 +1,4 @@
-//! A row as bytes: its key, and behind it its record and its arrivals.
+//! A row as bytes: its key, and after it its record and its arrivals.
 ghost use Rattle.std.specs.Prelude.{◌≡◌, ◌++◌, OnOk, IfOk, IsOkUnless};
 ghost use Rattle.std.specs.List.{flat_map};
 ghost use Rattle.byteorder.specs.Endian.{big_bytes};
@@ -27,7 +27,7 @@ pub fn row_key(
     Ok(out)
 }
 
-/// Puts the key of the row of a record behind.
+/// Puts the key of the row of a record after.
 pub fn push_row_key(
     out: &mut Vec<u8>,
     organization: Organization,
@@ -46,7 +46,7 @@ pub fn push_row_key(
     Ok(())
 }
 
-/// Puts behind what follows the key of a row: its record, and its arrivals in 8 bytes each.
+/// Puts after what follows the key of a row: its record, and its arrivals in 8 bytes each.
 pub fn push_row_value(out: &mut Vec<u8>, row: &StoredRow) -> Result<(), StoreFault>
     ensures bytes { OnOk result (out.new.items ≡ out.old.items ++ row_value (row_of row.now)) }
     ensures memory { IsOkUnless result StoreFault.Memory }

@@ -54,7 +54,7 @@ access_in one = access_by one.kind
 abbrev pub begins_key : List Token → Bool
 begins_key i = begins_word w.Key i || (begins_word w.Is i || begins_name i)
 
--- a key comes behind a word, by the tokens after the word
+-- a key follows a word, by the tokens after the word
 abbrev pub has_key_after : Option (List Token) → Bool
 has_key_after None = false
 has_key_after (Some after) = begins_key after

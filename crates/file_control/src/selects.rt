@@ -44,7 +44,7 @@ fn assigned_name(alloc: Global, tokens: &mut Tokens<'_>) -> Result<AssignedName,
     }
 }
 
-/// A file's name, and behind ASSIGN its name on the volume.
+/// A file's name, and after ASSIGN its name on the volume.
 #[tactic(auto, unfolding(crate::specs::Selects::assigned_reader))]
 fn assigned(alloc: Global, tokens: &mut Tokens<'_>) -> Result<(Name, AssignedName), ReadFault>
     ensures { Reads (spec.assigned_reader tokens.old) result tokens.new }

@@ -1,4 +1,4 @@
-//! The clauses of a SELECT, in any order, each at most once but for ALTERNATE RECORD KEY.
+//! The clauses of a SELECT, in any order, each at most once except for ALTERNATE RECORD KEY.
 
 ghost use Rattle.std.specs.Prelude.{◌≡◌, OnOk};
 ghost use Rattle.std.specs.Result.{result_map_both};

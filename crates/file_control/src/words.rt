@@ -39,7 +39,7 @@ fn begins_key(tokens: &Tokens<'_>) -> bool
     tokens.at_word(Reserved::Key) || tokens.at_word(Reserved::Is) || begins_name(tokens)
 }
 
-/// RELATIVE comes next, with KEY, IS or a user-defined word right behind it.
+/// RELATIVE comes next, with KEY, IS or a user-defined word right after it.
 fn begins_relative_key(tokens: &Tokens<'_>) -> bool
     ensures { result ≡ spec.begins_relative_key tokens.now }
 {

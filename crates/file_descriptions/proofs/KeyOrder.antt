@@ -1,4 +1,4 @@
--- A key that is put behind those that stand before it is put in order of place.
+-- A key that is put after those that stand before it is put in order of place.
 use Rattle.std.proofs.Common.{◌≡◌, suc, Bool, true, false, nat_lt, if◌then◌else◌, List, [], ◌∷◌, refl, ap}
 use Rattle.std.specs.Prelude.{insert}
 use Rattle.records.specs.declared.file_spec.AlternateKey.{AlternateKey}

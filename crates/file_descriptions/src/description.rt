@@ -20,7 +20,7 @@ pub struct FileRecords {
     pub sent: Item,
 }
 
-/// The first FD of that name, and its area; the first of all has this one. Without an FD it is the area behind all.
+/// The first FD of that name, and its area; the first of all has this one. Without an FD it is the area after all.
 fn described<'a>(
     files: &'a [FileDescription],
     first: u32,

@@ -65,7 +65,7 @@ module _ (pages : List (Option Sector)) (spec : Spec) (rows : List Row) (value :
             (marks_append old mid new (pages_within trees) (pages_under found.tree) before.marks found.marks);
       }
 
-  -- what a list of such trees has behind a place can still be marked
+  -- what a list of such trees has after a place can still be marked
   abbrev pub CanGoOn : ℕ → List Bool → ℕ → List Bool → Type 0
   CanGoOn count old k seen = (trees : List TreeLevels) → AreIndexes pages spec rows value count trees
       → CanMark old (pages_within trees) → CanMark seen (pages_within (drop k trees))

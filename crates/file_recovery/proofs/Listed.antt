@@ -23,7 +23,7 @@ use Rattle.file_recovery.proofs.Marking.{marks_none, marks_append, can_left, can
 use Rattle.file_recovery.proofs.OneFound.{one_list_of_trees}
 use Rattle.file_recovery.proofs.Walks.{entry_at, taken_more, some_at}
 
--- the item that an entry is of, and those behind it
+-- the item that an entry is of, and those after it
 record Splits {X : Type 0} (f : X → Entry) (P : X → Type 0) (n : ℕ) (entry : Entry) (items : List X) : Type 0 where
   item : X
   is : P item
@@ -86,7 +86,7 @@ module _ (pages : List (Option Sector)) (generation : ℕ) where
             (pages_within (trees_of finds.kept)) before.marks finds.marks);
       }
 
-  -- what a list of such files has behind a place can still be marked
+  -- what a list of such files has after a place can still be marked
   abbrev pub CanGoOn : List Entry → List Bool → ℕ → List Bool → Type 0
   CanGoOn entries old n seen = (kept : List FileTrees) → AreFound pages generation entries kept
       → CanMark old (pages_of_files kept) → CanMark seen (pages_of_files (drop n kept))

@@ -27,7 +27,7 @@ pub record FindsFiles (pages : List (Option Sector)) (generation : ℕ) (entries
 abbrev pub NoFiles : List (Option Sector) → ℕ → List Entry → List Bool → Type 0
 NoFiles pages generation entries old = (kept : List FileTrees) → AreFound pages generation entries kept → length kept ≤ 255 → CanMark old (pages_of_files kept) → ⊥
 
--- the file of that entry came behind the others
+-- the file of that entry came after the others
 pub record AddsFile (pages : List (Option Sector)) (generation : ℕ) (entry : Entry) (files more : Files) (old new : List Bool) : Type 0 where
   pub one : NamedFile
   pub finds : FindsFile pages generation entry one old new

@@ -27,7 +27,7 @@ IsEntryOf spec next entry row = IsRow spec next row × (entry_under spec Prime r
 abbrev pub NoRow : Spec → ℕ → Entry → Type 0
 NoRow spec next entry = (row : Row) → IsRow spec next row → entry_under spec Prime row ≡ entry → ⊥
 
--- the row of that entry came behind the others
+-- the row of that entry came after the others
 pub record AddsRow (spec : Spec) (next : ℕ) (entry : Entry) (old new : List Row) : Type 0 where
   pub row : Row
   pub is : IsEntryOf spec next entry row

@@ -52,7 +52,7 @@ pub(crate) fn read_catalog<D: Device>(
     read_files(alloc, &catalog, generation, pages, device, seen)
 }
 
-/// Puts the file of an entry behind the others. The pages of its trees are marked. `Damaged` tells that there is no such file with
+/// Puts the file of an entry after the others. The pages of its trees are marked. `Damaged` tells that there is no such file with
 /// trees that can be marked.
 fn add_file<D: Device>(
     alloc: Global,

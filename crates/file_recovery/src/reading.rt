@@ -63,7 +63,7 @@ pub(crate) fn read_rows<D: Device>(
     Err(StoreFault::Memory)
 }
 
-/// Puts the row of an entry behind the others. `Damaged` tells that no row of the file has that entry.
+/// Puts the row of an entry after the others. `Damaged` tells that no row of the file has that entry.
 fn add_row(
     alloc: Global,
     file: &FileSpec,

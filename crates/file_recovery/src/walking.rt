@@ -36,7 +36,7 @@ pub(crate) fn first_in<D: Device>(
     }
 }
 
-/// The entry behind one of a tree.
+/// The entry after one of a tree.
 pub(crate) fn next_in<D: Device>(
     tree: &Tree,
     pages: &mut PageMap,

@@ -112,7 +112,7 @@ module _ (s : Select) (files : Files) (c : Connector) (a : Area) where
   abbrev optional_by : OpenMode → Bool → Step
   optional_by mode b = cond b (open_absent (entry_of s) files c a mode) (end FileMissing)
 
-  -- but for OUTPUT
+  -- except for OUTPUT
   by_there : (mode : OpenMode) → (mode ≡ Output → ⊥)
       → step (entry_of s) files c a (Open mode) ≡ there_by mode (file_at s.file.name.items files)
   by_there Input other = refl

@@ -29,7 +29,7 @@ pub(crate) fn close_link(select: &Select, link: &mut Link)
     link.has_written = false;
 }
 
-/// OPEN. An OPTIONAL file that isn't there is made, but for INPUT.
+/// OPEN. An OPTIONAL file that isn't there is made, except for INPUT.
 pub(crate) fn open_file<T: Store, D: Device>(
     store: &mut T,
     device: &mut D,

@@ -76,7 +76,7 @@ fn side_for(organization: Organization, relation: Relation) -> Side
     }
 }
 
-/// The first row from a place on may lie behind it. It is equal where the bytes that are named, or the numbers, are.
+/// The first row from a place on may lie after it. It is equal where the bytes that are named, or the numbers, are.
 fn is_fitting(
     organization: Organization,
     relation: Relation,

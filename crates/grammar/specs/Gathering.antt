@@ -1,4 +1,4 @@
--- Clauses in any order, each at most once but for those that may come again: their rule, and how they are read. Those of entries,
+-- Clauses in any order, each at most once except for those that may come again: their rule, and how they are read. Those of entries,
 -- of FDs and of SELECTs are read so.
 use Rattle.std.specs.Prelude.{◌≡◌, ℕ, zero, suc, Bool, if◌then◌else◌, List, [], ◌∷◌, length, Option, None, Some, is_some, Ok}
 use Rattle.tokens.specs.declared.token.Token.{Token}
@@ -25,7 +25,7 @@ module _ {Clause Kind All : Type 0} (c : Clauses Clause Kind All) where
   gathered_clauses before [] = Some before
   gathered_clauses before (one ∷ more) = if c.has before (c.kind_of one) then None else gathered_clauses (c.with_clause before one) more
 
-  -- Clauses in any order, up to where no more can begin, behind those before.
+  -- Clauses in any order, up to where no more can begin, after those before.
   abbrev pub clauses_from : All → All → Part
   clauses_from before all = λ from rest. (clauses : List Clause) × any c.clause (lookahead begins_clause) clauses from rest × (gathered_clauses before clauses ≡ Some all)
 

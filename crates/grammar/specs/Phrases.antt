@@ -1,4 +1,4 @@
--- Phrases with statements, each with its opposite: SIZE ERROR, AT END, INVALID KEY and OVERFLOW, and the same behind NOT
+-- Phrases with statements, each with its opposite: SIZE ERROR, AT END, INVALID KEY and OVERFLOW, and the same after NOT
 -- (COBOL-85, Nucleus, "The SIZE ERROR phrase"; Sequential I-O, "The AT END phrase"; Indexed I-O, "The INVALID KEY phrase").
 -- Their rules, and how they are read, whatever reads statements.
 use Rattle.std.specs.Prelude.{List, Option, None, Some, Ok}

@@ -15,7 +15,7 @@ use sqlite_items::Items;
 use std::alloc::Global;
 use tokens::{Reserved, Token};
 
-/// A phrase that has an opposite behind NOT, by its words.
+/// A phrase that has an opposite after NOT, by its words.
 #[derive(Clone, Copy, PartialEq, Eq)]
 pub enum Phrase {
     /// `[ON] SIZE ERROR`

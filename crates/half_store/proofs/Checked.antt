@@ -10,7 +10,7 @@ use Rattle.std.proofs.lemmas.Bool.{cases_lt}
 use Rattle.std.proofs.lemmas.List.{drop_more, drop_all}
 use Rattle.std.proofs.lemmas.Map.Keys.{sorted_head, sorted_tail}
 
--- the items behind a place, through a function
+-- the items after a place, through a function
 module _ {A B : Type 0} (f : A → B) (P : B → Type 0) (items : List A) where
   pub all_behind : (k : ℕ) (d : A) → k < length items → P (f (get_or items k d))
       → AllByRecursion P (map f (drop (k + 1) items)) → AllByRecursion P (map f (drop k items))

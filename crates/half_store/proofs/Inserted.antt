@@ -10,7 +10,7 @@ use Rattle.records.specs.Changes.{with_row}
 use Rattle.file_bytes.specs.declared.stored.StoredRow.{StoredRow}
 use Rattle.file_bytes.specs.Stored.{row_of}
 
--- the new row stands behind the first k
+-- the new row follows the first k
 abbrev pub Passed : Organization → ℕ → List ℕ → List StoredRow → ℕ → Type 0
 Passed o number bytes rows k = (new : Row) → prime_pair o new ≡ named_pair o number bytes
     → with_row o new (map row_of rows) ≡ map row_of (take k rows) ++ with_row o new (map row_of (drop k rows))

@@ -1,4 +1,4 @@
--- Rows ascend by their prime key: those behind a place come last, so a search by halves finds the first of them.
+-- Rows ascend by their prime key: those after a place come last, so a search by halves finds the first of them.
 use Rattle.std.proofs.Common.{◌≡◌, ◌≤◌, ◌<◌, Bool, true, false, not, cond, ⊎_elim, ℕ, zero, suc, List, [], ◌∷◌, length}
 use Rattle.std.proofs.Common.{take, map, get_or, refl, sym, ◌∙◌, ap, arith}
 use Rattle.std.specs.Prelude.{Option, Some, None, filter}
@@ -68,7 +68,7 @@ not_true : (b : Bool) → not b ≡ true → b ≡ false
 not_true true h = cc
 not_true false h = refl
 
--- what comes later is behind a place as well
+-- what comes later is after a place as well
 behind_later : (side : Side) (place one two : Pair) → is_gt (pair_cmp one two) ≡ false → is_after side place one ≡ true
     → is_after side place two ≡ true
 behind_later From place one two le behind =
@@ -114,7 +114,7 @@ module _ (o : Organization) (side : Side) (place : Pair) where
           ap is_gt (ap (λ (k : ℕ). pair_cmp (pair_at rows i d) (pair_at rows k d)) (sym e)
           ∙ tied_itself pair_total (pair_at rows i d))
 
-  -- no row before the place comes after one behind it
+  -- no row before the place comes after one after it
   pub parted : (rows : List StoredRow) → RowsAscend o (map row_of rows) → IsPartitionedBy is_before rows
   parted rows ascend i j d le lt before = by (is_after side place (pair_at rows i d)) refl
     where

@@ -96,7 +96,7 @@ module _ (o : Organization) (pair : Pair) where
   pub no_row : (rows : List StoredRow) (k : ℕ) → length rows ≤ k → row_at o pair (map row_of (drop k rows)) ≡ None
   no_row rows k le = ap (λ (l : List StoredRow). row_at o pair (map row_of l)) (drop_all k rows le)
 
-  -- no row behind one at a pair is there
+  -- no row after one at a pair is there
   abbrev Behind : Pair → List Row → Type 0
   Behind p rows = AllByRecursion (λ other. pair_cmp p other ≡ Less) (map (prime_pair o) rows)
 

@@ -1,4 +1,4 @@
--- The first row behind a place, found from the last row on.
+-- The first row after a place, found from the last row on.
 use Rattle.std.proofs.Common.{◌≡◌, ◌≤◌, ◌<◌, ◌+◌, Bool, true, false, cond, ℕ, zero, suc, List, [], ◌∷◌, length, drop}
 use Rattle.std.proofs.Common.{map, get_or, refl, ◌∙◌, ap, arith}
 use Rattle.std.specs.Prelude.{Option, Some, None, filter}

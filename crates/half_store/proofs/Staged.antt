@@ -89,7 +89,7 @@ pub few : (bytes n : ℕ) → bytes ≤ 4096 * half n → count bytes ≤ half n
 unfolding count
 few bytes n le = omega (arith, le)
 
--- a half is behind the roots and within the volume
+-- a half is after the roots and within the volume
 pub behind : (n g : ℕ) → 2 ≤ start n g
 unfolding start
 behind n g = omega arith

@@ -37,7 +37,7 @@ pub(crate) fn are_files(files: &[StoredFile], generation: u64) -> bool
     true
 }
 
-/// Whether the row behind this one, if there is one, comes behind it under the prime key.
+/// Whether the row after this one, if there is one, follows it under the prime key.
 fn is_before_next(organization: Organization, rows: &[StoredRow], place: usize) -> bool
     requires { place < length rows.now }
     ensures yes { result ≡ true → (d : StoredRow) → place + 1 < length rows.now
@@ -88,7 +88,7 @@ fn is_file(file: &StoredFile, generation: u64) -> bool
     are_rows(&file.spec, file.next_arrival, &file.rows)
 }
 
-/// Whether the file behind this one, if there is one, has a greater name.
+/// Whether the file after this one, if there is one, has a greater name.
 fn is_named_before_next(files: &[StoredFile], place: usize) -> bool
     requires { place < length files.now }
     ensures yes { result ≡ true → (d : StoredFile)

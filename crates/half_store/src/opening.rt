@@ -72,7 +72,7 @@ fn are_zeros(bytes: &[u8]) -> bool
     bytes.iter().all(|byte| *byte == 0)
 }
 
-/// Whether the payload of a root has zeros behind the length.
+/// Whether the payload of a root has zeros after the length.
 fn has_zeros(payload: &[u8; 4076]) -> bool
     ensures { result ≡ list_all (λ byte. byte == 0) (drop 8 payload.now) }
 {

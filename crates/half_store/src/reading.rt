@@ -75,7 +75,7 @@ fn row_at(alloc: Global, bytes: &[u8], at: usize, spec: &FileSpec) -> Result<Sto
     read_first_row(alloc, &bytes[at..], spec)
 }
 
-/// Rows, and the place behind them.
+/// Rows, and the place after them.
 #[derive(Drop)]
 struct FoundRows {
     rows: Vec<StoredRow>,
@@ -138,7 +138,7 @@ fn spec_at(alloc: Global, bytes: &[u8], at: usize) -> Result<Option<FileSpec>, S
     read_front(alloc, &bytes[at..])
 }
 
-/// A file, and the place behind it.
+/// A file, and the place after it.
 #[derive(Drop)]
 struct FoundFile {
     file: StoredFile,

@@ -36,7 +36,7 @@ pub(crate) fn found_of(
     }
 }
 
-/// The first row behind a place in the order of a key, its record put into `bytes`, where rows ascend by their prime key. A
+/// The first row after a place in the order of a key, its record put into `bytes`, where rows ascend by their prime key. A
 /// record of another length is damage.
 pub(crate) fn seek_in(
     rows: &[StoredRow],
@@ -117,7 +117,7 @@ fn cmp_under(
         .then(number_under(spec, key, row).cmp(&number))
 }
 
-/// Whether a row is behind a place in the order of a key.
+/// Whether a row is after a place in the order of a key.
 fn stands_behind(
     spec: &FileSpec,
     key: KeyOfReference,
@@ -145,7 +145,7 @@ fn stands_behind(
     }
 }
 
-/// Whether a row comes behind another in the order of a key.
+/// Whether a row follows another in the order of a key.
 fn comes_behind(spec: &FileSpec, key: KeyOfReference, row: &StoredRow, other: &StoredRow) -> bool
     requires { IsKey (spec_of spec.now) key }
     ensures { result ≡ is_gt (pair_cmp (pair_under (spec_of spec.now) key (row_of row.now))
@@ -161,7 +161,7 @@ fn comes_behind(spec: &FileSpec, key: KeyOfReference, row: &StoredRow, other: &S
     .is_gt()
 }
 
-/// The place of the first of the rows from a place on, where `best` is that of the rows behind it.
+/// The place of the first of the rows from a place on, where `best` is that of the rows after it.
 fn better(
     rows: &[StoredRow],
     spec: &FileSpec,
@@ -194,7 +194,7 @@ fn better(
     }
 }
 
-/// The place of the first row behind a place in the order of a key, of which nothing is known: all rows are gone through.
+/// The place of the first row after a place in the order of a key, of which nothing is known: all rows are gone through.
 fn seek_through(
     rows: &[StoredRow],
     spec: &FileSpec,
@@ -217,7 +217,7 @@ fn seek_through(
     best
 }
 
-/// The place of the first row behind a place in the order of the prime key, in which rows ascend.
+/// The place of the first row after a place in the order of the prime key, in which rows ascend.
 fn seek_prime(
     rows: &[StoredRow],
     spec: &FileSpec,
@@ -244,7 +244,7 @@ fn seek_prime(
     }
 }
 
-/// The place of the first row behind a place in the order of a key, where rows ascend by their prime key.
+/// The place of the first row after a place in the order of a key, where rows ascend by their prime key.
 fn seek_row(
     rows: &[StoredRow],
     spec: &FileSpec,
@@ -265,7 +265,7 @@ fn seek_row(
     }
 }
 
-/// Whether the row behind this one has its value.
+/// Whether the row after this one has its value.
 fn has_repeat(rows: &[StoredRow], spec: &FileSpec, key: KeyOfReference, row: &StoredRow) -> bool
     requires { IsKey (spec_of spec.now) key }
     ensures { result ≡ has_value (spec_of spec.now) key

@@ -129,7 +129,7 @@ items_outlined storage files =
     ∙ ap (λ l. l ++ map outline_of (file_places (storage_areas storage) files)) (storage_outlined 0 (forest_of storage))
     ∙ ap (λ l. outlines nothing_around (forest_of storage) ++ l) (files_outlined (storage_areas storage) files)
 
--- ---- the item of a number, in one list or in the one behind it
+-- ---- the item of a number, in one list or in the one after it
 
 pub in_first : (xs ys : List Outline) (n : ℕ) → n < length xs → slice_get (xs ++ ys) n ≡ slice_get xs n
 in_first [] ys n h = absurd (omega arith)

@@ -14,7 +14,7 @@ pub other_end : {A : Type 0} (n : ℕ) (xs : List A) → xs ++ repeat n xs ≡ r
 other_end zero xs = append-nil xs
 other_end (suc n) xs = ap (λ t. xs ++ t) (other_end n xs) ∙ sym (append_assoc xs (repeat n xs) xs)
 
--- one more behind those that are there
+-- one more after those that are there
 pub once_more : {A : Type 0} (n : ℕ) (xs old now new : List A) → now ≡ old ++ repeat n xs → new ≡ now ++ xs
     → new ≡ old ++ repeat (n + 1) xs
 once_more {A} n xs old now new before added =
@@ -22,7 +22,7 @@ once_more {A} n xs old now new before added =
     added ∙ ap (λ l. l ++ xs) before ∙ append_assoc old (repeat n xs) xs ∙ ap (λ l. old ++ l) (sym (other_end n xs))
     ∙ ap (λ k. old ++ repeat k xs) next
 
--- what stood from a place to the end, whatever is behind it
+-- what stood from a place to the end, whatever is after it
 part_of : {A : Type 0} (begin end : ℕ) (first behind : List A) → begin ≤ length first → end ≡ length first
     → slice_range (first ++ behind) begin end ≡ drop begin first
 part_of begin end first behind h e =
@@ -55,7 +55,7 @@ all_turns {A} n times begin first now some e before =
     ∙ append_assoc (take begin first) xs (repeat (times - 1) xs)
     ∙ ap (λ k. take begin first ++ repeat k xs) once
 
--- All occurrences of bytes behind others.
+-- All occurrences of bytes after others.
 pub repeated_behind : {A : Type 0} (begin times : ℕ) (old own now new : List A) → begin ≡ length old → now ≡ old ++ own
     → new ≡ take begin now ++ repeat times (drop begin now)
     → new ≡ old ++ repeat times own

@@ -1,4 +1,4 @@
--- Items have room for those in them, and aren't longer than what they redefine, but for records.
+-- Items have room for those in them, and aren't longer than what they redefine, except for records.
 use Rattle.std.proofs.Common.{◌≡◌, ℕ, ◌*◌, ◌≤◌, ◌==◌, nat_lt, Bool, true, false, not, ◌&&◌, ◌||◌, if◌then◌else◌, []}
 use Rattle.std.proofs.Common.{None, Some, is_some, refl, ap, subst, arith}
 use Rattle.std.specs.Prelude.{Option}

@@ -88,7 +88,7 @@ fn pattern_at(
 }
 
 /// What INITIALIZE puts into the item of that number, where the entries of working storage and the descriptions of files keep the rules. Numbers count
-/// from 0, those of records behind those of working storage; where there is no such item there are no bytes.
+/// from 0, those of records after those of working storage; where there is no such item there are no bytes.
 pub fn initialized_item(
     alloc: Global,
     storage: &[Entry],

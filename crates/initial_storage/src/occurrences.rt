@@ -1,4 +1,4 @@
-//! The bytes of items, one behind another.
+//! The bytes of items, one after another.
 
 ghost use Rattle.std.specs.Prelude.{◌≡◌, ◌+◌, ◌*◌, ◌++◌, [], length, take, drop, OnOk, if◌then◌else◌};
 ghost use Rattle.source_tree.specs.Levels.{forest_of};
@@ -15,7 +15,7 @@ use items::{Item, Kind};
 use source_tree::{Around, Entry, ItemEntry};
 use std::alloc::{AllocError, Global};
 
-/// Puts all occurrences of an item behind the bytes that are there.
+/// Puts all occurrences of an item after the bytes that are there.
 #[cycle(occurrences)]
 pub fn put_item(
     alloc: Global,
@@ -54,7 +54,7 @@ fn start_from(
     write_start(alloc, item, entry, &mut out[begin..])
 }
 
-/// Puts one occurrence of an item behind the bytes that are there. The value of a group goes over the bytes of its items.
+/// Puts one occurrence of an item after the bytes that are there. The value of a group goes over the bytes of its items.
 #[cycle(occurrences)]
 fn put_occurrence(
     alloc: Global,

@@ -1,4 +1,4 @@
-//! What INITIALIZE puts into the bytes of items, one behind another: none where a byte stays.
+//! What INITIALIZE puts into the bytes of items, one after another: none where a byte stays.
 
 ghost use Rattle.std.specs.Prelude.{◌≡◌, ◌≤◌, ◌++◌, [], ◌∷◌, None, length, take, drop, OnOk, IfOk, if◌then◌else◌};
 ghost use Rattle.std.specs.List.{repeat};

@@ -237,7 +237,7 @@ pair_step bytes at m rest some h e written =
           ∙ ap (λ k. bytes_of_halves (digit_halves (2 * k) m)) size,
     )
 
--- the last digit with the sign behind it
+-- the last digit with the sign after it
 pub last_pair : (k m s : ℕ) → bytes_of_halves (digit_halves (suc (2 * k)) m ++ s ∷ []) ≡ bytes_of_halves
     (digit_halves (2 * k) (m / 10)) ++ (16 * (m % 10) + s) ∷ []
 last_pair zero m s =

@@ -98,7 +98,7 @@ begin size text some =
 
 -- ---- a text that fills its room
 
--- A text that is no shorter than its room has no spaces behind it.
+-- A text that is no shorter than its room has no spaces after it.
 pub full_text : (size : ℕ) (new text : List ℕ) → size ≤ length text → new ≡ take size text → new ≡ padded_text size text
 full_text size new text h e =
     let none : 0 ≡ size - length text = omega arith in

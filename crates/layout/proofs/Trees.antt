@@ -30,7 +30,7 @@ pub has_level : (around : Around) (F : Forest) → Fits around F → HasLevel F
 has_level around End h = tt
 has_level around (Tree one conditions inner next) h = h.0.level
 
--- an item, and those in it behind it
+-- an item, and those in it after it
 pub placed_entry : (old one two inside : List PlacedItem) (own placed : PlacedItem) → placed ≡ own
     → one ≡ old ++ placed ∷ [] → two ≡ one ++ inside → two ≡ old ++ (own ∷ inside)
 placed_entry old one two inside own placed same pushed behind =

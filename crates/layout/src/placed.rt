@@ -5,7 +5,7 @@ use picture::Picture;
 use source_tree::Dimension;
 use sqlite_items::Items;
 
-/// An item where it stands: its first occurrence begins `offset` bytes behind the start of its area.
+/// An item where it stands: its first occurrence begins `offset` bytes after the start of its area.
 #[derive(Drop)]
 pub struct PlacedItem {
     pub item: Item,

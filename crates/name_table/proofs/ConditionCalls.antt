@@ -268,7 +268,7 @@ all_told calls program all e told pairs =
 
 -- ---- the walk along entries
 
--- Of the entries before these, which so many items are in front of, all condition names are told, behind those that
+-- Of the entries before these, which so many items are in front of, all condition names are told, after those that
 -- were there.
 pub record AreTold (calls : List NamePath) (before : ℕ) (old : List (ConditionEntry × ℕ)) (entries rest : List Entry)
     (count : ℕ) (all : ConditionNames) : Type 0 where

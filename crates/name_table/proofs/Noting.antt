@@ -221,7 +221,7 @@ paragraphs_only : (all more : List Procedure) (paragraphs : List Paragraph) (fir
 paragraphs_only all more [] first names h = skipped all more (record { first = first; last = first }) names h
 paragraphs_only all more (one ∷ rest) first names h = h
 
--- Behind a section's name come those of its paragraphs.
+-- After a section's name come those of its paragraphs.
 pub paragraphs_next : (all more : List Procedure) (paragraphs given : List Paragraph) (first : ℕ)
     (names : ProcedureNames) → given ≡ paragraphs
     → AreNoted all (paragraph_procedures first (paragraphs_or_one paragraphs) ++ more) names

@@ -13,7 +13,7 @@ use Rattle.name_table.specs.Table.{IsTable, calls_in}
 abbrev pub of_last : ℕ → ℕ → ConditionEntry → List (ConditionEntry × ℕ)
 of_last before count one = if nat_lt before count then (one, count - 1) ∷ [] else []
 
--- those of the entries behind so many items
+-- those of the entries after so many items
 abbrev pub conditions_after : ℕ → ℕ → List Entry → List (ConditionEntry × ℕ)
 conditions_after before count [] = []
 conditions_after before count (Item one ∷ more) = conditions_after before (suc count) more

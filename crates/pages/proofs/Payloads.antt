@@ -27,7 +27,7 @@ spelled_zeros (suc n) =
     let four : 4 * suc n ≡ suc (suc (suc (suc (4 * n)))) = omega arith in
     ap (λ (l : List ℕ). 0 ∷ 0 ∷ 0 ∷ 0 ∷ l) (spelled_zeros n) ∙ ap (λ (m : ℕ). replicate m 0) (sym four)
 
--- bytes put behind a front
+-- bytes put after a front
 behind : (n : ℕ) (p part rest : List ℕ) → length p ≡ n
     → put_at n part (p ++ rest) ≡ p ++ part ++ drop (length part) rest
 behind n p part rest at =

@@ -33,7 +33,7 @@ module _ (image : List Sector) (r : VolumeRoot) (is : newest image ≡ Some r) w
     own = root_is_own image r is;
   }
 
-  -- its map sectors aren't sectors behind the roots, each named once
+  -- its map sectors aren't sectors after the roots, each named once
   pub bad_maps : (AreNames r.sectors r.maps → ⊥) → IsDamaged image
   bad_maps bad = damaged (λ v same reads. bad (subst (λ (q : VolumeRoot). AreNames q.sectors q.maps) same
       (front_names v.root.sectors v.root.maps v.table (named image v reads))))

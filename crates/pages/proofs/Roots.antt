@@ -49,7 +49,7 @@ same_root root (catalog ∷ count ∷ rest) r is =
     })
     (λ _ never. absurd never) (that (root_spelled root (catalog ∷ count ∷ rest)) r is)
 
--- the roots of an image, behind its newest root
+-- the roots of an image, after its newest root
 pub record Behind (image : List Sector) (r : VolumeRoot) : Type 0 where
   pub roots : Roots
   pub reads : roots_in known_marks 1 image ≡ Ok roots

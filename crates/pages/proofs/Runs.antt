@@ -129,7 +129,7 @@ part_counted used n k =
     ap unused_count (drop-take n k used) in
     omega (arith, parts, front, back)
 
--- behind the last sector there is none
+-- after the last sector there is none
 pub below_end : (used : List Bool) (m : ℕ) → length used ≤ m → unused_below used m ≡ unused_below used (length used)
 below_end used m le = ap unused_count (take_all m used le ∙ sym (take_all (length used) used (omega arith)))
 
@@ -260,7 +260,7 @@ count_marked (byte ∷ more) = omega (
 pub below_all : (used : List Bool) (n : ℕ) → unused_below used n ≤ unused_count used
 below_all used n = omega (arith, sum_by-take-drop bit used n)
 
--- part of the bytes has no more that aren't marked than the whole has behind its start
+-- part of the bytes has no more that aren't marked than the whole has after its start
 pub room_counted : (bytes part : List ℕ) (start end : ℕ) → part ≡ take (end - start) (drop start bytes)
     → unused_below (used_flags bytes) start + count_by (λ byte. byte == 0) part ≤ unused_count (used_flags bytes)
 room_counted bytes part start end is =

@@ -28,7 +28,7 @@ pub record Volume : Type 0 where
 abbrev pub names : Volume → List ℕ
 names v = v.root.maps ++ v.table
 
--- 0, or a sector behind the roots
+-- 0, or a sector after the roots
 abbrev pub IsPlace : ℕ → ℕ → Type 0
 IsPlace sectors s = (s ≡ 0) ⊎ (2 ≤ s) × (s < sectors)
 
@@ -36,7 +36,7 @@ IsPlace sectors s = (s ≡ 0) ⊎ (2 ≤ s) × (s < sectors)
 abbrev pub NamesOnce : List ℕ → Type 0
 NamesOnce list = (i j : ℕ) → i < length list → j < length list → slice_index list i ≢ 0 → slice_index list i ≡ slice_index list j → i ≡ j
 
--- the maps are these: sectors behind the roots, each named once, and none for page 0
+-- the maps are these: sectors after the roots, each named once, and none for page 0
 pub record Maps (image : List Sector) (v : Volume) : Type 0 where
   pub count : length v.table ≡ 1024 * length v.root.maps
   pub entries : (i : ℕ) → i < length v.root.maps → map_at image (slice_index v.root.maps i) ≡ map_part v.table i
@@ -73,7 +73,7 @@ pub record IsFree (v : Volume) (s : ℕ) : Type 0 where
   pub low : s < v.root.sectors
   pub unnamed : Contains (names v) s → ⊥
 
--- the same sectors, but for free ones
+-- the same sectors, except for free ones
 pub record KeepsUsed (v : Volume) (base image : List Sector) : Type 0 where
   pub count : length image ≡ length base
   pub each : (s : ℕ) → s < length image → (sector_at image s ≡ sector_at base s) ⊎ IsFree v s

@@ -3,7 +3,7 @@ use Rattle.std.specs.Prelude.{ℕ, Bool, List, length, Contains}
 use Rattle.pages.specs.Image.{IsPlace, NamesOnce}
 use Rattle.pages.specs.Use.{IsUse}
 
--- the names are sectors behind the roots, each named once
+-- the names are sectors after the roots, each named once
 pub record AreNames (sectors : ℕ) (list : List ℕ) : Type 0 where
   pub places : (s : ℕ) → Contains list s → IsPlace sectors s
   pub once : NamesOnce list

@@ -43,11 +43,11 @@ pub record IsMappedDraft (v : Volume) (m : VolumeMap) (d : Draft) (changes : Lis
   pub draft : IsDraft v m d changes
   pub mapped : IsMapped v m.maps.items m.table d.blocks.items next
 
--- each block's sector is behind those of the blocks before it
+-- each block's sector is after those of the blocks before it
 abbrev pub AreAscending : List Block → Type 0
 AreAscending blocks = (i j : ℕ) (d e : Block) → i < j → j < length blocks → (slice_index_or blocks i d).sector < (slice_index_or blocks j e).sector
 
--- The blocks of a commit of so many changes may begin there: at the first sector behind the roots, or where from there on at least two
+-- The blocks of a commit of so many changes may begin there: at the first sector after the roots, or where from there on at least two
 -- sectors for each change aren't marked as used.
 pub record MayStart (used : List Bool) (changes start : ℕ) : Type 0 where
   pub some : 2 ≤ start
@@ -78,7 +78,7 @@ pub record SameSize (old new : VolumeMap) : Type 0 where
   pub used : new.used ≡ old.used
   pub free : new.free ≡ old.free
 
--- a block for a sector that isn't used, behind the others
+-- a block for a sector that isn't used, after the others
 pub record PlacesBlock (used : List Bool) (old new : Draft) (sector : ℕ) (bytes : Sector) : Type 0 where
   pub later : old.next ≤ sector
   pub low : sector < length used

@@ -50,7 +50,7 @@ pub(crate) fn note_turns(turns: &mut Vec<UseChange>, old: u32, new: u32) -> Resu
     Ok(())
 }
 
-/// Places a block in the next sector that isn't used. So blocks of adjacent sectors stand one behind the other.
+/// Places a block in the next sector that isn't used. So blocks of adjacent sectors stand one after the other.
 pub(crate) fn place_block<'a>(
     used: &SectorUse,
     draft: &mut Draft<'a>,

@@ -24,7 +24,7 @@ pub(crate) fn mark_name(used: &mut Vec<bool>, name: u32) -> bool
     true
 }
 
-/// Marks each sector that is named, if each is behind the roots, within the volume, and named once.
+/// Marks each sector that is named, if each is after the roots, within the volume, and named once.
 pub(crate) fn mark_names(used: &mut Vec<bool>, names: &[u32]) -> bool
     ensures count { length used.new.items ≡ length used.old.items }
     ensures marked { result ≡ true → (before : List ℕ) → IsMarked before used.old.items

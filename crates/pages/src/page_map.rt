@@ -594,7 +594,7 @@ impl PageMap {
             &self.changes,
             self.catalog,
         )?;
-        // What a large commit took of memory is given back, but for the pages that come into the cache.
+        // What a large commit took of memory is given back, except for the pages that come into the cache.
         let changes = mem::replace(&mut self.changes, Vec::new(self.alloc));
         clear_places(self.alloc, &mut self.places);
         keep_changes(&mut self.cache, changes);

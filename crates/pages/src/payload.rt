@@ -59,7 +59,7 @@ fn put_numbers(bytes: &mut [u8; 4096], at: usize, numbers: &[u32])
     BigEndian::write_u32_into(numbers, &mut bytes[at..at + 4 * numbers.len()]);
 }
 
-/// A sector with a payload behind what stands in front of it: the catalog's page, the number of map sectors, these, and zeros.
+/// A sector with a payload after what stands in front of it: the catalog's page, the number of map sectors, these, and zeros.
 fn payload_bytes(catalog: u32, maps: &[u32]) -> [u8; 4096]
     requires { length maps.now ≤ 900 }
     ensures { words (drop 20 result) ≡ payload_words catalog maps.now }

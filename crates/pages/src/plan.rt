@@ -18,7 +18,7 @@ use crate::volume::VolumeMap;
 use roots::GENERATIONS;
 use std::alloc::{AllocError, Global};
 
-/// The first sector behind the roots.
+/// The first sector after the roots.
 const FIRST_SECTOR: u32 = 2;
 
 /// A draft has room for so many blocks from the start, which is enough for a small commit, and for as many old and new sectors.
@@ -83,7 +83,7 @@ pub(crate) fn mark_turns(used: &mut SectorUse, free: &mut u32, turns: &[UseChang
     }
 }
 
-/// Where the blocks of a commit begin, and around which sector the commit behind the next one looks.
+/// Where the blocks of a commit begin, and around which sector the commit after the next one looks.
 #[derive(Clone, Copy)]
 struct Start {
     sector: u32,
@@ -106,7 +106,7 @@ fn adjacent_start(used: &SectorUse, near: u32, changes: usize) -> Option<u32>
     Some(start)
 }
 
-/// Where a search begins, after one around this sector that found nothing. Behind the last sector it begins anew.
+/// Where a search begins, after one around this sector that found nothing. After the last sector it begins anew.
 fn near_behind(near: u32, sectors: u32) -> u32 {
     let behind = near.saturating_add(STEP);
     if behind < sectors {
@@ -116,7 +116,7 @@ fn near_behind(near: u32, sectors: u32) -> u32 {
     }
 }
 
-/// Where the blocks of a commit of so many changes begin: where adjacent sectors are, if some are found, and behind the roots else.
+/// Where the blocks of a commit of so many changes begin: where adjacent sectors are, if some are found, and after the roots else.
 fn start_of(volume: &VolumeMap, changes: usize) -> Start
     ensures { MayStart volume.now.used changes result.sector }
 {

@@ -53,7 +53,7 @@ pub record IsFirstUnplaced (states : List Progress) (first last paragraph : ℕ)
   pub unplaced : is_placed (state states paragraph) ≡ false
   pub before : (other : ℕ) → first ≤ other → other < paragraph → is_placed (state states other) ≡ true
 
--- What a visit has gone over is placed: the PERFORMs behind the one that it is at, and there the paragraphs in front of the next one.
+-- What a visit has gone over is placed: the PERFORMs after the one that it is at, and there the paragraphs in front of the next one.
 pub record HasGoneOver (performed : List PerformedRange) (states : List Progress) (visit : Visit) : Type 0 where
   pub of : (at : ℕ) → visit.at ≡ Some at → IsPerformOf performed visit.paragraph at
   pub behind : (number : ℕ) (one : PerformedRange) → up_to visit.at ≤ number → slice_get performed number ≡ Some one
@@ -101,7 +101,7 @@ pub record PerformsVisit (performed : List PerformedRange) (visit later : Visit)
   pub next : visit.next ≡ later.paragraph
 
 -- How the walk stands: each placed paragraph performs only placed ones that are lower, the open ones are those of the path, and each on the
--- path performs the one behind it.
+-- path performs the one after it.
 pub record IsWalkState (performed : List PerformedRange) (states : List Progress) (path : List Visit) (placed : ℕ) : Type 0 where
   pub count : placed ≡ count_by is_placed states
   pub low : (paragraph height : ℕ) → state states paragraph ≡ Placed height → height < placed

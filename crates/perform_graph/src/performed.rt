@@ -8,6 +8,6 @@ pub struct PerformedRange {
     pub performer: usize,
     /// The first paragraph that is performed.
     pub first: usize,
-    /// The last one, the first or one behind it.
+    /// The last one, the first or one after it.
     pub last: usize,
 }

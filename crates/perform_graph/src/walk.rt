@@ -15,7 +15,7 @@ use std::alloc::{AllocError, Global};
 #[derive(Drop)]
 pub struct Walk {
     pub states: Vec<Progress>,
-    /// From where the walk began to where it is: each performs the one behind it.
+    /// From where the walk began to where it is: each performs the one after it.
     pub path: Vec<Visit>,
     /// How many paragraphs are placed.
     placed: usize,

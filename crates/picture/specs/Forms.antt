@@ -73,7 +73,7 @@ most_digits = 18
 abbrev pub most_places : ℕ
 most_places = 160
 
--- The digit places: each 9, and each symbol that suppresses zeros, but for the first of a floating one.
+-- The digit places: each 9, and each symbol that suppresses zeros, except for the first of a floating one.
 abbrev pub digit_places : Suppression → List Run → ℕ
 digit_places by runs = occurrences (c.Digits by) runs - (if is_floating by then 1 else 0)
 

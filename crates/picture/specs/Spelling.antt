@@ -18,7 +18,7 @@ unfoldable pub decimal : ℕ → ℕ → List ℕ
 decimal zero number = []
 decimal (suc most) number = if nat_lt number 10 then (48 + number) ∷ [] else decimal most (number / 10) ++ (48 + number % 10) ∷ []
 
--- What stands behind a symbol that comes so often.
+-- What follows a symbol that comes so often.
 abbrev pub repeat_count_text : ℕ → List ℕ
 repeat_count_text count = if count == 1 then [] else left_parenthesis ∷ (decimal most_count_digits count ++ right_parenthesis ∷ [])
 

@@ -36,7 +36,7 @@ pub fn suppression_of(runs: &[Run]) -> Suppression
     }
 }
 
-/// The digit places: each 9, and each symbol that suppresses zeros, but for the first of a floating one.
+/// The digit places: each 9, and each symbol that suppresses zeros, except for the first of a floating one.
 pub fn digit_places(runs: &[Run], by: Suppression) -> u128
     requires { 2 * symbol_count runs.now < 2 ^ 128 }
     ensures { result ≡ spec.digit_places by runs.now }

@@ -83,7 +83,7 @@ fn the_image_of_a_file(rt: HostRuntime) -> Result<(), Fail> {
     let image = compile(alloc, PROGRAM)?;
     let head = head(alloc)?;
     same(&rt, image.as_slice().starts_with(head.as_slice()), true);
-    // behind the number of instructions
+    // after the number of instructions
     let rest = image.as_slice().get(head.len() + 8..).unwrap_or(&[]);
     same(&rt, rest.starts_with(FIRST), true);
     Ok(())

@@ -36,7 +36,7 @@ const LOOP: &[u8] = b"       IDENTIFICATION DIVISION.
 /// The number of `unheard`, which ends a run as fault 92.
 const UNHEARD: u8 = 47;
 
-/// Counts behind the mark, the bytes that follow them, and the number of the refusal.
+/// Counts after the mark, the bytes that follow them, and the number of the refusal.
 const TABLES: [(&[u8], &[u8], u8); 9] = [
     // an area that is missing, and one that is too short
     (&[1], b"", 71),

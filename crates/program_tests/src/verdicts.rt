@@ -105,7 +105,7 @@ const VERDICTS: [(&[Instruction], &[usize], u8); 20] = [
     // a line that isn't shown before the next statement, and no place where one is taken
     (&[TICK, FIRST, TICK, STOP], &[0], 74),
     (&[TICK, PUSH, STOP], &[0], 74),
-    // a paragraph that starts behind no back, inside of another one, or is another one's start
+    // a paragraph that starts after no back, inside of another one, or is another one's start
     (&[TICK, FIRST, SHOW, STOP], &[0, 3], 74),
     (&[TICK, TICK, BACK_0, STOP], &[1], 74),
     (&[TICK, BACK_0, TICK, BACK_1, STOP], &[2, 0], 74),

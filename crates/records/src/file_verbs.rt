@@ -24,7 +24,7 @@ pub trait FileVerbs: Keeps {
 
     /// Does one file statement and answers its status: the verb on the file of that number, with the record area and the number in
     /// the RELATIVE KEY item, 0 where its bytes are no number. It gives no event. After a refusal connectors, area and number are as they were,
-    /// and so are the files, but for a store that is spent.
+    /// and so are the files, except for a store that is spent.
     fn perform<D: Device>(
         &mut self,
         device: &mut D,

@@ -11,7 +11,7 @@ use Rattle.roots.specs.declared.root.RootSector.TheVariants.{Blank, Broken, Vali
 use Rattle.roots.specs.Root.{mark_index, root_with, is_valid, valid_at, root_with_mark, is_blank, root_in, root_bytes}
 use Rattle.roots.specs.Root.{put_at}
 
--- bytes put behind a front
+-- bytes put after a front
 front : (n : ℕ) (p part rest : List ℕ) → length p ≡ n → put_at n part (p ++ rest) ≡ p ++ part ++ drop (length part) rest
 front n p part rest at =
     rw (take_at p rest n at) (ap (λ (l : List ℕ). p ++ part ++ l) (sym (drop-drop (length part) n (p ++ rest))
@@ -33,7 +33,7 @@ head_put bytes mark generation sectors one two three m g s is_one is_two is_thre
     (drop-drop (length sectors) (length generation) r1 ∙ drop-drop (length generation + length sectors) (length mark)
     bytes ∙ ap (λ (n : ℕ). drop n bytes) {y = 20} (omega (arith, m, g, s)))
 
--- a payload behind it
+-- a payload after it
 pub all_put : (zeros mark generation sectors payload three four : List ℕ)
     → length zeros ≡ 4096 → length mark ≡ 8 → length generation ≡ 8 → length sectors ≡ 4 → length payload ≡ 4076
     → three ≡ mark ++ generation ++ sectors ++ drop 20 zeros → four ≡ put_at 20 payload three

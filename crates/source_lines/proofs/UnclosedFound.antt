@@ -28,7 +28,7 @@ use Rattle.source_lines.proofs.Answered.{all_of, from_step, above_area_a, either
 use Rattle.source_lines.proofs.Answered.{no_mark_in_area_a, same_byte}
 use Rattle.source_lines.proofs.Written.{reading, ending, below_area_b, no_lines, through_is}
 
--- A line from a column on, with the lines behind it: it leaves this literal open, or it is whole and a later one does.
+-- A line from a column on, with the lines after it: it leaves this literal open, or it is whole and a later one does.
 data ThenOpen (before : Option OpenLiteral) (line : Line) (from : ℕ) : List Line → OpenLiteral → Type 0 where
   this_one : {lines : List Line} {literal : OpenLiteral} → Leaves before line from lines literal
       → ThenOpen before line from lines literal

@@ -15,13 +15,13 @@ use Rattle.source_lines.specs.Format.{HasIndicator, BeginsAt, IsSkipped, IsInBod
 use Rattle.source_lines.specs.Paragraph.{begins_dropped}
 use Rattle.source_lines.specs.Reading.{lines_of}
 
--- What stands behind a line doesn't continue it: the text ends, or a plain line with a nonblank comes. A continuation that doesn't
+-- What follows a line doesn't continue it: the text ends, or a plain line with a nonblank comes. A continuation that doesn't
 -- begin with the literal's mark is a fault of its own, and so is a byte in column 7 that is no indicator.
 pub data IsUncontinued : List Line → Type 0 where
   at_end : IsUncontinued []
   plain : {line : Line} {more : List Line} {first : ℕ} → HasIndicator Plain line → BeginsAt line first → IsUncontinued (line ∷ more)
 
--- A line from a column on, where `before` is open before it, with the lines behind it: this literal stays open.
+-- A line from a column on, where `before` is open before it, with the lines after it: this literal stays open.
 pub data Leaves : Option OpenLiteral → Line → ℕ → List Line → OpenLiteral → Type 0 where
   -- it is open at the end of this line, and nothing continues it
   here : {before : Option OpenLiteral} {line : Line} {from : ℕ} {literal : OpenLiteral} {skipped rest : List Line} {given : List Character}

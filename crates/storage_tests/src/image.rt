@@ -27,7 +27,7 @@ pub const FIRST_MAP: usize = 28;
 
 pub const SECOND_MAP: usize = 32;
 
-/// The place behind the two maps.
+/// The place after the two maps.
 pub const BEHIND: usize = 36;
 
 /// The first and the last four bytes of another format's mark.

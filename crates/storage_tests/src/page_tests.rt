@@ -191,7 +191,7 @@ fn a_commit_of_the_catalog(rt: HostRuntime) {
     same(&rt, (volume.catalog(), volume.free_sectors()), (9, 1022));
 }
 
-// Sectors that a commit leaves behind are free for the next: page, map and root change places.
+// Sectors that a commit leaves after are free for the next: page, map and root change places.
 #[test]
 fn sectors_are_used_again(rt: HostRuntime) {
     let mut volume = Volume::empty(&rt, rt.alloc(), 1024);

@@ -31,7 +31,7 @@ enum Found {
     Foreign,
 }
 
-// The mark, the generation and the number of sectors stand in front; what is behind stays.
+// The mark, the generation and the number of sectors stand in front; what is after stays.
 #[test]
 fn a_head_in_front_of_a_payload(rt: HostRuntime) {
     let mut bytes = filled(9);

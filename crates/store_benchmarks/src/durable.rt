@@ -28,7 +28,7 @@ pub fn make(rt: &HostRuntime, path: &str, rows: u32) -> Result<()> {
     Ok(())
 }
 
-/// Inserts so many rows behind those that are there.
+/// Inserts so many rows after those that are there.
 pub fn measure(rt: &HostRuntime, path: &str, rows: u32, count: u32, raw_path: &str) -> Result<()> {
     let volume = HostVolume::open(rt, path, Access::ReadWrite)?;
     let device = NotedDevice::new(rt.alloc(), volume, true);

@@ -14,7 +14,7 @@ pub const NOW: &str = "VmRSS:";
 /// The most that was resident since it was forgotten.
 pub const MOST: &str = "VmHWM:";
 
-/// How many kibibytes are told behind a label; 0 where it isn't there.
+/// How many kibibytes are told after a label; 0 where it isn't there.
 pub fn kibibytes(rt: &HostRuntime, label: &str) -> io::Result<u64> {
     let status = fs::read_to_string(rt, STATUS)?;
     let mut is_next = false;

@@ -287,7 +287,7 @@ impl TreeRun {
         Ok("right".to_string(self.alloc)?)
     }
 
-    /// Goes from the first entry to behind the last, each time by the key of the entry that was answered.
+    /// Goes from the first entry to after the last, each time by the key of the entry that was answered.
     fn walk(&mut self) -> Result<String, Fault> {
         let count = self.there.len();
         let mut answer = self.volume.first(&self.tree)?;

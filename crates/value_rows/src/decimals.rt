@@ -15,7 +15,7 @@ const MOST_SCALE: u8 = 18;
 /// The longest text that is written.
 const MOST_LENGTH: usize = 100;
 
-/// A number as it is written: the digits are its coefficient, and those behind the point its scale.
+/// A number as it is written: the digits are its coefficient, and those after the point its scale.
 pub fn decimal(alloc: Global, words: &[String], at: usize) -> io::Result<Dec> {
     let word = word(words, at)?;
     let (whole, decimals) = word.split_once('.').unwrap_or((word, ""));

@@ -9,7 +9,7 @@ use picture::{Category, Picture};
 use std::alloc::Global;
 use std::io;
 
-/// The item of the picture at that place, and of the words of its usage or its sign behind it.
+/// The item of the picture at that place, and of the words of its usage or its sign after it.
 pub fn numeric(alloc: Global, words: &[String], at: usize) -> io::Result<Numeric>
     ensures { IfOk result IsNumeric }
 {

@@ -116,7 +116,7 @@ fn places(alloc: Global, picture: &Picture) -> io::Result<String> {
     Ok(text)
 }
 
-/// What suppresses zeros, and the places, counted from 0, from the first to the one behind the last.
+/// What suppresses zeros, and the places, counted from 0, from the first to the one after the last.
 fn region(alloc: Global, picture: &Picture) -> io::Result<String> {
     let Some(region) = picture.region() else {
         return Ok(format!(in alloc; "none")?);

@@ -1,4 +1,4 @@
--- What a volume in an image is, but for its files.
+-- What a volume in an image is, except for its files.
 use Rattle.std.specs.Prelude.{◌≡◌, ◌-◌, ℕ, List, Ok}
 use Rattle.station.specs.Disk.{Sector}
 use Rattle.roots.specs.declared.root.Root.{Root}

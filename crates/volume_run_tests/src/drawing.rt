@@ -169,7 +169,7 @@ impl Draw {
         self.start(select.kind)
     }
 
-    // REWRITE and DELETE in sequence come mostly behind a READ.
+    // REWRITE and DELETE in sequence come mostly after a READ.
     fn verb_in_sequence(&mut self, connector: &Connector) -> Verb {
         let select = &connector.select;
         match self.below(16) {

@@ -112,7 +112,7 @@ impl Model {
         }
     }
 
-    /// A file statement, with the MOVEs before and behind it. The answer is its status.
+    /// A file statement, with the MOVEs before and after it. The answer is its status.
     pub fn does(&mut self, rt: &impl Abort, step: &Step) -> Result<Status, AllocError> {
         let mut connector = self.prepared(rt, step);
         let kind = connector.select.kind;

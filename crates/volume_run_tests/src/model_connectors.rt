@@ -161,7 +161,7 @@ impl Connector {
         "00"
     }
 
-    // The row comes into the record area, and the position is behind it.
+    // The row comes into the record area, and the position is after it.
     fn take(&mut self, file: &ModelFile, key: Key, row: Row) -> Status {
         let place = row.place(key);
         self.area = row.bytes;

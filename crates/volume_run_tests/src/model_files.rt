@@ -23,7 +23,7 @@ pub struct Place {
 pub enum Position {
     /// At the first row from this place on.
     From(Place),
-    /// At the first row behind this place, whether or not a row is still there.
+    /// At the first row after this place, whether or not a row is still there.
     Behind(Place),
     Nowhere,
 }

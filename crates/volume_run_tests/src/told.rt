@@ -75,7 +75,7 @@ fn push_rows(to: &mut String, alloc: Global, file: &StoredFile) -> Result<(), Al
 }
 
 /// Its name, its organization, the bytes of a record, and its rows in order, each in brackets and without spaces at its end: before a row of
-/// a relative file its number, and behind a row for each alternate key how many rows came to have their value of it before.
+/// a relative file its number, and after a row for each alternate key how many rows came to have their value of it before.
 fn push_file(to: &mut String, alloc: Global, file: &StoredFile) -> Result<(), AllocError> {
     push_bytes(to, file.spec.name.as_slice())?;
     to.push_str(kind(file.spec.organization))?;

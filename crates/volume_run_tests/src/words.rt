@@ -64,7 +64,7 @@ pub enum Verb {
 /// more. Each other byte of a record is a space.
 pub type Bytes = [u8; 5];
 
-/// What a MOVE sets in a record: all of it, its prime key, or the three bytes behind that.
+/// What a MOVE sets in a record: all of it, its prime key, or the three bytes after that.
 #[derive(Clone, Copy, Debug, PartialEq, Eq)]
 pub enum Part {
     Row,

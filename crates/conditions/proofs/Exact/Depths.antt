@@ -349,7 +349,7 @@ condition_fits depth depth' x i rest s = let one =
 same_word_tail : (i j k : List Token) → word w.Not i j → word w.Not i k → j ≡ k
 same_word_tail i j k (first, is, kind) (other, is', kind') = ap tail (sym is ∙ is')
 
--- behind NOT
+-- after NOT
 negated_fits : (depth depth' : ℕ) (x : Condition) (i i1 rest : List Token) → word w.Not i i1 → g.simple depth' x i rest
     → Fits depth depth' (g.side_reader depth i1)
 negated_fits depth zero x i i1 rest first s = absurd (no_plain zero x i i1 rest first s)
@@ -369,7 +369,7 @@ negated_fits depth (suc n) x i i1 rest first (inr (inl (inner, is, (j, again, s)
 negated_fits depth (suc n) x i i1 rest first (inr (inr (i3, (j, opens, s), t))) =
     absurd (true_not_false (begins_word w.Not i) (left_begins w.Not i j opens) (word_begins w.Not i i1 first))
 
--- behind NOT, where it stands
+-- after NOT, where it stands
 pub condition_behind_not_fits : (depth depth' : ℕ) (x : Condition) (negated : Bool) (i i1 rest : List Token)
     → optional_part (word w.Not) negated i i1 → g.condition depth' x i rest
     → Fits depth depth' (g.side_reader depth i1)

@@ -24,7 +24,7 @@ use Rattle.conditions.specs.Laws.{item_value, NamesAreValues, NoNames}
 use Rattle.conditions.proofs.Exact.Sides.{side_no_word, not_opens_none}
 use Rattle.conditions.proofs.Exact.Depths.{both_not, factor_alone}
 
--- One condition, with no AND, or no OR, behind it.
+-- One condition, with no AND, or no OR, after it.
 module _ (between : Reserved) (node : List Condition → Condition) (lower : Condition → Part) (x : Condition)
     (other : (all : List Condition) → x ≡ node all → ⊥) where
   single : (i rest : List Token) → g.level between node lower x i rest

@@ -239,7 +239,7 @@ plain_complete depth depth' x i rest (inr (inr (inr s))) =
 named_left : (one : Reference) (i i1 : List Token) → reference one i i1 → begins_left i ≡ false
 named_left one i i1 s = begins_not name_in left_in name_left one.item.name i s.1.0 s.1.1
 
--- neither NOT nor a parenthesis that nothing goes on behind
+-- neither NOT nor a parenthesis that nothing goes on after
 abbrev IsPlain : List Token → Type 0
 IsPlain i = (begins_word w.Not i ≡ false) × (begins_left i ≡ true → goes_on_after (past_parentheses i) ≡ true)
 

@@ -60,7 +60,7 @@ further_complete {Allowed = Allowed} =
 further_shrinks : (all : List Subscript) (i rest : List Token) → further all i rest → length rest ≤ length i
 further_shrinks = lists.any_shrinks s.subscript (lookahead s.begins_subscript) subscript_shrinks
 
--- ---- Behind a number stands a colon exactly if it begins a part.
+-- ---- After a number stands a colon exactly if it begins a part.
 
 subscript_no_colon : (one : Subscript) (i rest : List Token) → s.subscript one i rest → begins_colon i ≡ false
 subscript_no_colon (subscript_as.Literal n) i rest found = begins_not s.integer_in colon_in integer_colon n i rest found

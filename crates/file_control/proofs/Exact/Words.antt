@@ -26,7 +26,7 @@ two_words one other differ i a b s t =
     let no_other = begins_no_other one other differ i a s in
     let is_other = word_begins other i b t in cc
 
--- the clause that the first word begins, where it isn't RELATIVE with a key behind it
+-- the clause that the first word begins, where it isn't RELATIVE with a key after it
 abbrev chosen : Bool → List Token → Option ClauseKind
 chosen b i = if b then Some kind.RelativeKey else clause_by_word i
 
