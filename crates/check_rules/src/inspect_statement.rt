@@ -1,4 +1,4 @@
-//! The rules of INSPECT: 64 operands of another kind, replacing texts of unknown or another size, besides those of
+//! The rules of INSPECT: 64 operands of another kind, texts of unknown size and replacing texts of another size, besides those of
 //! references and literals (COBOL-85, Nucleus, "The INSPECT statement").
 
 ghost use Rattle.std.specs.Prelude.{◌≡◌, [], length};
@@ -72,6 +72,17 @@ impl<'a> Checker<'a> {
         }
     }
 
+    /// A text that is counted or replaced, or that limits: its size is known before the run.
+    fn known_text_rules(&self, one: &Operand) -> Result<(), BrokenRule>
+        requires { IsDeclared self.now.declarations.now }
+        ensures { IsFirstBreach result
+            (spec.known_text_rules (items_in self.now.declarations.now) one.now) }
+    {
+        self.inspected_rules(one)?;
+        let size = self.size_of(one);
+        Rule::InspectOperand.broken_if(size.is_unknown(), operand_place(one))
+    }
+
     /// What replaces a text of that size.
     fn by_rules(&self, size: TextSize, by: &Operand) -> Result<(), BrokenRule>
         requires { IsDeclared self.now.declarations.now }
@@ -90,7 +101,7 @@ impl<'a> Checker<'a> {
     {
         match one {
             None => Ok(()),
-            Some(one) => self.inspected_rules(one),
+            Some(one) => self.known_text_rules(one),
         }
     }
 
@@ -125,7 +136,7 @@ impl<'a> Checker<'a> {
         ensures { IsFirstBreach result
             (spec.tallied_text_rules (items_in self.now.declarations.now) one.now) }
     {
-        self.inspected_rules(&one.text)?;
+        self.known_text_rules(&one.text)?;
         self.limits_rules(&one.limits)
     }
 
@@ -188,7 +199,7 @@ impl<'a> Checker<'a> {
         ensures { IsFirstBreach result
             (spec.replaced_text_rules (items_in self.now.declarations.now) one.now) }
     {
-        self.inspected_rules(&one.text)?;
+        self.known_text_rules(&one.text)?;
         self.by_rules(self.size_of(&one.text), &one.by)?;
         self.limits_rules(&one.limits)
     }

@@ -37,6 +37,13 @@ impl TextSize {
         }
     }
 
+    /// No literal says the size.
+    pub fn is_unknown(self) -> bool
+        ensures { result ≡ tree.is_unknown (spec.text_size_of self) }
+    {
+        matches!(self, TextSize::Unknown)
+    }
+
     /// A text of the other size may replace one of this: a text of unknown size replaces none, and a figurative constant alone
     /// replaces it.
     pub fn may_be_replaced_by(self, other: TextSize) -> bool

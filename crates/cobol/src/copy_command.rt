@@ -8,7 +8,7 @@ use host_volume::{Access, HostDevice, HostVolume, NewVolume, Replacement};
 use std::fs::File;
 use std::rt::Files;
 use std::time::Clock;
-use volume_copies::{Copied, VolumeCopy, copy_volume};
+use volume_copies::{VolumeCopy, copy_volume};
 
 /// Makes a volume of so many sectors at the path `new`, with the files of the volume at the path `old`. It has that path only once it is
 /// whole. Until then, and after a refusal, what was there stays.
@@ -57,15 +57,15 @@ where
     let volume = new
         .fill(rt.alloc(), sectors, |_| {})
         .map_err(Verdict::refusing_device)?;
-    let device = HostDevice::with_roots_last(rt.alloc(), volume);
+    let mut device = HostDevice::with_roots_last(rt.alloc(), volume);
     let mut watched = Watched {
         rt,
         progress: Progress::new(rt, &*err, 100),
         err,
     };
-    let Copied { device, copy } = copy_volume(rt.alloc(), old, device, &mut watched);
+    let copied = copy_volume(rt.alloc(), old, &mut device, &mut watched);
     watched.end();
-    match copy {
+    match copied {
         Ok(VolumeCopy::Done) => device.into_volume().map_err(|_| Verdict::device()),
         Ok(VolumeCopy::Different) => Err(Verdict::device()),
         Err(error) => Err(Verdict::refusing_copy(error)),

@@ -27,8 +27,6 @@ use Rattle.data_instructions.specs.declared.tables.DataItem.{DataItem}
 use Rattle.data_instructions.specs.declared.tables.DataTables.{DataTables}
 use Rattle.data_instructions.specs.declared.calculation.Calculation.TheVariants as c
 use Rattle.data_instructions.specs.declared.part.Part.TheVariants as part
-use Rattle.data_instructions.specs.declared.gather.Gather.TheVariants as gather
-use Rattle.data_instructions.specs.declared.instruction.DataInstruction.{DataInstruction}
 use Rattle.data_instructions.specs.declared.instruction.DataInstruction.TheVariants as i
 use Rattle.data_instructions.specs.declared.test.Test.TheVariants as t
 use Rattle.data_instructions.specs.Shapes.{empty}
@@ -915,26 +913,6 @@ mark_of_a_conversion = refl
 conversion_again : code_at (code_bytes with_conversion) ≡ Ok with_conversion
 unfolding reading
 conversion_again = refl
-
--- and code with a text that is measured
-abbrev with_measured : DataInstruction → Code
-with_measured one = record { tables = with_texts []; files = []; starts = []; instructions = Data one ∷ [] }
-
-mark_of_a_measured_text : take 8 (code_bytes (with_measured (i.Gather gather.Measured))) ≡ codes "COBIMG02"
-mark_of_a_measured_text = refl
-
-mark_of_a_measured_inspection :
-    take 8 (code_bytes (with_measured (i.InspectMeasured (record { number = 0 }) 2))) ≡ codes "COBIMG02"
-mark_of_a_measured_inspection = refl
-
-mark_of_a_measured_conversion :
-    take 8 (code_bytes (with_measured (i.ConvertMeasured (record { number = 0 }) 2))) ≡ codes "COBIMG02"
-mark_of_a_measured_conversion = refl
-
-measured_again : code_at (code_bytes (with_measured (i.InspectMeasured (record { number = 0 }) 2)))
-    ≡ Ok (with_measured (i.InspectMeasured (record { number = 0 }) 2))
-unfolding reading
-measured_again = refl
 
 -- not under the first mark, and code without one not under the second
 part_of_the_first : code_at (mark false ++ drop 8 (code_bytes with_part)) ≡ Err faults.Value

@@ -313,7 +313,6 @@ begins_data (i.Gather g.UpToPlace) rest = refl
 begins_data (i.Gather (g.UpToText delimiter)) rest = refl
 begins_data (i.Gather (g.TextUpToPlace text)) rest = refl
 begins_data (i.Gather g.Sized) rest = refl
-begins_data (i.Gather g.Measured) rest = refl
 begins_data (i.String false) rest = refl
 begins_data (i.String true) rest = refl
 begins_data (i.Part (p.Fixed size)) rest = refl
@@ -321,8 +320,6 @@ begins_data (i.Part p.Counted) rest = refl
 begins_data (i.Part p.Rest) rest = refl
 begins_data (i.Inspect inspection) rest = refl
 begins_data (i.Convert inspection) rest = refl
-begins_data (i.InspectMeasured inspection numbers) rest = refl
-begins_data (i.ConvertMeasured inspection numbers) rest = refl
 
 data_again : (one : DataInstruction) (rest : List ℕ) → HasShorts one
     → instruction_at (data_instruction_bytes one ++ rest) ≡ Ok (Data one, rest)

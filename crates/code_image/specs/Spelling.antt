@@ -1,9 +1,7 @@
 -- The one spelling of code (own choice).
 use Rattle.std.specs.Prelude.{ℕ, Bool, true, false, List, [], ◌∷◌, ◌++◌}
 use Rattle.std.specs.List.{list_any}
-use Rattle.data_instructions.specs.declared.gather.Gather.TheVariants.{Measured}
-use Rattle.data_instructions.specs.declared.instruction.DataInstruction.TheVariants.{Part, Convert, Gather}
-use Rattle.data_instructions.specs.declared.instruction.DataInstruction.TheVariants.{InspectMeasured, ConvertMeasured}
+use Rattle.data_instructions.specs.declared.instruction.DataInstruction.TheVariants.{Part, Convert}
 use Rattle.data_image.specs.Spelling.{count_bytes, short_bytes, table_bytes, IsByte, IsCount, FitsFourBytes, AreSpelled}
 use Rattle.data_image.specs.Tables.{tables_bytes, HasTables}
 use Rattle.data_image.specs.Instructions.{data_instruction_bytes, HasShorts}
@@ -23,13 +21,10 @@ version_byte true = 50
 abbrev pub mark : Bool → List ℕ
 mark second = 67 ∷ 79 ∷ 66 ∷ 73 ∷ 77 ∷ 71 ∷ 48 ∷ version_byte second ∷ []
 
--- Images of the first version have no parts, no texts that are measured, and no conversions.
+-- Images of the first version have no parts and no conversions.
 abbrev pub needs_second : Instruction → Bool
 needs_second (Data (Part one)) = true
 needs_second (Data (Convert inspection)) = true
-needs_second (Data (Gather Measured)) = true
-needs_second (Data (InspectMeasured inspection numbers)) = true
-needs_second (Data (ConvertMeasured inspection numbers)) = true
 needs_second _ = false
 
 -- The version is the first that has each of the instructions.

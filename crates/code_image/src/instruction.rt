@@ -14,7 +14,7 @@ use crate::paragraph::ParagraphIndex;
 use data_image::{
     ImageError, ImageFault, TableEntry, put_count, put_short, read_byte, read_count, read_short,
 };
-use data_instructions::{DataInstruction, DataTables, Gather};
+use data_instructions::{DataInstruction, DataTables};
 use file_image::{FileIndex, StatusClass, put_class, put_verb, read_class, read_verb};
 use records::Verb;
 use std::alloc::{AllocError, Global};
@@ -94,13 +94,7 @@ impl Instruction {
     {
         matches!(
             self,
-            Instruction::Data(
-                DataInstruction::Part(_)
-                    | DataInstruction::Convert { .. }
-                    | DataInstruction::Gather(Gather::Measured)
-                    | DataInstruction::InspectMeasured { .. }
-                    | DataInstruction::ConvertMeasured { .. }
-            )
+            Instruction::Data(DataInstruction::Part(_) | DataInstruction::Convert { .. })
         )
     }
 

@@ -15,6 +15,7 @@ use Rattle.source_tree.specs.declared.expression.Operand.TheVariants as operand
 use Rattle.source_tree.specs.declared.table.Dimension.{Dimension}
 use Rattle.source_tree.specs.declared.data_statement.DataStatement.{DataStatement}
 use Rattle.source_tree.specs.declared.data_statement.DataStatement.TheVariants.{Move, Initialize, Set}
+use Rattle.source_tree.specs.declared.inspect_statement.Converting.{Converting}
 use Rattle.source_tree.specs.declared.inspect_statement.InspectStatement.{InspectStatement}
 use Rattle.source_tree.specs.Converting.{as_replacing}
 use Rattle.source_tree.specs.declared.text_statement.TextStatement.{TextStatement}
@@ -27,10 +28,9 @@ use Rattle.source_tree.specs.InspectLayout.{InspectArgument, found_size, takings
 use Rattle.source_tree.specs.Integers.{number_of}
 use Rattle.source_tree.specs.Literals.{literal_sender}
 use Rattle.source_tree.specs.LookUp.{all_conditions}
-use Rattle.source_tree.specs.MeasuredTexts.{room_of}
 use Rattle.source_tree.specs.Places.{LocatedItem}
 use Rattle.data_instructions.specs.declared.calculation.Calculation.TheVariants as c
-use Rattle.data_instructions.specs.declared.index.InspectionIndex.{InspectionIndex}
+use Rattle.data_instructions.specs.declared.gather.Gather.TheVariants as g
 use Rattle.data_instructions.specs.declared.part.Part.TheVariants as made
 use Rattle.data_instructions.specs.declared.tables.DataItem.{DataItem}
 use Rattle.data_instructions.specs.declared.tables.Inspection.{Inspection}
@@ -40,7 +40,6 @@ use Rattle.data_instructions.specs.declared.instruction.DataInstruction.{DataIns
 use Rattle.data_instructions.specs.declared.instruction.DataInstruction.TheVariants as i
 use Rattle.data_instructions.specs.Codes.{integer, index_code}
 use Rattle.data_instructions.specs.TextCodes.{new_byte, new_mark}
-use Rattle.data_instructions.specs.InspectCodes.{gather_by, taken_numbers, inspect_by, convert_by}
 use Rattle.code_image.specs.declared.code.Code.{Code}
 use Rattle.code_image.specs.declared.instruction.Instruction.TheVariants as instruction
 use Rattle.codegen.specs.Fragments.{Fragment, no_tables, empty_code, joined_tables, append, sequence, in_order}
@@ -54,7 +53,8 @@ use Rattle.codegen.specs.DataCode.{place_fragment, unknown_fragment, making_frag
 use Rattle.codegen.specs.ConditionCode.{condition_number, condition_item}
 use Rattle.codegen.specs.PatternCode.{overlay_fragment, pattern_fragment, pattern_of, set_of, initialize_fragment}
 use Rattle.codegen.specs.PatternCode.{set_fragment}
-use Rattle.codegen.specs.InspectCode.{inspecting_fragment, inspection_entry, taken_fragment, takings_fragment}
+use Rattle.codegen.specs.InspectCode.{inspection_fragment, inspection_entry, taken_fragment, takings_fragment}
+use Rattle.codegen.specs.InspectCode.{inspect_fragment, conversion_fragment, convert_fragment}
 use Rattle.codegen.specs.Layout.{data_fragment, texts_fragment}
 
 -- Two codes that no piece tells apart: the same tables, and as many instructions.
@@ -155,12 +155,20 @@ entry_blind one = tables_blind (λ (t : DataTables). record {
   instructions = instruction.Data (i.Place (record { number = length t.items })) ∷ [];
 })
 
-inspecting_blind : (make : InspectionIndex → DataInstruction) (one : Inspection) → Blind (inspecting_fragment make one)
-inspecting_blind make one = tables_blind (λ (t : DataTables). record {
+inspection_blind : (one : Inspection) → Blind (inspection_fragment one)
+inspection_blind one = tables_blind (λ (t : DataTables). record {
   tables = record no_tables { inspections = one ∷ [] };
   files = [];
   starts = [];
-  instructions = instruction.Data (make (record { number = length t.inspections })) ∷ [];
+  instructions = instruction.Data (i.Inspect (record { number = length t.inspections })) ∷ [];
+})
+
+conversion_blind : (one : Inspection) → Blind (conversion_fragment one)
+conversion_blind one = tables_blind (λ (t : DataTables). record {
+  tables = record no_tables { inspections = one ∷ [] };
+  files = [];
+  starts = [];
+  instructions = instruction.Data (i.Convert (record { number = length t.inspections })) ∷ [];
 })
 
 literal_blind : (value : LiteralValue) → Blind (literal_fragment value)
@@ -278,19 +286,27 @@ module _ (items : List LocatedItem) where
 
   taken_blind : (one : InspectArgument) → Blind (taken_fragment items one)
   taken_blind (layout.Counter one) = reference_blind one
-  taken_blind (layout.Text (layout.Bytes one)) = taking_blind (i.Gather (gather_by (room_of items one))) one
+  taken_blind (layout.Text (layout.Bytes one)) = taking_blind (i.Gather g.Sized) one
   taken_blind (layout.Text (layout.Characters text)) = text_blind text
 
-  -- the place of a subject, and all of an inspection
-  subject_blind : (subject : Reference) (make : InspectionIndex → DataInstruction) (one : InspectStatement)
-      → Blind (sequence (reference_fragment items subject) (sequence (takings_fragment items (takings items one))
-      (inspecting_fragment make (inspection_entry items one))))
-  subject_blind subject make one =
+  inspect_blind : (one : InspectStatement) → Blind (inspect_fragment items one)
+  inspect_blind one =
+      let subject = reference_fragment items one.subject in
       let parts = takings_fragment items (takings items one) in
-      let last = inspecting_fragment make (inspection_entry items one) in
-      both_blind (reference_fragment items subject) (sequence parts last) (reference_blind subject)
+      let last = inspection_fragment (inspection_entry items one) in
+      both_blind subject (sequence parts last) (reference_blind one.subject)
       (both_blind parts last (in_order_blind (taken_fragment items) (λ one. taken_blind one) (takings items one))
-      (inspecting_blind make (inspection_entry items one)))
+      (inspection_blind (inspection_entry items one)))
+
+  convert_blind : (one : Converting) → Blind (convert_fragment items one)
+  convert_blind one =
+      let replacing = as_replacing one in
+      let subject = reference_fragment items one.subject in
+      let parts = takings_fragment items (takings items replacing) in
+      let last = conversion_fragment (inspection_entry items replacing) in
+      both_blind subject (sequence parts last) (reference_blind one.subject)
+      (both_blind parts last (in_order_blind (taken_fragment items) (λ one. taken_blind one) (takings items replacing))
+      (conversion_blind (inspection_entry items replacing)))
 
   pub texts_blind : (one : TextStatement) → Blind (texts_fragment items one)
   texts_blind (Display operands advancing) =
@@ -304,8 +320,5 @@ module _ (items : List LocatedItem) where
   texts_blind (AcceptDate receiver) =
       both_blind (reference_fragment items receiver) (λ before. plain_code (instruction.Date ∷ []))
       (reference_blind receiver) (constant_blind (plain_code (instruction.Date ∷ [])))
-  texts_blind (Inspect one) =
-      subject_blind one.subject (λ index. inspect_by index (taken_numbers items (takings items one))) one
-  texts_blind (Convert one) =
-      let as_one = as_replacing one in
-      subject_blind one.subject (λ index. convert_by index (taken_numbers items (takings items as_one))) as_one
+  texts_blind (Inspect one) = inspect_blind one
+  texts_blind (Convert one) = convert_blind one

@@ -12,23 +12,22 @@ use Rattle.source_tree.specs.Broken.{RuleBreach}
 use Rattle.source_tree.specs.InspectRules.{counter_item, inspected_item, inspect_rules}
 use Rattle.source_tree.specs.InspectLayout.{Source, Bytes, Characters, InspectArgument, Counter, Text, takings}
 use Rattle.source_tree.specs.InspectLayout.{inspection, inspected_size}
-use Rattle.source_tree.specs.MeasuredTexts.{room_of}
 use Rattle.source_tree.specs.NameRules.{reference_rules}
 use Rattle.source_tree.specs.Places.{LocatedItem}
 use Rattle.source_tree.proofs.InspectConverting.{as_replacing_rules}
 use Rattle.data_instructions.specs.declared.index.InspectionIndex.{InspectionIndex}
+use Rattle.data_instructions.specs.declared.gather.Gather.TheVariants as g
 use Rattle.data_instructions.specs.declared.instruction.DataInstruction.{DataInstruction}
 use Rattle.data_instructions.specs.declared.instruction.DataInstruction.TheVariants as i
 use Rattle.data_instructions.specs.Codes.{data_item, IsReferenceCode}
 use Rattle.data_instructions.specs.Chains.{LiesWhole}
 use Rattle.data_instructions.specs.InspectCodes.{IsTakenCode, AreTakenCode, HasInspection, IsInspectCode, LiesTaking}
-use Rattle.data_instructions.specs.InspectCodes.{LieTakings, LiesInspect, IsConvertCode, gather_by, taken_numbers}
-use Rattle.data_instructions.specs.InspectCodes.{inspect_by, convert_by}
+use Rattle.data_instructions.specs.InspectCodes.{LieTakings, LiesInspect, IsConvertCode}
 use Rattle.code_image.specs.declared.code.Code.{Code}
 use Rattle.codegen.specs.Fragments.{sequence}
 use Rattle.codegen.specs.DataCode.{reference_fragment}
-use Rattle.codegen.specs.InspectCode.{inspecting_fragment, taken_fragment, takings_fragment, inspection_entry}
-use Rattle.codegen.specs.InspectCode.{inspect_fragment, convert_fragment}
+use Rattle.codegen.specs.InspectCode.{inspection_fragment, taken_fragment, takings_fragment, inspection_entry}
+use Rattle.codegen.specs.InspectCode.{inspect_fragment, conversion_fragment, convert_fragment}
 use Rattle.codegen.proofs.Codes.{reference_coded, text_coded}
 use Rattle.codegen.proofs.CodedPieces.{CodedBy, both_by}
 use Rattle.codegen.proofs.ExpressionCodes.{taking_codes}
@@ -45,7 +44,7 @@ module _ (items : List LocatedItem) where
   all_may : (one : InspectStatement) → inspect_rules items one ≡ []
       → AllByRecursion (KeepsTaking items MayBeTaken) (takings items one)
   all_may one e =
-      takings_keep items MayBeTaken (λ one e. e) (λ one e. tt) (λ constant. tt) (λ text h constant. tt) one
+      takings_keep items MayBeTaken (λ one e known. e) (λ one e. tt) (λ constant. tt) (λ text h constant. tt) one
       (keeps_inspect items one e)
 
   module _ (whole : Code) (entries : (n : ℕ) (one : LocatedItem) → slice_get items n ≡ Some one
@@ -58,8 +57,7 @@ module _ (items : List LocatedItem) where
     taken_codes : (one : InspectArgument) → KeepsTaking items MayBeTaken one
         → CodedBy whole (IsTakenCode items whole.tables one) (taken_fragment items one)
     taken_codes (Counter one) e = place_codes counter_item one e
-    taken_codes (Text (Bytes one)) e =
-        taking_codes items whole entries (i.Gather (gather_by (room_of items one))) inspected_item one e
+    taken_codes (Text (Bytes one)) e = taking_codes items whole entries (i.Gather g.Sized) inspected_item one e
     taken_codes (Text (Characters text)) e = record { by = λ before st. text_coded items whole entries text before st }
 
     takings_codes : (all : List InspectArgument) → AllByRecursion (KeepsTaking items MayBeTaken) all
@@ -71,25 +69,24 @@ module _ (items : List LocatedItem) where
         (taken_fragment items one) (takings_fragment items more) (taken_codes one e.0) (takings_codes more e.1)
         (λ front back is others. (front, is, back, others, refl))
 
-    -- the instruction that has the entry
-    abbrev IsLastCode : (InspectionIndex → DataInstruction) → InspectStatement → List DataInstruction → Type 0
-    IsLastCode instruction one code =
+    abbrev IsLastCode : InspectStatement → List DataInstruction → Type 0
+    IsLastCode one code =
         (index : InspectionIndex) × HasInspection items whole.tables (inspection items one) (inspected_size items one)
-        index × (code ≡ instruction index ∷ [])
+        index × (code ≡ i.Inspect index ∷ [])
 
-    last_codes : (instruction : InspectionIndex → DataInstruction) (one : InspectStatement)
-        → CodedBy whole (IsLastCode instruction one) (inspecting_fragment instruction (inspection_entry items one))
-    last_codes instruction one = record {
+    last_codes : (one : InspectStatement)
+        → CodedBy whole (IsLastCode one) (inspection_fragment (inspection_entry items one))
+    last_codes one = record {
       by = λ before st.
           let entry = inspection_entry items one in
           record {
-            code = instruction (record { number = length before.tables.inspections }) ∷ [];
+            code = i.Inspect (record { number = length before.tables.inspections }) ∷ [];
             is = refl;
             holds = (
               _,
               record {
                 one = entry;
-                entry = inspection_stands whole before (inspecting_fragment instruction entry before) entry [] refl st;
+                entry = inspection_stands whole before (inspection_fragment entry before) entry [] refl st;
                 is = refl;
                 size_is = refl;
               },
@@ -98,51 +95,76 @@ module _ (items : List LocatedItem) where
           };
     }
 
-    -- all after the subject's place
-    abbrev IsBehindCode : (InspectionIndex → DataInstruction) → InspectStatement → List DataInstruction → Type 0
-    IsBehindCode instruction one code =
+    abbrev IsBehindCode : InspectStatement → List DataInstruction → Type 0
+    IsBehindCode one code =
         (parts : List DataInstruction) × AreTakenCode items whole.tables (takings items one) parts
         × (index : InspectionIndex) × HasInspection items whole.tables (inspection items one) (inspected_size items one)
-        index × (code ≡ parts ++ (instruction index ∷ []))
-
-    behind_codes : (instruction : InspectionIndex → DataInstruction) (one : InspectStatement)
-        → inspect_rules items one ≡ []
-        → CodedBy whole (IsBehindCode instruction one) (sequence (takings_fragment items (takings items one))
-        (inspecting_fragment instruction (inspection_entry items one)))
-    behind_codes instruction one e =
-        let parts = takings_fragment items (takings items one) in
-        let last = inspecting_fragment instruction (inspection_entry items one) in
-        both_by whole (AreTakenCode items whole.tables (takings items one)) (IsLastCode instruction one)
-        (IsBehindCode instruction one) parts last
-        (takings_codes (takings items one) (all_may one e)) (last_codes instruction one)
-        (λ front back is found. (front, is, found.0, found.1, ap (λ l. front ++ l) found.2))
+        index × (code ≡ parts ++ (i.Inspect index ∷ []))
 
     pub inspect_codes : (one : InspectStatement) → inspect_rules items one ≡ []
         → CodedBy whole (IsInspectCode items whole.tables one) (inspect_fragment items one)
     inspect_codes one e =
-        let numbers = taken_numbers items (takings items one) in
-        let instruction : InspectionIndex → DataInstruction = λ index. inspect_by index numbers in
-        both_by whole (IsReferenceCode items whole.tables one.subject) (IsBehindCode instruction one)
-        (IsInspectCode items whole.tables one) (reference_fragment items one.subject)
-        (sequence (takings_fragment items (takings items one))
-        (inspecting_fragment instruction (inspection_entry items one)))
-        (place_codes inspected_item one.subject (keeps_inspect items one e).subject) (behind_codes instruction one e)
+        let subject = reference_fragment items one.subject in
+        let parts = takings_fragment items (takings items one) in
+        let last = inspection_fragment (inspection_entry items one) in
+        both_by whole (IsReferenceCode items whole.tables one.subject) (IsBehindCode one)
+        (IsInspectCode items whole.tables one) subject (sequence parts last)
+        (place_codes inspected_item one.subject (keeps_inspect items one e).subject)
+        (both_by whole (AreTakenCode items whole.tables (takings items one)) (IsLastCode one) (IsBehindCode one) parts
+        last
+        (takings_codes (takings items one) (all_may one e)) (last_codes one)
+        (λ front back is found. (front, is, found.0, found.1, ap (λ l. front ++ l) found.2)))
         (λ front back is others. (front, is, others.0, others.1, others.2, others.3, ap (λ l. front ++ l) others.4))
 
-    -- CONVERTING takes the same, and ends with another instruction.
+    -- ---- CONVERTING takes the same, and ends with another instruction
+
+    abbrev IsLastConversion : InspectStatement → List DataInstruction → Type 0
+    IsLastConversion one code =
+        (index : InspectionIndex) × HasInspection items whole.tables (inspection items one) (inspected_size items one)
+        index × (code ≡ i.Convert index ∷ [])
+
+    conversion_codes : (one : InspectStatement)
+        → CodedBy whole (IsLastConversion one) (conversion_fragment (inspection_entry items one))
+    conversion_codes one = record {
+      by = λ before st.
+          let entry = inspection_entry items one in
+          record {
+            code = i.Convert (record { number = length before.tables.inspections }) ∷ [];
+            is = refl;
+            holds = (
+              _,
+              record {
+                one = entry;
+                entry = inspection_stands whole before (conversion_fragment entry before) entry [] refl st;
+                is = refl;
+                size_is = refl;
+              },
+              refl,
+            );
+          };
+    }
+
+    abbrev IsBehindSubject : InspectStatement → List DataInstruction → Type 0
+    IsBehindSubject one code =
+        (parts : List DataInstruction) × AreTakenCode items whole.tables (takings items one) parts
+        × (index : InspectionIndex) × HasInspection items whole.tables (inspection items one) (inspected_size items one)
+        index × (code ≡ parts ++ (i.Convert index ∷ []))
+
     pub convert_codes : (one : Converting) → convert_rules items one ≡ []
         → CodedBy whole (IsConvertCode items whole.tables one) (convert_fragment items one)
     convert_codes one e =
         let as_one = as_replacing one in
         let rules = as_replacing_rules items one e in
-        let numbers = taken_numbers items (takings items as_one) in
-        let instruction : InspectionIndex → DataInstruction = λ index. convert_by index numbers in
-        both_by whole (IsReferenceCode items whole.tables one.subject) (IsBehindCode instruction as_one)
-        (IsConvertCode items whole.tables one) (reference_fragment items one.subject)
-        (sequence (takings_fragment items (takings items as_one))
-        (inspecting_fragment instruction (inspection_entry items as_one)))
+        let subject = reference_fragment items one.subject in
+        let parts = takings_fragment items (takings items as_one) in
+        let last = conversion_fragment (inspection_entry items as_one) in
+        both_by whole (IsReferenceCode items whole.tables one.subject) (IsBehindSubject as_one)
+        (IsConvertCode items whole.tables one) subject (sequence parts last)
         (place_codes inspected_item one.subject (keeps_inspect items as_one rules).subject)
-        (behind_codes instruction as_one rules)
+        (both_by whole (AreTakenCode items whole.tables (takings items as_one)) (IsLastConversion as_one)
+        (IsBehindSubject as_one) parts last
+        (takings_codes (takings items as_one) (all_may as_one rules)) (conversion_codes as_one)
+        (λ front back is found. (front, is, found.0, found.1, ap (λ l. front ++ l) found.2)))
         (λ front back is others. (front, is, others.0, others.1, others.2, others.3, ap (λ l. front ++ l) others.4))
 
     -- ---- areas

@@ -1,7 +1,7 @@
 -- What the rules of INSPECT say of its texts and entries.
 use Rattle.std.proofs.Common.{◌≡◌, ℕ, Bool, true, false, List, [], ◌∷◌, ◌++◌, map, Option, Some, None, refl, sym, ap}
-use Rattle.std.proofs.Common.{◌+◌, ◌∙◌}
-use Rattle.std.specs.Prelude.{replicate, slice_get, not, is_some}
+use Rattle.std.proofs.Common.{subst, ◌∙◌}
+use Rattle.std.specs.Prelude.{replicate, slice_get, not}
 use Rattle.std.specs.List.{AllByRecursion}
 use Rattle.source_tree.specs.declared.literal.Figurative.{Figurative}
 use Rattle.source_tree.specs.declared.literal.LiteralValue.{LiteralValue}
@@ -21,31 +21,29 @@ use Rattle.source_tree.specs.declared.inspect_statement.ReplacedText.{ReplacedTe
 use Rattle.source_tree.specs.declared.inspect_statement.Replacing.{Replacing}
 use Rattle.source_tree.specs.declared.inspect_statement.Replacing.TheVariants as replacing
 use Rattle.source_tree.specs.declared.inspect_statement.InspectStatement.{InspectStatement}
-use Rattle.source_tree.specs.Broken.{RuleBreach, each}
+use Rattle.source_tree.specs.Broken.{RuleBreach, where_so, each}
+use Rattle.source_tree.specs.ConditionRules.{operand_place}
 use Rattle.source_tree.specs.Display.{figurative_byte, shown_literal}
 use Rattle.source_tree.specs.LookUp.{items_named, first}
 use Rattle.source_tree.specs.NameRules.{reference_rules}
-use Rattle.source_tree.specs.Parts.{known_length, seen_through}
+use Rattle.source_tree.specs.Parts.{seen_through}
 use Rattle.source_tree.specs.Places.{LocatedItem}
-use Rattle.codegen.specs.ItemParts.{length_shown, has_room, is_measured}
+use Rattle.codegen.specs.ItemParts.{length_shown}
 use Rattle.source_tree.specs.InspectRules.{counter_item, inspected_item, inspected_literal, inspected_rules, size_of}
 use Rattle.source_tree.specs.InspectRules.{by_rules, limit_rules, ordered_limits, limits_rules, tallied_text_rules}
 use Rattle.source_tree.specs.InspectRules.{tallied_rules, tallying_rules, replaced_text_rules, replacing_rules}
-use Rattle.source_tree.specs.InspectRules.{inspect_rules, TextSize, Exactly}
+use Rattle.source_tree.specs.InspectRules.{inspect_rules, TextSize, AnySize, Exactly, Unknown, size_by, size_seen}
+use Rattle.source_tree.specs.InspectRules.{only_size, replacing_size, may_replace, is_unknown, known_text_rules}
 use Rattle.source_tree.specs.InspectLayout.{Source, Bytes, Characters, InspectArgument, Counter, Text, source}
 use Rattle.source_tree.specs.InspectLayout.{found_size, text_size, replacing_literal, replacing_text, EntryPattern, Any}
 use Rattle.source_tree.specs.InspectLayout.{Occurs, InspectEntry, tallied_text, replaced_text, all_inspected}
 use Rattle.source_tree.specs.InspectLayout.{tallied_entries, counter_entries, replacing_entries, what_texts, by_texts}
 use Rattle.source_tree.specs.InspectLayout.{limit_text, limit_texts, entry_texts, entries_texts, tallying_takings}
-use Rattle.source_tree.specs.InspectLayout.{all_replaced, takings, count_of, measured_texts}
-use Rattle.source_tree.specs.MeasuredTexts.{room_by, part_room, room_of}
-use Rattle.data_instructions.specs.declared.gather.Gather.{Gather}
-use Rattle.data_instructions.specs.declared.instruction.DataInstruction.TheVariants as i
-use Rattle.data_instructions.specs.InspectCodes.{gather_by}
-use Rattle.code_image.specs.declared.code.Code.{Code}
-use Rattle.codegen.specs.DataCode.{item_number, take_fragment}
-use Rattle.codegen.specs.InspectCode.{gather, one_if, taken_fragment}
+use Rattle.source_tree.specs.InspectLayout.{all_replaced, takings, HasKnownLength, HasKnownSize, IsOfKnownSize}
+use Rattle.source_tree.specs.InspectLayout.{HasKnownTexts}
+use Rattle.codegen.specs.DataCode.{item_number}
 use Rattle.codegen.proofs.Codes.{left_none, right_none, only_named, item_there}
+use Rattle.codegen.proofs.Integers.{kept, not_false}
 use Rattle.codegen.proofs.Straight.{all_both}
 
 -- ---- the parts of a statement
@@ -73,43 +71,43 @@ module _ (items : List LocatedItem) where
       ap (length_shown one) (item_there items one.item found.0 found.1)
       ∙ sym (ap (λ l. found_size (first (map (seen_through one) l))) found.1)
 
--- ---- texts that are measured
+-- ---- sizes
 
-room_by_is : (size : ℕ) (length : Option ℕ) → not (is_some length) ≡ is_some (room_by size length)
-room_by_is size None = refl
-room_by_is size (Some length) = refl
+size_known : (found : LocatedItem) (part : Option Part) → is_unknown (size_seen found.item.length part) ≡ false
+    → HasKnownLength (Some found) part
+size_known found None e = tt
+size_known found (Some part) e = λ n. let k = ap (λ size. is_unknown (size_by size)) n in cc
 
-part_room_is : (found : LocatedItem) (part : Option Part)
-    → has_room found.item.length part ≡ is_some (part_room (Some found) part)
-part_room_is found None = refl
-part_room_is found (Some part) = room_by_is found.item.length (known_length found.item.length part.first part.length)
+-- A text of unknown size replaces none.
+replacing_known : (size by : TextSize) → may_replace size by ≡ true → is_unknown by ≡ false
+replacing_known size AnySize e = refl
+replacing_known size (Exactly other) e = refl
+replacing_known AnySize Unknown e = absurd cc
+replacing_known (Exactly one) Unknown e = absurd cc
+replacing_known Unknown Unknown e = absurd cc
 
-gather_is : (room : Option ℕ) (measured : Bool) → measured ≡ is_some room → gather measured ≡ gather_by room
-gather_is None measured e = ap gather e
-gather_is (Some room) measured e = ap gather e
-
-count_is : (room : Option ℕ) (measured : Bool) → measured ≡ is_some room → one_if measured ≡ count_of room + 0
-count_is None measured e = ap one_if e
-count_is (Some room) measured e = ap one_if e
-
-module _ (items : List LocatedItem) (one : Reference) where
-  room_shown : reference_rules items inspected_item one ≡ []
-      → is_measured one (slice_get items (item_number items one.item)) ≡ is_some (room_of items one)
-  room_shown e =
+module _ (items : List LocatedItem) where
+  known_item : (one : Reference) → reference_rules items inspected_item one ≡ []
+      → is_unknown (only_size one.part (items_named items one.item)) ≡ false → HasKnownSize items (Bytes one)
+  known_item one e known =
       let found = only_named one.item.name.place _ (items_named items one.item) (left_none _ _ e) in
-      ap (is_measured one) (item_there items one.item found.0 found.1) ∙ part_room_is found.0 one.part
-      ∙ sym (ap (λ l. is_some (part_room (first l) one.part)) found.1)
+      subst (λ all. HasKnownLength (first all) one.part) (sym found.1) (size_known found.0 one.part
+      (subst (λ all. is_unknown (only_size one.part all) ≡ false) found.1 known))
 
-  pub taken_once : (measured : Bool) (before : Code) → reference_rules items inspected_item one ≡ []
-      → measured ≡ is_measured one (slice_get items (item_number items one.item))
-      → take_fragment items (i.Gather (gather measured)) one before ≡ taken_fragment items (Text (Bytes one)) before
-  taken_once measured before e is = ap (λ (g : Gather). take_fragment items (i.Gather g) one before)
-      (gather_is (room_of items one) measured (is ∙ room_shown e))
+  inspected_kept : (one : Operand) → known_text_rules items one ≡ [] → inspected_rules items one ≡ []
+  inspected_kept one e =
+      left_none (inspected_rules items one) (where_so (is_unknown (size_of items one)) 64 (operand_place one)) e
 
-  pub measured_once : (measured : Bool) → reference_rules items inspected_item one ≡ []
-      → measured ≡ is_measured one (slice_get items (item_number items one.item))
-      → one_if measured ≡ measured_texts items (Text (Bytes one) ∷ [])
-  measured_once measured e is = count_is (room_of items one) measured (is ∙ room_shown e)
+  known_kept : (one : Operand) → known_text_rules items one ≡ [] → is_unknown (size_of items one) ≡ false
+  known_kept one e = kept (is_unknown (size_of items one)) 64 (operand_place one)
+      (right_none (inspected_rules items one) (where_so (is_unknown (size_of items one)) 64 (operand_place one)) e)
+
+  by_known : (size : TextSize) (by : Operand) → by_rules items size by ≡ []
+      → is_unknown (replacing_size items by) ≡ false
+  by_known size by e =
+      let test = may_replace size (replacing_size items by) in
+      replacing_known size (replacing_size items by) (not_false test (kept (not test) 64 (operand_place by)
+      (right_none (inspected_rules items by) (where_so (not test) 64 (operand_place by)) e)))
 
 -- both limits keep their rules, in whatever order they stand
 ordered_rules : (items : List LocatedItem) (before after : Option Operand) (turned : Bool)
@@ -199,14 +197,17 @@ module _ (items : List LocatedItem) (P : Source → Type 0) where
 
   -- ---- from the rules
 
-  module _ (of_item : (one : Reference) → reference_rules items inspected_item one ≡ [] → P (Bytes one))
+  module _ (of_item : (one : Reference) → reference_rules items inspected_item one ≡ []
+      → HasKnownSize items (Bytes one) → P (Bytes one))
       (of_literal : (one : Literal) → inspected_literal one one.value ≡ [] → P (Characters (shown_literal one.value)))
       (of_one : (constant : Figurative) → P (Characters (replicate 1 (figurative_byte constant))))
       (of_figurative : (text : Source) → P text → (constant : Figurative)
       → P (Characters (replicate (text_size items text) (figurative_byte constant)))) where
-    operand_keeps : (one : Operand) → inspected_rules items one ≡ [] → P (source one)
-    operand_keeps (operand.Item one) e = of_item one e
-    operand_keeps (operand.Literal one) e = of_literal one e
+    operand_keeps : (one : Operand) → known_text_rules items one ≡ [] → P (source one)
+    operand_keeps (operand.Item one) e =
+        let inspected = inspected_kept items (operand.Item one) e in
+        of_item one inspected (known_item items one inspected (known_kept items (operand.Item one) e))
+    operand_keeps (operand.Literal one) e = of_literal one (inspected_kept items (operand.Literal one) e)
 
     as_written : (size : ℕ) (value : LiteralValue) → P (Characters (shown_literal value))
         → ((constant : Figurative) → P (Characters (replicate size (figurative_byte constant))))
@@ -220,7 +221,8 @@ module _ (items : List LocatedItem) (P : Source → Type 0) where
         → ((constant : Figurative) → P (Characters (replicate size (figurative_byte constant))))
         → P (replacing_text size by)
     by_keeps known size (operand.Item one) e repeated =
-        of_item one (left_none (inspected_rules items (operand.Item one)) _ e)
+        let inspected = left_none (inspected_rules items (operand.Item one)) _ e in
+        of_item one inspected (known_item items one inspected (by_known items known (operand.Item one) e))
     by_keeps known size (operand.Literal one) e repeated = as_written size one.value
         (of_literal one (left_none (inspected_rules items (operand.Literal one)) _ e)) repeated
 
@@ -257,9 +259,9 @@ module _ (items : List LocatedItem) (P : Source → Type 0) where
         → AllKeep (tallied_text how one ∷ [])
     tallied_text_kept how one e =
         let text =
-        operand_keeps one.text (left_none (inspected_rules items one.text) (limits_rules items one.limits) e) in
+        operand_keeps one.text (left_none (known_text_rules items one.text) (limits_rules items one.limits) e) in
         let limits =
-        limits_kept one.limits (right_none (inspected_rules items one.text) (limits_rules items one.limits) e) in
+        limits_kept one.limits (right_none (known_text_rules items one.text) (limits_rules items one.limits) e) in
         (record { what = text; by = tt; before = limits.0; after = limits.1 }, tt)
 
     tallied_kept : (one : Tallied) → tallied_rules items one ≡ [] → AllKeep (tallied_entries one)
@@ -277,7 +279,7 @@ module _ (items : List LocatedItem) (P : Source → Type 0) where
     replaced_text_kept : (how : Occurrences) (one : ReplacedText) → replaced_text_rules items one ≡ []
         → AllKeep (replaced_text items how one ∷ [])
     replaced_text_kept how one e =
-        let a = inspected_rules items one.text in
+        let a = known_text_rules items one.text in
         let b = by_rules items (size_of items one.text) one.by in
         let c = limits_rules items one.limits in
         let f = left_none (a ++ b) c e in
@@ -320,3 +322,17 @@ module _ (items : List LocatedItem) (P : Source → Type 0) where
         let texts = entries_texts (all_replaced items one) in
         all_both KeepsTaking (tallying_takings one.tallying) (map Text texts) (tallying_keep one.tallying k.tallying)
         (mapped_keep texts (texts_keep (all_replaced items one) (replaced_keep one k)))
+
+-- ---- the texts of a statement that keeps its rules have sizes that are known before a run
+
+module _ (items : List LocatedItem) where
+  each_known : (all : List InspectArgument) → AllByRecursion (KeepsTaking items (HasKnownSize items)) all
+      → AllByRecursion (IsOfKnownSize items) all
+  each_known [] h = tt
+  each_known (Counter one ∷ more) h = (tt, each_known more h.1)
+  each_known (Text one ∷ more) h = (h.0, each_known more h.1)
+
+  pub known_texts : (one : InspectStatement) → inspect_rules items one ≡ [] → HasKnownTexts items one
+  known_texts one e =
+      each_known (takings items one) (takings_keep items (HasKnownSize items) (λ one e known. known) (λ one e. tt)
+      (λ constant. tt) (λ text h constant. tt) one (keeps_inspect items one e))

@@ -6,11 +6,10 @@ use Rattle.text_ops.specs.declared.entry.Entry.{Entry}
 use Rattle.source_tree.specs.declared.inspect_statement.Tallying.{Tallying}
 use Rattle.source_tree.specs.declared.inspect_statement.InspectStatement.{InspectStatement}
 use Rattle.source_tree.specs.Places.{LocatedItem}
-use Rattle.source_tree.specs.InspectLayout.{Source, Bytes, Characters, InspectArgument, Counter, Text, InspectEntry}
-use Rattle.source_tree.specs.InspectLayout.{text_size, text_sizes}
+use Rattle.source_tree.specs.InspectLayout.{Source, InspectArgument, Counter, Text, InspectEntry, text_size, text_sizes}
 use Rattle.source_tree.specs.InspectLayout.{taken_size, entry_texts, entries_texts, entry_at, entries_at}
 use Rattle.source_tree.specs.InspectLayout.{counter_entries, tallying_takings, all_inspected, entry_counts, all_tallied}
-use Rattle.source_tree.specs.InspectLayout.{all_replaced, takings, tallied_size, inspected_size, measured_texts}
+use Rattle.source_tree.specs.InspectLayout.{all_replaced, takings, tallied_size, inspected_size}
 use Rattle.data_instructions.specs.Tables.{total_length}
 use Rattle.code_image.specs.declared.code.Code.{Code}
 use Rattle.codegen.specs.Fragments.{Fragment, append, in_order}
@@ -87,42 +86,6 @@ module _ (items : List LocatedItem) where
       let a = taken_append (tallying_takings one.tallying) (map Text texts) in
       let b = taken_tallying one.tallying in
       let c = taken_texts texts in
-      omega (arith, a, b, c)
-
-  -- ---- texts that are measured
-
-  pub measured_both : (xs ys : List InspectArgument)
-      → measured_texts items (xs ++ ys) ≡ measured_texts items xs + measured_texts items ys
-  measured_both [] ys = omega arith
-  measured_both (Counter x ∷ xs) ys = measured_both xs ys
-  measured_both (Text (Bytes x) ∷ xs) ys = omega (arith, measured_both xs ys)
-  measured_both (Text (Characters x) ∷ xs) ys = measured_both xs ys
-
-  pub measured_sources : (xs ys : List Source) → measured_texts items (map Text (xs ++ ys))
-      ≡ measured_texts items (map Text xs) + measured_texts items (map Text ys)
-  measured_sources xs ys = ap (measured_texts items) (map_both Text xs ys) ∙ measured_both (map Text xs) (map Text ys)
-
-  -- Counters are none of them.
-  measured_tallying : (all : List Tallying) → measured_texts items (tallying_takings all)
-      ≡ measured_texts items (map Text (entries_texts (all_inspected counter_entries all)))
-  measured_tallying [] = refl
-  measured_tallying (x ∷ xs) =
-      let texts = entries_texts (counter_entries x) in
-      let others = all_inspected counter_entries xs in
-      let a = measured_both (map Text texts) (tallying_takings xs) in
-      let b = measured_tallying xs in
-      let c = ap (λ l. measured_texts items (map Text l)) (texts_append (counter_entries x) others)
-      ∙ measured_sources texts (entries_texts others) in
-      omega (arith, a, b, c)
-
-  pub measured_whole : (one : InspectStatement) → measured_texts items (takings items one)
-      ≡ measured_texts items
-      (map Text (entries_texts (all_inspected counter_entries one.tallying) ++ entries_texts (all_replaced items one)))
-  measured_whole one =
-      let texts = entries_texts (all_replaced items one) in
-      let a = measured_both (tallying_takings one.tallying) (map Text texts) in
-      let b = measured_tallying one.tallying in
-      let c = measured_sources (entries_texts (all_inspected counter_entries one.tallying)) texts in
       omega (arith, a, b, c)
 
   -- ---- entries

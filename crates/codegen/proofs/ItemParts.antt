@@ -16,7 +16,7 @@ use Rattle.code_image.specs.declared.code.Code.{Code}
 use Rattle.codegen.specs.Fragments.{empty_code, sequence}
 use Rattle.codegen.specs.DataCode.{place_fragment, entry_fragment, subscript_fragment, unknown_fragment}
 use Rattle.codegen.specs.DataCode.{making_fragment}
-use Rattle.codegen.specs.ItemParts.{entry_in, length_shown, has_room, is_measured}
+use Rattle.codegen.specs.ItemParts.{entry_in, length_shown}
 
 -- what the layout has of the item of that number
 pub placed_at : (items : List LocatedItem) (all : List PlacedItem) (n : ℕ) → all ≡ map placed_item items
@@ -50,19 +50,6 @@ module _ (one : Reference) where
   pub no_length : (found : Option LocatedItem) → None ≡ option_map placed_item found → 0 ≡ length_shown one found
   no_length None e = refl
   no_length (Some found) e = absurd cc
-
-  -- ---- whether it is found in the run
-
-  pub measured_there : (found : Option LocatedItem) (placed : PlacedItem) → Some placed ≡ option_map placed_item found
-      → has_room placed.item.length one.part ≡ is_measured one found
-  measured_there None placed e = absurd cc
-  measured_there (Some found) placed e =
-      ap (λ (p : PlacedItem). has_room p.item.length one.part) (same_Some placed (placed_item found) e)
-
-  pub not_measured : (found : Option LocatedItem) → None ≡ option_map placed_item found
-      → false ≡ is_measured one found
-  not_measured None e = refl
-  not_measured (Some found) e = absurd cc
 
 -- ---- the place of a reference
 

@@ -55,14 +55,14 @@ use Rattle.source_tree.specs.State.{change_outcome}
 use Rattle.source_tree.specs.Setting.{Scope}
 use Rattle.source_tree.specs.Texts.{texts}
 use Rattle.source_tree.specs.Inspecting.{inspect}
-use Rattle.source_tree.specs.Converting.{convert}
+use Rattle.source_tree.specs.Converting.{as_replacing, convert}
 use Rattle.source_tree.specs.Performing.{turns_of, turns_in, turns, performed_range, repeat, body}
 use Rattle.source_tree.specs.Until as meant
 use Rattle.source_tree.specs.Until.{vary_operation, vary_begin, vary_on, until_from}
 use Rattle.source_tree.specs.Meaning.{data_storage, step}
 use Rattle.source_tree.proofs.Runs.{IsRun, body_runs}
 use Rattle.source_tree.proofs.InspectKept.{inspected_alike}
-use Rattle.source_tree.proofs.InspectConverting.{converted_alike}
+use Rattle.source_tree.proofs.InspectConverting.{as_replacing_rules, converted_alike}
 use Rattle.data_instructions.specs.declared.instruction.DataInstruction.{DataInstruction}
 use Rattle.data_instructions.specs.declared.instruction.DataInstruction.TheVariants as i
 use Rattle.data_instructions.specs.Tables.{IsTables}
@@ -110,6 +110,7 @@ use Rattle.codegen.proofs.Codes.{left_none, right_none, Coded, display_coded, ac
 use Rattle.codegen.proofs.ArithmeticCodes.{arithmetic_coded}
 use Rattle.codegen.proofs.PatternCodes.{initializes_codes, sets_codes}
 use Rattle.codegen.proofs.InspectCodes.{inspect_codes, convert_codes}
+use Rattle.codegen.proofs.InspectKept.{known_texts}
 use Rattle.codegen.proofs.StringCodes.{string_codes}
 use Rattle.codegen.proofs.Doing.{end_of, Does, PartDoes, Sits, front_sits, back_sits, IsRoom, still_room, moved, stays}
 use Rattle.codegen.proofs.Doing.{behind, parts_do, tick_part, ticks_alone, ending_does, nothing_does, Follows}
@@ -271,9 +272,10 @@ module _ (whole : Code) (kept : ℕ → Type 0) (scope : Scope) (has : HasFiles 
   texts_do (text.Inspect one) before cs s keep room st =
       let part = inspect_fragment scope.items one before in
       let coded = (inspect_codes scope.items whole entries one keep).by before st in
-      let means = inspected_alike scope.items items_sized one s.storage keep in
+      let known = known_texts scope.items one keep in
+      let means = inspected_alike scope.items items_sized one s.storage keep known in
       let works_as =
-      inspect_does scope.items whole.tables order one coded.code coded.holds (scratch_of s cs) room.line
+      inspect_does scope.items whole.tables order one coded.code known coded.holds (scratch_of s cs) room.line
       ∙ ap (λ (e : Evaluation Storage).
       scratch.step_with e (λ after. scratch.Continues (record (scratch_of s cs) { storage = after }))) (sym means) in
       let from = end_of before in
@@ -286,9 +288,10 @@ module _ (whole : Code) (kept : ℕ → Type 0) (scope : Scope) (has : HasFiles 
   texts_do (text.Convert one) before cs s keep room st =
       let part = convert_fragment scope.items one before in
       let coded = (convert_codes scope.items whole entries one keep).by before st in
-      let means = converted_alike scope.items items_sized one s.storage keep in
+      let known = known_texts scope.items (as_replacing one) (as_replacing_rules scope.items one keep) in
+      let means = converted_alike scope.items items_sized one s.storage keep known in
       let works_as =
-      convert_does scope.items whole.tables order one coded.code coded.holds (scratch_of s cs) room.line
+      convert_does scope.items whole.tables order one coded.code known coded.holds (scratch_of s cs) room.line
       ∙ ap (λ (e : Evaluation Storage).
       scratch.step_with e (λ after. scratch.Continues (record (scratch_of s cs) { storage = after }))) (sym means) in
       let from = end_of before in

@@ -1,27 +1,25 @@
 -- The code of DISPLAY, ACCEPT and INSPECT is straight: it counts nothing and leads nowhere.
 use Rattle.std.proofs.Common.{◌≡◌, List, [], ◌∷◌, refl}
-use Rattle.source_tree.specs.declared.reference.Reference.{Reference}
+use Rattle.source_tree.specs.declared.inspect_statement.Converting.{Converting}
 use Rattle.source_tree.specs.declared.inspect_statement.InspectStatement.{InspectStatement}
-use Rattle.source_tree.specs.Converting.{as_replacing}
+use Rattle.source_tree.specs.Converting.{as_replacing, convert_rules}
 use Rattle.source_tree.specs.declared.text_statement.TextStatement.{TextStatement}
 use Rattle.source_tree.specs.declared.text_statement.TextStatement.TheVariants.{Display, Accept, AcceptDate, Inspect}
 use Rattle.source_tree.specs.declared.text_statement.TextStatement.TheVariants.{Convert}
 use Rattle.source_tree.specs.InspectLayout as layout
 use Rattle.source_tree.specs.InspectLayout.{InspectArgument, takings}
 use Rattle.source_tree.specs.InspectRules.{inspect_rules}
-use Rattle.source_tree.specs.MeasuredTexts.{room_of}
 use Rattle.source_tree.specs.Places.{LocatedItem}
 use Rattle.source_tree.specs.Rules.{text_rules}
 use Rattle.source_tree.proofs.InspectConverting.{as_replacing_rules}
-use Rattle.data_instructions.specs.declared.index.InspectionIndex.{InspectionIndex}
-use Rattle.data_instructions.specs.declared.instruction.DataInstruction.{DataInstruction}
+use Rattle.data_instructions.specs.declared.gather.Gather.TheVariants as g
 use Rattle.data_instructions.specs.declared.instruction.DataInstruction.TheVariants as i
-use Rattle.data_instructions.specs.InspectCodes.{gather_by, taken_numbers, inspect_by, convert_by}
 use Rattle.code_image.specs.declared.instruction.Instruction.TheVariants as instruction
 use Rattle.codegen.specs.Fragments.{sequence, plain_code}
 use Rattle.codegen.specs.DataCode.{line_end_fragment, show_fragment, reference_fragment, operand_fragment}
 use Rattle.codegen.specs.DataCode.{operands_fragment}
-use Rattle.codegen.specs.InspectCode.{inspecting_fragment, inspection_entry, taken_fragment, takings_fragment}
+use Rattle.codegen.specs.InspectCode.{inspection_fragment, inspection_entry, taken_fragment, takings_fragment}
+use Rattle.codegen.specs.InspectCode.{inspect_fragment, conversion_fragment, convert_fragment}
 use Rattle.codegen.specs.Layout.{texts_fragment}
 use Rattle.codegen.proofs.Inspections.{AreSized, is_inspection}
 use Rattle.codegen.proofs.Straight.{AlwaysStraight, both_straight, in_order_straight, one_straight, text_straight}
@@ -30,13 +28,12 @@ use Rattle.codegen.proofs.Straight.{line_end_straight, reference_straight, takin
 module _ (items : List LocatedItem) (sized : AreSized items) where
   taken_straight : (one : InspectArgument) → AlwaysStraight items (taken_fragment items one)
   taken_straight (layout.Counter one) = reference_straight items one
-  taken_straight (layout.Text (layout.Bytes one)) = taking_straight items (i.Gather (gather_by (room_of items one))) one
+  taken_straight (layout.Text (layout.Bytes one)) = taking_straight items (i.Gather g.Sized) one
   taken_straight (layout.Text (layout.Characters text)) = text_straight text
 
-  inspecting_straight : (instruction : InspectionIndex → DataInstruction) (one : InspectStatement)
-      → inspect_rules items one ≡ []
-      → AlwaysStraight items (inspecting_fragment instruction (inspection_entry items one))
-  inspecting_straight instruction one e before =
+  inspection_straight : (one : InspectStatement) → inspect_rules items one ≡ []
+      → AlwaysStraight items (inspection_fragment (inspection_entry items one))
+  inspection_straight one e before =
       record {
         instructions = (tt, tt);
         starts = refl;
@@ -47,18 +44,39 @@ module _ (items : List LocatedItem) (sized : AreSized items) where
         inspections = (is_inspection items sized one e, tt);
       }
 
-  -- the place of a subject, and all of an inspection
-  subject_straight : (subject : Reference) (instruction : InspectionIndex → DataInstruction) (one : InspectStatement)
-      → inspect_rules items one ≡ []
-      → AlwaysStraight items (sequence (reference_fragment items subject)
-      (sequence (takings_fragment items (takings items one))
-      (inspecting_fragment instruction (inspection_entry items one))))
-  subject_straight subject instruction one e =
+  inspect_straight : (one : InspectStatement) → inspect_rules items one ≡ []
+      → AlwaysStraight items (inspect_fragment items one)
+  inspect_straight one e =
+      let subject = reference_fragment items one.subject in
       let parts = takings_fragment items (takings items one) in
-      let last = inspecting_fragment instruction (inspection_entry items one) in
-      both_straight (reference_fragment items subject) (sequence parts last) (reference_straight items subject)
+      let last = inspection_fragment (inspection_entry items one) in
+      both_straight subject (sequence parts last) (reference_straight items one.subject)
       (both_straight parts last (in_order_straight (taken_fragment items) taken_straight (takings items one))
-      (inspecting_straight instruction one e))
+      (inspection_straight one e))
+
+  conversion_straight : (one : InspectStatement) → inspect_rules items one ≡ []
+      → AlwaysStraight items (conversion_fragment (inspection_entry items one))
+  conversion_straight one e before =
+      record {
+        instructions = (tt, tt);
+        starts = refl;
+        files = refl;
+        areas = refl;
+        entries = tt;
+        senders = tt;
+        inspections = (is_inspection items sized one e, tt);
+      }
+
+  convert_straight : (one : Converting) → convert_rules items one ≡ []
+      → AlwaysStraight items (convert_fragment items one)
+  convert_straight one e =
+      let replacing = as_replacing one in
+      let subject = reference_fragment items one.subject in
+      let parts = takings_fragment items (takings items replacing) in
+      let last = conversion_fragment (inspection_entry items replacing) in
+      both_straight subject (sequence parts last) (reference_straight items one.subject)
+      (both_straight parts last (in_order_straight (taken_fragment items) taken_straight (takings items replacing))
+      (conversion_straight replacing (as_replacing_rules items one e)))
 
   pub texts_straight : (one : TextStatement) → text_rules items one ≡ []
       → AlwaysStraight items (texts_fragment items one)
@@ -73,9 +91,5 @@ module _ (items : List LocatedItem) (sized : AreSized items) where
   texts_straight (AcceptDate receiver) e =
       both_straight (reference_fragment items receiver) (λ before. plain_code (instruction.Date ∷ []))
       (reference_straight items receiver) (one_straight instruction.Date tt)
-  texts_straight (Inspect one) e =
-      subject_straight one.subject (λ index. inspect_by index (taken_numbers items (takings items one))) one e
-  texts_straight (Convert one) e =
-      let as_one = as_replacing one in
-      subject_straight one.subject (λ index. convert_by index (taken_numbers items (takings items as_one))) as_one
-      (as_replacing_rules items one e)
+  texts_straight (Inspect one) e = inspect_straight one e
+  texts_straight (Convert one) e = convert_straight one e

@@ -1,6 +1,5 @@
 -- A machine can run the code of a program that keeps the rules.
-use Rattle.std.proofs.Common.{◌≡◌, ℕ, zero, suc, ◌+◌, ◌-◌, ◌*◌, ◌≤◌, ◌<◌, List, [], ◌∷◌, ◌++◌, length, map, Option}
-use Rattle.std.proofs.Common.{Some}
+use Rattle.std.proofs.Common.{◌≡◌, ℕ, zero, suc, ◌+◌, ◌-◌, ◌*◌, ◌≤◌, List, [], ◌∷◌, ◌++◌, length, map, Option, Some}
 use Rattle.std.proofs.Common.{None, refl, sym, ap, ◌∙◌, subst, ⊎_elim, inl, inr, arith, length-append}
 use Rattle.std.specs.List.{AllByRecursion}
 use Rattle.std.specs.Prelude.{◌⊎◌, Bool, true, slice_get, slice_index, slice_index_or}
@@ -45,7 +44,6 @@ use Rattle.data_instructions.specs.declared.tables.DataItem.{DataItem}
 use Rattle.data_instructions.specs.declared.tables.DataTables.{DataTables}
 use Rattle.data_instructions.specs.declared.shape.Shape.{Shape}
 use Rattle.data_instructions.specs.declared.gather.Gather.TheVariants as g
-use Rattle.data_instructions.specs.declared.index.InspectionIndex.{InspectionIndex}
 use Rattle.data_instructions.specs.declared.instruction.DataInstruction.{DataInstruction}
 use Rattle.data_instructions.specs.declared.test.Test.TheVariants as t
 use Rattle.data_instructions.specs.declared.instruction.DataInstruction.TheVariants as i
@@ -53,7 +51,7 @@ use Rattle.data_instructions.specs.Tables.{IsEditing, IsDataItem, IsInspection, 
 use Rattle.data_instructions.specs.Codes.{data_item}
 use Rattle.data_instructions.specs.Chains.{greatest, LiesWhole}
 use Rattle.data_instructions.specs.Naming.{NamesEntries}
-use Rattle.data_instructions.specs.Shapes.{empty, and_then, line_inspected, effect}
+use Rattle.data_instructions.specs.Shapes.{empty, and_then, effect}
 use Rattle.data_instructions.proofs.Known.{and_then_some, parts}
 use Rattle.data_instructions.proofs.PartEntries.{part_in_order}
 use Rattle.file_image.specs.declared.file.CodeFile.{CodeFile}
@@ -127,13 +125,6 @@ split_at (y ∷ xs) ys (suc k) x here = split_at xs ys k x here
 
 -- ---- entries that instructions name
 
--- The line has the texts of an inspection of the table.
-inspection_there : (tables : DataTables) (index : InspectionIndex) (line after : ℕ)
-    → line_inspected tables index line ≡ Some after → index.number < length tables.inspections
-inspection_there tables index line after e =
-    let found = and_then_some (slice_get tables.inspections index.number) _ after e in
-    slice_get_within tables.inspections index.number found.0 found.1
-
 named_by : (tables : DataTables) (one : DataInstruction) (s after : Shape) → effect tables one s ≡ Some after
     → NamesEntries tables one
 named_by tables (i.Place item) s after e =
@@ -195,17 +186,16 @@ named_by tables (i.Gather (g.TextUpToPlace text)) s after e =
     (parts tables (i.Gather (g.TextUpToPlace text)) s after e).0 in
     slice_get_within tables.texts text.number found.0 found.1
 named_by tables (i.Gather g.Sized) s after e = tt
-named_by tables (i.Gather g.Measured) s after e = tt
 named_by tables (i.Part one) s after e = tt
 named_by tables (i.String pointer) s after e = tt
 named_by tables (i.Inspect inspection) s after e =
-    inspection_there tables inspection s.line after.line (parts tables (i.Inspect inspection) s after e).1
+    let found = and_then_some (slice_get tables.inspections inspection.number) _ after.stacks
+    (parts tables (i.Inspect inspection) s after e).0 in
+    slice_get_within tables.inspections inspection.number found.0 found.1
 named_by tables (i.Convert inspection) s after e =
-    inspection_there tables inspection s.line after.line (parts tables (i.Convert inspection) s after e).1
-named_by tables (i.InspectMeasured inspection numbers) s after e = inspection_there tables inspection s.line after.line
-    (parts tables (i.InspectMeasured inspection numbers) s after e).1
-named_by tables (i.ConvertMeasured inspection numbers) s after e = inspection_there tables inspection s.line after.line
-    (parts tables (i.ConvertMeasured inspection numbers) s after e).1
+    let found = and_then_some (slice_get tables.inspections inspection.number) _ after.stacks
+    (parts tables (i.Convert inspection) s after e).0 in
+    slice_get_within tables.inspections inspection.number found.0 found.1
 
 named_after : (tables : DataTables) (one : Instruction) (s after : Shape) → known_after tables one s ≡ Some after
     → NamesData tables one

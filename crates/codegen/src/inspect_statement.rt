@@ -1,8 +1,7 @@
 //! The code of INSPECT (COBOL-85, Nucleus, "The INSPECT statement").
 
-ghost use Rattle.std.specs.Prelude.{◌≡◌, ◌+◌, ◌++◌, [], ◌∷◌, length, map, replicate, false, None, IfOk, OnOk};
+ghost use Rattle.std.specs.Prelude.{◌≡◌, ◌+◌, ◌++◌, [], ◌∷◌, length, map, replicate, None, IfOk, OnOk};
 ghost use Rattle.source_tree.specs.declared.inspect_statement.Replacing.TheVariants as replacing;
-ghost use Rattle.source_tree.specs.declared.inspect_statement.Tallied.TheVariants as tallied;
 ghost use Rattle.source_tree.specs.Broken.{each};
 ghost use Rattle.source_tree.specs.Display.{figurative_byte};
 ghost use Rattle.source_tree.specs.NameRules.{reference_rules};
@@ -12,7 +11,6 @@ ghost use Rattle.source_tree.specs.InspectLayout as layout;
 ghost use Rattle.declarations.specs.Named.{IsDeclared, items_in};
 ghost use Rattle.codegen.specs.Fragments.{append};
 ghost use Rattle.codegen.specs.DataCode.{text_fragment};
-ghost use Rattle.data_instructions.specs.InspectCodes as codes;
 ghost use Rattle.codegen.specs.InspectCode as spec;
 
 use crate::display_statement::emit_text;
@@ -30,40 +28,32 @@ use std::alloc::{AllocError, Global};
 use text_ops::{Entry, Fit, Span};
 
 impl<'a> Emitter<'a> {
-    /// An item's bytes.
-    fn emit_bytes(
-        &self,
-        code: &mut Code,
-        line: &mut TextLine,
-        one: &Reference,
-    ) -> Result<Span, AllocError>
+    /// An item's bytes, after so many.
+    fn emit_bytes(&self, code: &mut Code, at: u32, one: &Reference) -> Result<Span, AllocError>
         requires declared { IsDeclared self.now.declarations.now }
         requires rules { reference_rules (items_in self.now.declarations.now) rules.inspected_item
             one.now ≡ [] }
         ensures { IfOk result (λ span. spec.TextMade (items_in self.now.declarations.now)
-            (layout.Bytes one.now) code.old code.new line.old line.new span) }
+            (layout.Bytes one.now) code.old code.new at span) }
     {
-        let measured = self.is_measured(one);
-        self.emit_taking(code, DataInstruction::Gather(gather(measured)), one)?;
-        line.with(self.length_shown(one), measured)
+        self.emit_taking(code, DataInstruction::Gather(Gather::Sized), one)?;
+        Ok(Span {
+            start: at,
+            length: self.length_shown(one),
+        })
     }
 
-    /// A text.
-    fn emit_source(
-        &self,
-        code: &mut Code,
-        line: &mut TextLine,
-        one: &Operand,
-    ) -> Result<Span, AllocError>
+    /// A text, after so many bytes.
+    fn emit_source(&self, code: &mut Code, at: u32, one: &Operand) -> Result<Span, AllocError>
         requires declared { IsDeclared self.now.declarations.now }
         requires rules { rules.inspected_rules (items_in self.now.declarations.now) one.now ≡ [] }
         ensures { IfOk result (λ span. spec.TextMade (items_in self.now.declarations.now)
-            (layout.source one.now) code.old code.new line.old line.new span) }
+            (layout.source one.now) code.old code.new at span) }
     {
         match one {
-            Operand::Item(reference) => self.emit_bytes(code, line, reference),
+            Operand::Item(reference) => self.emit_bytes(code, at, reference),
             Operand::Literal(literal) => {
-                emit_characters(code, line, literal_text(self.alloc, &literal.value)?)
+                emit_characters(code, at, literal_text(self.alloc, &literal.value)?)
             }
         }
     }
@@ -72,42 +62,38 @@ impl<'a> Emitter<'a> {
     fn emit_replacing_literal(
         &self,
         code: &mut Code,
-        line: &mut TextLine,
+        at: u32,
         size: u32,
         one: &LiteralValue,
     ) -> Result<Span, AllocError>
         ensures { IfOk result (λ span. spec.TextMade (items_in self.now.declarations.now)
-            (layout.replacing_literal size one.now) code.old code.new line.old line.new span) }
+            (layout.replacing_literal size one.now) code.old code.new at span) }
     {
         match one {
             LiteralValue::Figurative(constant) => {
-                emit_characters(
-                    code,
-                    line,
-                    repeated(self.alloc, figurative(*constant), size)?,
-                )
+                emit_characters(code, at, repeated(self.alloc, figurative(*constant), size)?)
             }
-            value => emit_characters(code, line, literal_text(self.alloc, value)?),
+            value => emit_characters(code, at, literal_text(self.alloc, value)?),
         }
     }
 
-    /// What replaces a text of this size.
+    /// What replaces a text of this size, after so many bytes.
     fn emit_by(
         &self,
         code: &mut Code,
-        line: &mut TextLine,
+        at: u32,
         size: u32,
         one: &Operand,
     ) -> Result<Span, AllocError>
         requires declared { IsDeclared self.now.declarations.now }
         requires rules { rules.inspected_rules (items_in self.now.declarations.now) one.now ≡ [] }
         ensures { IfOk result (λ span. spec.TextMade (items_in self.now.declarations.now)
-            (layout.replacing_text size one.now) code.old code.new line.old line.new span) }
+            (layout.replacing_text size one.now) code.old code.new at span) }
     {
         match one {
-            Operand::Item(reference) => self.emit_bytes(code, line, reference),
+            Operand::Item(reference) => self.emit_bytes(code, at, reference),
             Operand::Literal(literal) => {
-                self.emit_replacing_literal(code, line, size, &literal.value)
+                self.emit_replacing_literal(code, at, size, &literal.value)
             }
         }
     }
@@ -116,40 +102,50 @@ impl<'a> Emitter<'a> {
     fn emit_limit(
         &self,
         code: &mut Code,
-        line: &mut TextLine,
+        at: u32,
         one: &Option<Operand>,
-    ) -> Result<Option<Span>, AllocError>
+    ) -> Result<LimitText, AllocError>
         requires declared { IsDeclared self.now.declarations.now }
         requires rules { rules.limit_rules (items_in self.now.declarations.now) one.now ≡ [] }
-        ensures { IfOk result (λ span. spec.LimitMade (items_in self.now.declarations.now) one.now
-            code.old code.new line.old line.new span) }
+        ensures { IfOk result (λ made. spec.LimitMade (items_in self.now.declarations.now) one.now
+            code.old code.new at made.span made.end) }
     {
-        match one {
-            Some(operand) => Ok(Some(self.emit_source(code, line, operand)?)),
-            None => Ok(None),
-        }
+        let Some(operand) = one else {
+            return Ok(LimitText {
+                span: None,
+                end: at,
+            });
+        };
+        let text = self.emit_source(code, at, operand)?;
+        Ok(LimitText {
+            span: Some(text),
+            end: longer(at, text.length)?,
+        })
     }
 
     /// The texts of BEFORE and AFTER, in the order in which they stand.
-    fn emit_limits(
-        &self,
-        code: &mut Code,
-        line: &mut TextLine,
-        one: &Limits,
-    ) -> Result<LimitSpans, AllocError>
+    fn emit_limits(&self, code: &mut Code, at: u32, one: &Limits) -> Result<LimitTexts, AllocError>
         requires declared { IsDeclared self.now.declarations.now }
         requires rules { rules.limits_rules (items_in self.now.declarations.now) one.now ≡ [] }
         ensures { IfOk result (λ made. spec.LimitsMade (items_in self.now.declarations.now) one.now
-            code.old code.new line.old line.new made.before made.after) }
+            code.old code.new at made.before made.after made.end) }
     {
         if one.after_first {
-            let after = self.emit_limit(code, line, &one.after)?;
-            let before = self.emit_limit(code, line, &one.before)?;
-            return Ok(LimitSpans { before, after });
+            let after = self.emit_limit(code, at, &one.after)?;
+            let before = self.emit_limit(code, after.end, &one.before)?;
+            return Ok(LimitTexts {
+                before: before.span,
+                after: after.span,
+                end: before.end,
+            });
         }
-        let before = self.emit_limit(code, line, &one.before)?;
-        let after = self.emit_limit(code, line, &one.after)?;
-        Ok(LimitSpans { before, after })
+        let before = self.emit_limit(code, at, &one.before)?;
+        let after = self.emit_limit(code, before.end, &one.after)?;
+        Ok(LimitTexts {
+            before: before.span,
+            after: after.span,
+            end: after.end,
+        })
     }
 
     /// A text that is counted.
@@ -165,10 +161,12 @@ impl<'a> Emitter<'a> {
             ≡ [] }
         ensures { OnOk result
             (spec.Puts (items_in self.now.declarations.now) (layout.tallied_text how one.now ∷ [])
-            code.old code.new made.old made.new) }
+            code.old code.new made.old.size made.old.entries made.new.size made.new.entries) }
     {
-        let text = self.emit_source(code, &mut made.line, &one.text)?;
-        let limits = self.emit_limits(code, &mut made.line, &one.limits)?;
+        let text = self.emit_source(code, made.size, &one.text)?;
+        let end = longer(made.size, text.length)?;
+        let limits = self.emit_limits(code, end, &one.limits)?;
+        made.size = limits.end;
         made.entries.push(Entry {
             fit: fit_of(how, text),
             before: limits.before,
@@ -190,34 +188,12 @@ impl<'a> Emitter<'a> {
             all.now ≡ [] }
         ensures { OnOk result (spec.Puts (items_in self.now.declarations.now)
             (layout.all_inspected (λ one. layout.tallied_text how one ∷ []) all.now) code.old
-            code.new made.old made.new) }
+            code.new made.old.size made.old.entries made.new.size made.new.entries) }
     {
         for one in all {
             self.emit_tallied_text(code, made, how, one)?;
         }
         Ok(())
-    }
-
-    /// Any character that is counted.
-    fn emit_any_tallied(
-        &self,
-        code: &mut Code,
-        made: &mut Entries,
-        limits: &Limits,
-    ) -> Result<(), AllocError>
-        requires declared { IsDeclared self.now.declarations.now }
-        requires rules { rules.limits_rules (items_in self.now.declarations.now) limits.now ≡ [] }
-        ensures { OnOk result (spec.Puts (items_in self.now.declarations.now)
-            (layout.tallied_entries (tallied.Characters limits.now)) code.old code.new made.old
-            made.new) }
-    {
-        let limits = self.emit_limits(code, &mut made.line, limits)?;
-        made.entries.push(Entry {
-            fit: Fit::Characters,
-            before: limits.before,
-            after: limits.after,
-            by: None,
-        })
     }
 
     /// What is counted after one ALL, LEADING or CHARACTERS.
@@ -231,10 +207,19 @@ impl<'a> Emitter<'a> {
         requires rules { rules.tallied_rules (items_in self.now.declarations.now) one.now ≡ [] }
         ensures { OnOk
             result (spec.Puts (items_in self.now.declarations.now) (layout.tallied_entries one.now)
-            code.old code.new made.old made.new) }
+            code.old code.new made.old.size made.old.entries made.new.size made.new.entries) }
     {
         match one {
-            Tallied::Characters { limits } => self.emit_any_tallied(code, made, limits),
+            Tallied::Characters { limits } => {
+                let limits = self.emit_limits(code, made.size, limits)?;
+                made.size = limits.end;
+                made.entries.push(Entry {
+                    fit: Fit::Characters,
+                    before: limits.before,
+                    after: limits.after,
+                    by: None,
+                })
+            }
             Tallied::Texts { occurrences, texts } => {
                 self.emit_tallied_texts(code, made, *occurrences, texts.as_slice())
             }
@@ -252,8 +237,8 @@ impl<'a> Emitter<'a> {
         requires rules { each (rules.tallied_rules (items_in self.now.declarations.now)) all.now
             ≡ [] }
         ensures { OnOk result (spec.Puts (items_in self.now.declarations.now)
-            (layout.all_inspected layout.tallied_entries all.now) code.old code.new made.old
-            made.new) }
+            (layout.all_inspected layout.tallied_entries all.now) code.old code.new made.old.size
+            made.old.entries made.new.size made.new.entries) }
     {
         for one in all {
             self.emit_tallied(code, made, one)?;
@@ -272,7 +257,8 @@ impl<'a> Emitter<'a> {
         requires declared { IsDeclared self.now.declarations.now }
         requires rules { rules.tallying_rules (items_in self.now.declarations.now) one.now ≡ [] }
         ensures { OnOk result (spec.Counts (items_in self.now.declarations.now) (one.now ∷ [])
-            code.old code.new made.old made.new counters.old counters.new) }
+            code.old code.new made.old.size made.old.entries made.new.size made.new.entries
+            counters.old counters.new) }
     {
         self.emit_reference(code, &one.counter)?;
         let before = made.entries.len();
@@ -292,7 +278,8 @@ impl<'a> Emitter<'a> {
         requires rules { each (rules.tallying_rules (items_in self.now.declarations.now)) all.now
             ≡ [] }
         ensures { OnOk result (spec.Counts (items_in self.now.declarations.now) all.now code.old
-            code.new made.old made.new counters.old counters.new) }
+            code.new made.old.size made.old.entries made.new.size made.new.entries counters.old
+            counters.new) }
     {
         for one in all {
             self.emit_counter(code, made, counters, one)?;
@@ -313,11 +300,14 @@ impl<'a> Emitter<'a> {
             ≡ [] }
         ensures { OnOk result (spec.Puts (items_in self.now.declarations.now)
             (layout.replaced_text (items_in self.now.declarations.now) how one.now ∷ []) code.old
-            code.new made.old made.new) }
+            code.new made.old.size made.old.entries made.new.size made.new.entries) }
     {
-        let text = self.emit_source(code, &mut made.line, &one.text)?;
-        let by = self.emit_by(code, &mut made.line, text.length, &one.by)?;
-        let limits = self.emit_limits(code, &mut made.line, &one.limits)?;
+        let text = self.emit_source(code, made.size, &one.text)?;
+        let behind = longer(made.size, text.length)?;
+        let by = self.emit_by(code, behind, text.length, &one.by)?;
+        let end = longer(behind, by.length)?;
+        let limits = self.emit_limits(code, end, &one.limits)?;
+        made.size = limits.end;
         made.entries.push(Entry {
             fit: fit_of(how, text),
             before: limits.before,
@@ -339,7 +329,7 @@ impl<'a> Emitter<'a> {
             all.now ≡ [] }
         ensures { OnOk result (spec.Puts (items_in self.now.declarations.now) (layout.all_inspected
             (λ one. layout.replaced_text (items_in self.now.declarations.now) how one ∷ []) all.now)
-            code.old code.new made.old made.new) }
+            code.old code.new made.old.size made.old.entries made.new.size made.new.entries) }
     {
         for one in all {
             self.emit_replaced_text(code, made, how, one)?;
@@ -361,10 +351,12 @@ impl<'a> Emitter<'a> {
         ensures { OnOk
             result (spec.Puts (items_in self.now.declarations.now) (layout.replacing_entries
             (items_in self.now.declarations.now) (replacing.Characters by.now limits.now)) code.old
-            code.new made.old made.new) }
+            code.new made.old.size made.old.entries made.new.size made.new.entries) }
     {
-        let by = self.emit_by(code, &mut made.line, 1, by)?;
-        let limits = self.emit_limits(code, &mut made.line, limits)?;
+        let by = self.emit_by(code, made.size, 1, by)?;
+        let end = longer(made.size, by.length)?;
+        let limits = self.emit_limits(code, end, limits)?;
+        made.size = limits.end;
         made.entries.push(Entry {
             fit: Fit::Characters,
             before: limits.before,
@@ -384,7 +376,7 @@ impl<'a> Emitter<'a> {
         requires rules { rules.replacing_rules (items_in self.now.declarations.now) one.now ≡ [] }
         ensures { OnOk result (spec.Puts (items_in self.now.declarations.now)
             (layout.replacing_entries (items_in self.now.declarations.now) one.now) code.old
-            code.new made.old made.new) }
+            code.new made.old.size made.old.entries made.new.size made.new.entries) }
     {
         match one {
             Replacing::Characters { by, limits } => self.emit_any_replaced(code, made, by, limits),
@@ -406,7 +398,7 @@ impl<'a> Emitter<'a> {
             ≡ [] }
         ensures { OnOk result (spec.Puts (items_in self.now.declarations.now) (layout.all_inspected
             (layout.replacing_entries (items_in self.now.declarations.now)) all.now) code.old
-            code.new made.old made.new) }
+            code.new made.old.size made.old.entries made.new.size made.new.entries) }
     {
         for one in all {
             self.emit_replacing(code, made, one)?;
@@ -427,23 +419,23 @@ impl<'a> Emitter<'a> {
     {
         let mut counters = Items::new(self.alloc);
         let mut tallying = Entries {
-            line: NOTHING,
+            size: 0,
             entries: Items::new(self.alloc),
         };
         self.emit_reference(code, &one.subject)?;
         self.emit_counters(code, &mut tallying, &mut counters, one.tallying.as_slice())?;
         let mut replacing = Entries {
-            line: tallying.line,
+            size: tallying.size,
             entries: Items::new(self.alloc),
         };
         self.emit_all_replaced(code, &mut replacing, one.replacing.as_slice())?;
         let inspection = Inspection {
-            size: replacing.line.size,
+            size: replacing.size,
             counters,
             tallying: tallying.entries,
             replacing: replacing.entries,
         };
-        emit_inspection(code, inspection, replacing.line.measured)
+        emit_inspection(code, inspection)
     }
 
     /// INSPECT CONVERTING, after its `tick`.
@@ -454,86 +446,48 @@ impl<'a> Emitter<'a> {
             (spec.convert_fragment (items_in self.now.declarations.now) one.now code.old)) }
     {
         let mut made = Entries {
-            line: NOTHING,
+            size: 0,
             entries: Items::new(self.alloc),
         };
         self.emit_reference(code, &one.subject)?;
         self.emit_replaced_text(code, &mut made, Occurrences::All, &one.texts)?;
         let inspection = Inspection {
-            size: made.line.size,
+            size: made.size,
             counters: Items::new(self.alloc),
             tallying: Items::new(self.alloc),
             replacing: made.entries,
         };
-        emit_conversion(code, inspection, made.line.measured)
+        emit_conversion(code, inspection)
     }
 }
 
-/// The line with the texts of an inspection.
-#[derive(Clone, Copy)]
-struct TextLine {
-    /// In bytes.
-    size: u32,
-    /// How many texts have lengths that are found in the run.
-    measured: u32,
-}
-
-const NOTHING: TextLine = TextLine {
-    size: 0,
-    measured: 0,
-};
-
-/// Entries, and the line with all texts up to theirs.
+/// Entries, and the size in bytes of all texts up to theirs.
 #[derive(Drop)]
 struct Entries {
-    line: TextLine,
+    size: u32,
     entries: Items<Entry>,
 }
 
-/// The texts of BEFORE and AFTER, if they stand.
+/// The text of a limit, if it stands, and the size of all texts up to it.
 #[derive(Clone, Copy)]
-struct LimitSpans {
+struct LimitText {
+    span: Option<Span>,
+    end: u32,
+}
+
+/// The texts of BEFORE and AFTER, and the size of all texts up to them.
+#[derive(Clone, Copy)]
+struct LimitTexts {
     before: Option<Span>,
     after: Option<Span>,
+    end: u32,
 }
 
-impl TextLine {
-    /// Adds a text of this length, or of this room if its length is found in the run. A size of more than 32 bits is refused.
-    fn with(&mut self, length: u32, measured: bool) -> Result<Span, AllocError>
-        ensures line { OnOk result (self.new ≡ spec.longer_line length measured self.old) }
-        ensures span { IfOk result (λ span. span
-            ≡ record { start = self.old.size; length = length }) }
-    {
-        let start = self.size;
-        self.size = longer(start, length)?;
-        self.measured = longer(self.measured, one_if(measured))?;
-        Ok(Span { start, length })
-    }
-}
-
-/// The sum of two numbers. It is refused where 32 bits don't hold it.
+/// The size of texts with one more. It is refused where 32 bits don't hold it.
 fn longer(size: u32, text: u32) -> Result<u32, AllocError>
     ensures { IfOk result (λ end. end ≡ size + text) }
 {
     entry_number(size as usize + text as usize)
-}
-
-/// How many texts are measured where one is, or none.
-fn one_if(measured: bool) -> u32
-    ensures { result ≡ spec.one_if measured }
-{
-    if measured { 1 } else { 0 }
-}
-
-/// What adds a text to the line.
-fn gather(measured: bool) -> Gather
-    ensures { result ≡ spec.gather measured }
-{
-    if measured {
-        Gather::Measured
-    } else {
-        Gather::Sized
-    }
 }
 
 fn fit_of(how: Occurrences, text: Span) -> Fit
@@ -557,72 +511,32 @@ fn repeated(alloc: Global, byte: u8, size: u32) -> Result<Items<u8>, AllocError>
     Ok(bytes)
 }
 
-/// Characters that are known.
-fn emit_characters(
-    code: &mut Code,
-    line: &mut TextLine,
-    bytes: Items<u8>,
-) -> Result<Span, AllocError>
+/// Characters that are known, after so many bytes.
+fn emit_characters(code: &mut Code, at: u32, bytes: Items<u8>) -> Result<Span, AllocError>
     ensures code { OnOk result (code.new ≡ append code.old (text_fragment bytes code.old)) }
-    ensures line { OnOk result (line.new ≡ spec.longer_line (length bytes) false line.old) }
-    ensures span { IfOk result (λ span. span
-        ≡ record { start = line.old.size; length = length bytes }) }
+    ensures span { IfOk result (λ span. span ≡ record { start = at; length = length bytes }) }
 {
     let length = entry_number(bytes.len())?;
     emit_text(code, bytes)?;
-    line.with(length, false)
+    Ok(Span { start: at, length })
 }
 
-/// The INSPECT of an inspection, after so many texts were measured.
-fn emit_inspection(code: &mut Code, one: Inspection, measured: u32) -> Result<(), AllocError>
-    ensures { OnOk result (code.new
-        ≡ append code.old (spec.inspection_fragment one (measured + measured) code.old)) }
+/// The INSPECT of an inspection.
+fn emit_inspection(code: &mut Code, one: Inspection) -> Result<(), AllocError>
+    ensures { OnOk result (code.new ≡ append code.old (spec.inspection_fragment one code.old)) }
 {
     let number = entry_number(code.tables.inspections.len())?;
     code.tables.inspections.push(one)?;
-    emit_work(
-        code,
-        inspect_by(InspectionIndex { number }, longer(measured, measured)?),
-    )
+    let inspection = InspectionIndex { number };
+    emit_work(code, DataInstruction::Inspect { inspection })
 }
 
-/// The INSPECT CONVERTING of an inspection, after so many texts were measured.
-fn emit_conversion(code: &mut Code, one: Inspection, measured: u32) -> Result<(), AllocError>
-    ensures { OnOk result (code.new
-        ≡ append code.old (spec.conversion_fragment one (measured + measured) code.old)) }
+/// The INSPECT CONVERTING of an inspection.
+fn emit_conversion(code: &mut Code, one: Inspection) -> Result<(), AllocError>
+    ensures { OnOk result (code.new ≡ append code.old (spec.conversion_fragment one code.old)) }
 {
     let number = entry_number(code.tables.inspections.len())?;
     code.tables.inspections.push(one)?;
-    emit_work(
-        code,
-        convert_by(InspectionIndex { number }, longer(measured, measured)?),
-    )
-}
-
-/// The instruction that inspects, with so many numbers.
-fn inspect_by(inspection: InspectionIndex, numbers: u32) -> DataInstruction
-    ensures { result ≡ codes.inspect_by inspection numbers }
-{
-    if numbers == 0 {
-        DataInstruction::Inspect { inspection }
-    } else {
-        DataInstruction::InspectMeasured {
-            inspection,
-            numbers,
-        }
-    }
-}
-
-/// The instruction that converts, with so many numbers.
-fn convert_by(inspection: InspectionIndex, numbers: u32) -> DataInstruction
-    ensures { result ≡ codes.convert_by inspection numbers }
-{
-    if numbers == 0 {
-        DataInstruction::Convert { inspection }
-    } else {
-        DataInstruction::ConvertMeasured {
-            inspection,
-            numbers,
-        }
-    }
+    let inspection = InspectionIndex { number };
+    emit_work(code, DataInstruction::Convert { inspection })
 }

@@ -127,34 +127,6 @@ impl<'a> Emitter<'a> {
             None => 0,
         }
     }
-
-    /// The length of what a reference shows is found in the run.
-    pub(crate) fn is_measured(&self, one: &Reference) -> bool
-        requires { IsDeclared self.now.declarations.now }
-        ensures { result ≡ entries.is_measured one.now
-            (slice_get (items_in self.now.declarations.now)
-            (spec.item_number (items_in self.now.declarations.now) one.now.item)) }
-    {
-        match self
-            .declarations
-            .layout
-            .items
-            .get(self.item_number(&one.item))
-        {
-            Some(found) => has_room(found.item.length, &one.part),
-            None => false,
-        }
-    }
-}
-
-/// No literals say the length of a part of an item of that size.
-fn has_room(size: u32, part: &Option<BoxedPart>) -> bool
-    ensures { result ≡ entries.has_room size part.now }
-{
-    match part {
-        Some(boxed) => known_length(size, boxed.part()).is_none(),
-        None => false,
-    }
 }
 
 /// A part in the place of the newest one.

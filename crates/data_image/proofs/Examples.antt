@@ -114,20 +114,6 @@ convert_spelt : data_instruction_bytes (i.Convert (record { number = 258 })) ≡
 unfolding short_bytes
 convert_spelt = refl
 
--- a text that is measured, and both with the two numbers of a text
-measured_spelt : data_instruction_bytes (i.Gather gather.Measured) ≡ 74 ∷ []
-measured_spelt = refl
-
-inspect_measured_spelt : data_instruction_bytes (i.InspectMeasured (record { number = 258 }) 2)
-    ≡ 75 ∷ 0 ∷ 0 ∷ 1 ∷ 2 ∷ 0 ∷ 0 ∷ 0 ∷ 2 ∷ []
-unfolding short_bytes
-inspect_measured_spelt = refl
-
-convert_measured_spelt : data_instruction_bytes (i.ConvertMeasured (record { number = 258 }) 2)
-    ≡ 76 ∷ 0 ∷ 0 ∷ 1 ∷ 2 ∷ 0 ∷ 0 ∷ 0 ∷ 2 ∷ []
-unfolding short_bytes
-convert_measured_spelt = refl
-
 -- a part of an item of 258 bytes, and one of a length that is counted
 part_spelt : data_instruction_bytes (i.Part (part.Fixed 258)) ≡ 70 ∷ 0 ∷ 0 ∷ 1 ∷ 2 ∷ []
 unfolding short_bytes
@@ -178,7 +164,7 @@ no_editing : editing_at (2 ∷ []) ≡ Err faults.Value
 unfolding editing_at byte_at
 no_editing = refl
 
--- 15 begins another instruction, and 27, 59 and 77 none
+-- 15 begins another instruction, and 27, 59 and 73 none
 no_instruction : data_instruction_at (15 ∷ []) ≡ Err faults.Value
 unfolding data_instruction_at byte_at plain_instruction_of
 no_instruction = refl
@@ -191,7 +177,7 @@ before_overlay : data_instruction_at (59 ∷ []) ≡ Err faults.Value
 unfolding data_instruction_at byte_at plain_instruction_of
 before_overlay = refl
 
-behind_the_last : data_instruction_at (77 ∷ []) ≡ Err faults.Value
+behind_the_last : data_instruction_at (73 ∷ []) ≡ Err faults.Value
 unfolding data_instruction_at byte_at plain_instruction_of
 behind_the_last = refl
 

@@ -6,7 +6,6 @@ use Rattle.data_instructions.specs.declared.calculation.Calculation.TheVariants 
 use Rattle.data_instructions.specs.declared.test.Test.TheVariants as t
 use Rattle.data_instructions.specs.declared.gather.Gather.TheVariants as g
 use Rattle.data_instructions.specs.declared.part.Part.TheVariants as p
-use Rattle.data_instructions.specs.declared.index.InspectionIndex.{InspectionIndex}
 use Rattle.data_instructions.specs.declared.instruction.DataInstruction.{DataInstruction}
 use Rattle.data_instructions.specs.declared.instruction.DataInstruction.TheVariants as i
 use Rattle.data_image.specs.Spelling.{IsBytes, short_bytes}
@@ -14,7 +13,6 @@ use Rattle.data_image.specs.Reading.{◌>>=◌, byte_at, short_at}
 use Rattle.data_image.specs.Instructions.{data_instruction_bytes, HasShorts, store, plain_instruction_of, naming_at}
 use Rattle.data_image.specs.Instructions.{index_at, truncate, place_instruction, literal, take_literal, append_literal}
 use Rattle.data_image.specs.Instructions.{duplicate, text_from, test_from, instruction_from, data_instruction_at}
-use Rattle.data_image.specs.Instructions.{measured_at, inspect_measured, convert_measured, measured_from}
 use Rattle.data_image.specs.Tests.{compare, compare_numbers, or_equal, or_within}
 use Rattle.data_image.specs.Gathers.{inspect, convert, overlay, up_to_text, text_up_to_place}
 use Rattle.data_image.specs.Parts.{part_fixed}
@@ -32,7 +30,7 @@ plain_instructions =
     ∷ (39, i.Calculate c.Discard) ∷ (46, i.Test t.Invert)
     ∷ (61, i.DropPlace) ∷ (62, i.Gather g.Bytes) ∷ (63, i.Gather g.UpToPlace) ∷ (66, i.String false)
     ∷ (67, i.String true) ∷ (68, i.Gather g.Sized) ∷ (71, i.Part p.Counted)
-    ∷ (72, i.Part p.Rest) ∷ (74, i.Gather g.Measured) ∷ []
+    ∷ (72, i.Part p.Rest) ∷ []
 
 instruction_told : (n : ℕ) → plain_instruction_of n ≡ first_told plain_instructions n
 unfolding plain_instruction_of
@@ -81,10 +79,7 @@ plain_instruction_is n one e =
                                           (refl, tt),
                                           (
                                             (refl, tt),
-                                            (
-                                              (refl, tt),
-                                              ((refl, tt), ((refl, tt), ((refl, tt), ((refl, tt), ((refl, tt), tt))))),
-                                            ),
+                                            ((refl, tt), ((refl, tt), ((refl, tt), ((refl, tt), ((refl, tt), tt))))),
                                           ),
                                         ),
                                       ),
@@ -119,38 +114,6 @@ index_took rest x is e =
     let t = takes_kind 17 rest (short_bytes a.value ++ short_bytes b.value) b.rest both in
     subst (Reads 17 rest) (ok_is (i.Index a.value b.value, b.rest) x b.goes) (t, (a.sound, b.sound))
 
-inspect_measured_took : (rest : List ℕ) (x : DataInstruction × List ℕ) → IsBytes rest
-    → measured_at inspect_measured rest ≡ Ok x → Reads 75 rest x
-inspect_measured_took rest x is e =
-    let a = part short_form rest _ x is e in
-    let b = part short_form a.rest _ x a.takes.rest_fits a.goes in
-    let both = takes_then rest (short_bytes a.value) a.rest (short_bytes b.value) b.rest a.takes b.takes in
-    let t = takes_kind 75 rest (short_bytes a.value ++ short_bytes b.value) b.rest both in
-    subst (Reads 75 rest) (ok_is (i.InspectMeasured (record { number = a.value }) b.value, b.rest) x b.goes)
-    (t, (a.sound, b.sound))
-
-convert_measured_took : (rest : List ℕ) (x : DataInstruction × List ℕ) → IsBytes rest
-    → measured_at convert_measured rest ≡ Ok x → Reads 76 rest x
-convert_measured_took rest x is e =
-    let a = part short_form rest _ x is e in
-    let b = part short_form a.rest _ x a.takes.rest_fits a.goes in
-    let both = takes_then rest (short_bytes a.value) a.rest (short_bytes b.value) b.rest a.takes b.takes in
-    let t = takes_kind 76 rest (short_bytes a.value ++ short_bytes b.value) b.rest both in
-    subst (Reads 76 rest) (ok_is (i.ConvertMeasured (record { number = a.value }) b.value, b.rest) x b.goes)
-    (t, (a.sound, b.sound))
-
--- texts that were measured, or an instruction without numbers
-measured_from_took : (n : ℕ) (rest : List ℕ) (x : DataInstruction × List ℕ) → IsBytes rest
-    → measured_from n rest ≡ Ok x → Reads n rest x
-measured_from_took n rest x is e =
-    elim (chosen (eqb n 75) _ _ _ e) [
-      | inl p ↦ byte_is data_instruction_bytes HasShorts 75 n rest x p.0 (inspect_measured_took rest x is p.1)
-      | inr q ↦ elim (chosen (eqb n 76) _ _ _ q.1) [
-        | inl p ↦ byte_is data_instruction_bytes HasShorts 76 n rest x p.0 (convert_measured_took rest x is p.1)
-        | inr r ↦ told_took data_instruction_bytes HasShorts plain_instruction_of plain_instruction_is n rest x is r.1
-      ]
-    ]
-
 text_from_took : (n : ℕ) (rest : List ℕ) (x : DataInstruction × List ℕ) → IsBytes rest → text_from n rest ≡ Ok x
     → Reads n rest x
 text_from_took n rest x is e =
@@ -172,7 +135,8 @@ text_from_took n rest x is e =
               | inr v ↦ elim (chosen (eqb n 73) _ _ _ v.1) [
                 | inl p ↦ byte_is data_instruction_bytes HasShorts 73 n rest x p.0 (behind_took data_instruction_bytes
                     HasShorts short_form 73 convert (λ a. refl) (λ a h. h) rest x is p.1)
-                | inr w ↦ measured_from_took n rest x is w.1
+                | inr w ↦
+                    told_took data_instruction_bytes HasShorts plain_instruction_of plain_instruction_is n rest x is w.1
               ]
             ]
           ]
@@ -250,15 +214,6 @@ naming_again : (make : ℕ → DataInstruction) (number : ℕ) (rest : List ℕ)
     → naming_at make (short_bytes number ++ rest) ≡ Ok (make number, rest)
 naming_again make number rest h = part_again short_form number rest (λ n. Ok (make n.0, n.1)) h
 
-measured_again : (make : InspectionIndex → ℕ → DataInstruction) (index : InspectionIndex) (numbers : ℕ) (rest : List ℕ)
-    → index.number < 2 ^ 32 → numbers < 2 ^ 32
-    → measured_at make ((short_bytes index.number ++ short_bytes numbers) ++ rest) ≡ Ok (make index numbers, rest)
-measured_again make index numbers rest h k =
-    ap (measured_at make) (append_assoc (short_bytes index.number) (short_bytes numbers) rest)
-    ∙ part_again short_form index.number (short_bytes numbers ++ rest)
-    (λ s. short_at s.1 >>= λ n. Ok (make (record { number = s.0 }) n.0, n.1)) h
-    ∙ part_again short_form numbers rest (λ n. Ok (make (record { number = index.number }) n.0, n.1)) k
-
 instruction_again : (one : DataInstruction) (rest : List ℕ) → HasShorts one
     → data_instruction_at (data_instruction_bytes one ++ rest) ≡ Ok (one, rest)
 unfolding data_instruction_at byte_at plain_instruction_of
@@ -307,16 +262,11 @@ instruction_again (i.Gather (g.TextUpToPlace text)) rest h = naming_again text_u
 instruction_again (i.String false) rest h = refl
 instruction_again (i.String true) rest h = refl
 instruction_again (i.Gather g.Sized) rest h = refl
-instruction_again (i.Gather g.Measured) rest h = refl
 instruction_again (i.Part (p.Fixed size)) rest h = naming_again part_fixed size rest h
 instruction_again (i.Part p.Counted) rest h = refl
 instruction_again (i.Part p.Rest) rest h = refl
 instruction_again (i.Inspect inspection) rest h = naming_again inspect inspection.number rest h
 instruction_again (i.Convert inspection) rest h = naming_again convert inspection.number rest h
-instruction_again (i.InspectMeasured inspection numbers) rest h =
-    measured_again inspect_measured inspection numbers rest h.0 h.1
-instruction_again (i.ConvertMeasured inspection numbers) rest h =
-    measured_again convert_measured inspection numbers rest h.0 h.1
 
 pub data_instruction_form : IsForm data_instruction_at data_instruction_bytes HasShorts
 data_instruction_form = form_of data_instruction_at data_instruction_bytes HasShorts instruction_took instruction_again

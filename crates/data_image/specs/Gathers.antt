@@ -12,7 +12,6 @@ gather_bytes g.UpToPlace = 63 ∷ []
 gather_bytes (g.UpToText delimiter) = 64 ∷ short_bytes delimiter.number
 gather_bytes (g.TextUpToPlace text) = 65 ∷ short_bytes text.number
 gather_bytes g.Sized = 68 ∷ []
-gather_bytes g.Measured = 74 ∷ []
 
 -- STRING, by whether it has a pointer
 abbrev pub string_byte : Bool → ℕ
@@ -25,7 +24,6 @@ HasText g.UpToPlace = Unit {0}
 HasText (g.UpToText delimiter) = FitsFourBytes delimiter.number
 HasText (g.TextUpToPlace text) = FitsFourBytes text.number
 HasText g.Sized = Unit {0}
-HasText g.Measured = Unit {0}
 
 -- ---- reading
 

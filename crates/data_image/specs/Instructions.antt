@@ -5,7 +5,6 @@ use Rattle.data_instructions.specs.declared.calculation.Calculation.TheVariants 
 use Rattle.data_instructions.specs.declared.test.Test.TheVariants as t
 use Rattle.data_instructions.specs.declared.gather.Gather.TheVariants as g
 use Rattle.data_instructions.specs.declared.part.Part.TheVariants as p
-use Rattle.data_instructions.specs.declared.index.InspectionIndex.{InspectionIndex}
 use Rattle.data_instructions.specs.declared.instruction.DataInstruction.{DataInstruction}
 use Rattle.data_instructions.specs.declared.instruction.DataInstruction.TheVariants as i
 use Rattle.data_image.specs.Spelling.{short_bytes, IsByte, FitsFourBytes}
@@ -55,10 +54,6 @@ data_instruction_bytes (i.String pointer) = string_byte pointer ∷ []
 data_instruction_bytes (i.Part one) = part_bytes one
 data_instruction_bytes (i.Inspect inspection) = 69 ∷ short_bytes inspection.number
 data_instruction_bytes (i.Convert inspection) = 73 ∷ short_bytes inspection.number
-data_instruction_bytes (i.InspectMeasured inspection numbers) =
-    75 ∷ (short_bytes inspection.number ++ short_bytes numbers)
-data_instruction_bytes (i.ConvertMeasured inspection numbers) =
-    76 ∷ (short_bytes inspection.number ++ short_bytes numbers)
 
 abbrev pub HasNumber : Calculation → Type 0
 HasNumber (c.Truncate scale) = IsByte scale
@@ -93,8 +88,6 @@ HasShorts (i.String pointer) = Unit {0}
 HasShorts (i.Part one) = HasSize one
 HasShorts (i.Inspect inspection) = FitsFourBytes inspection.number
 HasShorts (i.Convert inspection) = FitsFourBytes inspection.number
-HasShorts (i.InspectMeasured inspection numbers) = FitsFourBytes inspection.number × FitsFourBytes numbers
-HasShorts (i.ConvertMeasured inspection numbers) = FitsFourBytes inspection.number × FitsFourBytes numbers
 
 -- ---- reading
 
@@ -129,7 +122,6 @@ plain_instruction_of byte =
     else if byte == 68 then Some (i.Gather g.Sized)
     else if byte == 71 then Some (i.Part p.Counted)
     else if byte == 72 then Some (i.Part p.Rest)
-    else if byte == 74 then Some (i.Gather g.Measured)
     else None
 
 -- an instruction with one number
@@ -143,19 +135,6 @@ index_at bytes = do
   stride ← short_at bytes
   count ← short_at stride.1
   Ok (i.Index stride.0 count.0, count.1)
-
--- an instruction with the number of an inspection, and another number
-abbrev pub measured_at : (InspectionIndex → ℕ → DataInstruction) → List ℕ → ReadResult DataInstruction
-measured_at make bytes = do
-  inspection ← short_at bytes
-  numbers ← short_at inspection.1
-  Ok (make (record { number = inspection.0 }) numbers.0, numbers.1)
-
-abbrev pub inspect_measured : InspectionIndex → ℕ → DataInstruction
-inspect_measured inspection numbers = i.InspectMeasured inspection numbers
-
-abbrev pub convert_measured : InspectionIndex → ℕ → DataInstruction
-convert_measured inspection numbers = i.ConvertMeasured inspection numbers
 
 abbrev pub truncate : ℕ → DataInstruction
 truncate scale = i.Calculate (c.Truncate scale)
@@ -180,14 +159,7 @@ append_literal number = i.AppendLiteral (record { number = number })
 abbrev pub duplicate : ℕ → DataInstruction
 duplicate depth = i.Calculate (c.Duplicate depth)
 
--- the instruction with texts that were measured whose first byte this is, or what a byte is alone
-abbrev pub measured_from : ℕ → List ℕ → ReadResult DataInstruction
-measured_from byte bytes =
-    if byte == 75 then measured_at inspect_measured bytes
-    else if byte == 76 then measured_at convert_measured bytes
-    else (or_value (plain_instruction_of byte) >>= λ one. Ok (one, bytes))
-
--- the instruction on texts with a number whose first byte this is, or one with texts that were measured
+-- the instruction on texts with a number whose first byte this is, or what a byte is alone
 abbrev pub text_from : ℕ → List ℕ → ReadResult DataInstruction
 text_from byte bytes =
     if byte == 60 then naming_at overlay bytes
@@ -196,7 +168,7 @@ text_from byte bytes =
     else if byte == 69 then naming_at inspect bytes
     else if byte == 70 then naming_at part_fixed bytes
     else if byte == 73 then naming_at convert bytes
-    else measured_from byte bytes
+    else (or_value (plain_instruction_of byte) >>= λ one. Ok (one, bytes))
 
 -- the test whose first byte this is, or another instruction
 abbrev pub test_from : ℕ → List ℕ → ReadResult DataInstruction

@@ -24,8 +24,6 @@ pub const STRING_POINTER: u8 = 67;
 
 pub const SIZED: u8 = 68;
 
-pub const MEASURED: u8 = 74;
-
 pub fn put_gather(out: &mut Vec<u8>, one: Gather) -> Result<(), AllocError>
     ensures bytes { OnOk result (out.new.items ≡ out.old.items ++ gather_bytes one) }
     ensures fits { HasText one }
@@ -36,7 +34,6 @@ pub fn put_gather(out: &mut Vec<u8>, one: Gather) -> Result<(), AllocError>
         Gather::UpToText { delimiter } => put_naming(out, UP_TO_TEXT, delimiter.number),
         Gather::TextUpToPlace { text } => put_naming(out, TEXT_UP_TO_PLACE, text.number),
         Gather::Sized => put_byte(out, SIZED),
-        Gather::Measured => put_byte(out, MEASURED),
     }
 }
 

@@ -5,14 +5,14 @@ ghost use Rattle.answers.specs.Answer.{Gives};
 ghost use Rattle.data_image.specs.Faults.{fault_of};
 ghost use Rattle.data_image.specs.Spelling.{short_bytes, IsByte, FitsFourBytes};
 ghost use Rattle.data_image.specs.Instructions as spec;
-ghost use Rattle.data_image.specs.Instructions.{calculation_bytes, data_instruction_bytes, data_instruction_at, index_at, truncate_at, naming_at, measured_at, inspect_measured, convert_measured, measured_from, duplicate, text_from, test_from, instruction_from, HasNumber, HasShorts};
+ghost use Rattle.data_image.specs.Instructions.{calculation_bytes, data_instruction_bytes, data_instruction_at, index_at, truncate_at, naming_at, duplicate, text_from, test_from, instruction_from, HasNumber, HasShorts};
 ghost use Rattle.data_image.specs.Tests.{compare_literal_at};
 
 use crate::byte::{found, put_byte, read_byte};
 use crate::fault::ImageError;
 use crate::gather::{
-    GATHER_BYTES, MEASURED, SIZED, STRING, STRING_POINTER, TEXT_UP_TO_PLACE, UP_TO_PLACE,
-    UP_TO_TEXT, put_gather, string_byte,
+    GATHER_BYTES, SIZED, STRING, STRING_POINTER, TEXT_UP_TO_PLACE, UP_TO_PLACE, UP_TO_TEXT,
+    put_gather, string_byte,
 };
 use crate::number::{put_naming, put_short, read_short};
 use crate::part::{PART_COUNTED, PART_FIXED, PART_REST, put_part};
@@ -82,10 +82,6 @@ const INSPECT: u8 = 69;
 
 const CONVERT: u8 = 73;
 
-const INSPECT_MEASURED: u8 = 75;
-
-const CONVERT_MEASURED: u8 = 76;
-
 impl TableEntry for DataInstruction {
     ghost spelled = { data_instruction_bytes };
 
@@ -118,14 +114,6 @@ impl TableEntry for DataInstruction {
             DataInstruction::String { pointer } => put_byte(out, string_byte(pointer)),
             DataInstruction::Inspect { inspection } => put_naming(out, INSPECT, inspection.number),
             DataInstruction::Convert { inspection } => put_naming(out, CONVERT, inspection.number),
-            DataInstruction::InspectMeasured {
-                inspection,
-                numbers,
-            } => put_measured(out, INSPECT_MEASURED, inspection, numbers),
-            DataInstruction::ConvertMeasured {
-                inspection,
-                numbers,
-            } => put_measured(out, CONVERT_MEASURED, inspection, numbers),
         }
     }
 
@@ -144,21 +132,6 @@ fn put_index(out: &mut Vec<u8>, stride: u32, count: u32) -> Result<(), AllocErro
     put_byte(out, INDEX)?;
     put_short(out, stride)?;
     put_short(out, count)
-}
-
-/// An inspection, and how many numbers are taken.
-fn put_measured(
-    out: &mut Vec<u8>,
-    first: u8,
-    inspection: InspectionIndex,
-    numbers: u32,
-) -> Result<(), AllocError>
-    ensures bytes { OnOk result (out.new.items ≡ out.old.items
-        ++ (first ∷ (short_bytes inspection.number ++ short_bytes numbers))) }
-    ensures fits { FitsFourBytes inspection.number × FitsFourBytes numbers }
-{
-    put_naming(out, first, inspection.number)?;
-    put_short(out, numbers)
 }
 
 fn put_truncate(out: &mut Vec<u8>, scale: u8) -> Result<(), AllocError>
@@ -234,7 +207,6 @@ fn plain_instruction_of(byte: u8) -> Option<DataInstruction>
         SIZED => Some(DataInstruction::Gather(Gather::Sized)),
         PART_COUNTED => Some(DataInstruction::Part(Part::Counted)),
         PART_REST => Some(DataInstruction::Part(Part::Rest)),
-        MEASURED => Some(DataInstruction::Gather(Gather::Measured)),
         _ => None,
     }
 }
@@ -245,32 +217,6 @@ fn read_index(bytes: &[u8]) -> Result<(DataInstruction, &[u8]), ImageError>
     let (stride, rest) = read_short(bytes)?;
     let (count, rest) = read_short(rest)?;
     Ok((DataInstruction::Index { stride, count }, rest))
-}
-
-fn read_inspect_measured(bytes: &[u8]) -> Result<(DataInstruction, &[u8]), ImageError>
-    ensures { Gives (λ x. (x.0, x.1.now)) fault_of result (measured_at inspect_measured bytes.now) }
-{
-    let (number, rest) = read_short(bytes)?;
-    let (numbers, rest) = read_short(rest)?;
-    let inspection = InspectionIndex { number };
-    let one = DataInstruction::InspectMeasured {
-        inspection,
-        numbers,
-    };
-    Ok((one, rest))
-}
-
-fn read_convert_measured(bytes: &[u8]) -> Result<(DataInstruction, &[u8]), ImageError>
-    ensures { Gives (λ x. (x.0, x.1.now)) fault_of result (measured_at convert_measured bytes.now) }
-{
-    let (number, rest) = read_short(bytes)?;
-    let (numbers, rest) = read_short(rest)?;
-    let inspection = InspectionIndex { number };
-    let one = DataInstruction::ConvertMeasured {
-        inspection,
-        numbers,
-    };
-    Ok((one, rest))
 }
 
 fn read_truncate(bytes: &[u8]) -> Result<(DataInstruction, &[u8]), ImageError>
@@ -299,18 +245,7 @@ fn read_compare_literal(bytes: &[u8]) -> Result<(DataInstruction, &[u8]), ImageE
     Ok((DataInstruction::Test(one), rest))
 }
 
-/// The instruction with texts that were measured whose first byte this is, or what a byte is alone.
-fn read_measured(byte: u8, bytes: &[u8]) -> Result<(DataInstruction, &[u8]), ImageError>
-    ensures { Gives (λ x. (x.0, x.1.now)) fault_of result (measured_from byte bytes.now) }
-{
-    match byte {
-        INSPECT_MEASURED => read_inspect_measured(bytes),
-        CONVERT_MEASURED => read_convert_measured(bytes),
-        _ => Ok((found(plain_instruction_of(byte))?, bytes)),
-    }
-}
-
-/// The instruction on texts with a number whose first byte this is, or one with texts that were measured.
+/// The instruction on texts with a number whose first byte this is, or what a byte is alone.
 fn read_text(byte: u8, bytes: &[u8]) -> Result<(DataInstruction, &[u8]), ImageError>
     ensures { Gives (λ x. (x.0, x.1.now)) fault_of result (text_from byte bytes.now) }
 {
@@ -346,7 +281,7 @@ fn read_text(byte: u8, bytes: &[u8]) -> Result<(DataInstruction, &[u8]), ImageEr
             let (size, rest) = read_short(bytes)?;
             Ok((DataInstruction::Part(Part::Fixed { size }), rest))
         }
-        _ => read_measured(byte, bytes),
+        _ => Ok((found(plain_instruction_of(byte))?, bytes)),
     }
 }
 

@@ -9,6 +9,7 @@ use Rattle.source_tree.specs.declared.reference.Part.{Part}
 use Rattle.source_tree.specs.Clauses.{or_else}
 use Rattle.source_tree.specs.Evaluated as fault
 use Rattle.source_tree.specs.Evaluated.{Evaluation, ◌>>=◌, evaluation_of}
+use Rattle.source_tree.specs.InspectLayout.{HasKnownLength}
 use Rattle.source_tree.specs.Integers.{number_of}
 use Rattle.source_tree.specs.LookUp.{first}
 use Rattle.source_tree.specs.Parts.{known_literal, length_from, known_length, seen_by}
@@ -399,6 +400,43 @@ is_made whole place (pos (suc before)) (Some z) e =
     let there = length_made whole place before z e in
     record { before = before; long = there.0; is = there.2; first = refl; length_is = there.1 }
 
+same_number : (n m : ℕ) → pos n ≡ pos m → n ≡ m
+same_number n m e = cc
+
+-- a known length is that in the run
+long_is : (items : List LocatedItem) (storage : Storage) (size : ℕ) (first : written.Subscript)
+    (length : Option written.Subscript) (z : ℤ) (l : Option ℤ) (before n : ℕ)
+    → subscript_value items first storage ≡ okay z → length_value items length storage ≡ okay l → z ≡ pos (suc before)
+    → IsLength size before n l → known_length size first length ≢ None
+    → n ≡ or_else (known_length size first length) size
+long_is items storage size (subscript.Item item adjustment) None z l before n first_is length_is begin long known =
+    absurd (known refl)
+long_is items storage size (subscript.Literal m) None z l before n first_is length_is begin long known =
+    by_test (nat_le 1 (number_of m) && nat_le (number_of m) size) known
+  where
+    numbered : number_of m ≡ suc before
+    numbered = cc
+
+    none : n ≡ size - before
+    none = subst (IsLength size before n) (sym (same_Ok None l length_is)) long
+
+    by_test : (b : Bool) → length_from size (if b then Some (number_of m) else None) ≢ None
+        → n ≡ or_else (length_from size (if b then Some (number_of m) else None)) size
+    by_test true known = omega (arith, numbered, none)
+    by_test false known = absurd (known refl)
+long_is items storage size first (Some (subscript.Literal m)) z l before n first_is length_is begin long known =
+    by_test (nat_le 1 (number_of m) && nat_le (number_of m) size) known
+  where
+    some : pos (number_of m) ≡ pos n
+    some = subst (IsLength size before n) (sym (same_Ok (Some (pos (number_of m))) l length_is)) long
+
+    by_test : (b : Bool) → (if b then Some (number_of m) else None) ≢ None
+        → n ≡ or_else (if b then Some (number_of m) else None) size
+    by_test true known = sym (same_number (number_of m) n some)
+    by_test false known = absurd (known refl)
+long_is items storage size first (Some (subscript.Item item adjustment)) z l before n first_is length_is begin long
+    known = absurd (known refl)
+
 pub first_shown : (all : List LocatedItem) (part : Option Part) (found : LocatedItem) → first all ≡ Some found
     → first (map (seen_by part) all) ≡ Some (seen_by part found)
 first_shown [] part found e = absurd cc
@@ -429,3 +467,14 @@ module _ (items : List LocatedItem) (found : LocatedItem) where
       let made = numbers_of part storage behind place e in
       subst (λ (p : ItemPlace). item_place (shortened_item (part_entry found (Some part)) p.item.length) p.offset ≡ p)
       made.4.is refl
+
+  pub part_long : (part : Option Part) (storage : Storage) (behind : ℕ) (place : ItemPlace)
+      → HasKnownLength (Some found) part → part_in items part storage (place_after found behind) ≡ Ok place
+      → place.item.length ≡ (seen_by part found).item.length
+  part_long None storage behind place sized e =
+      ap (λ (p : ItemPlace). p.item.length) (sym (same_Ok (place_after found behind) place e))
+  part_long (Some part) storage behind place sized e =
+      let made = numbers_of part storage behind place e in
+      ap (λ (p : ItemPlace). p.item.length) (sym made.4.is)
+      ∙ long_is items storage found.item.length part.first part.length made.0 made.2 made.4.before made.4.long made.1
+      made.3 made.4.first made.4.length_is sized

@@ -1,7 +1,8 @@
 -- The entry of a part is in order where its item's is.
-use Rattle.std.proofs.Common.{◌≡◌, ℕ, ◌≤◌, refl, arith, Option, Some, None, List, []}
+use Rattle.std.proofs.Common.{◌≡◌, ℕ, ◌+◌, ◌≤◌, refl, arith, Option, Some, None, List, []}
 use Rattle.std.proofs.Common.{◌∷◌}
 use Rattle.std.specs.Prelude.{Bool, true, false, nat_le, if◌then◌else◌}
+use Rattle.picture.specs.declared.picture.Picture.{Picture}
 use Rattle.items.specs.declared.usage.OperationalSign.{OperationalSign}
 use Rattle.items.specs.declared.usage.OperationalSign.TheVariants as operational
 use Rattle.items.specs.declared.usage.Usage.{Usage}
@@ -19,7 +20,7 @@ use Rattle.source_tree.specs.Places.{LocatedItem}
 use Rattle.data_instructions.specs.declared.tables.DataTables.{DataTables}
 use Rattle.data_instructions.specs.Tables.{IsDataItem}
 use Rattle.data_instructions.specs.Shapes.{last_reach}
-use Rattle.data_instructions.specs.Chains.{greatest, LiesWhole}
+use Rattle.data_instructions.specs.Chains.{greatest, last_begin, LiesWhole}
 use Rattle.data_instructions.specs.Codes.{data_item}
 use Rattle.data_instructions.specs.PartForms.{first_offset, part_entry}
 use Rattle.data_instructions.proofs.PartForms.{IsLengthWithin, known_within}

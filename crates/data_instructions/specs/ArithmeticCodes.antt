@@ -10,15 +10,12 @@ use Rattle.source_tree.specs.declared.arithmetic.Receiver.{Receiver}
 use Rattle.source_tree.specs.declared.arithmetic.DivisionOrder.{DivisionOrder}
 use Rattle.source_tree.specs.declared.arithmetic.DivisionOrder.TheVariants.{Into, By}
 use Rattle.source_tree.specs.declared.arithmetic.Operation.{Operation}
-use Rattle.source_tree.specs.declared.arithmetic.Operation.TheVariants.{Add, AddGiving, Subtract, SubtractGiving}
-use Rattle.source_tree.specs.declared.arithmetic.Operation.TheVariants.{Multiply, MultiplyGiving, Divide, DivideGiving}
-use Rattle.source_tree.specs.declared.arithmetic.Operation.TheVariants.{DivideRemainder, Compute}
+use Rattle.source_tree.specs.declared.arithmetic.Operation.TheVariants.{Add, AddGiving, Subtract, SubtractGiving, Multiply, MultiplyGiving, Divide, DivideGiving, DivideRemainder, Compute}
 use Rattle.source_tree.specs.Parts.{seen_through}
 use Rattle.source_tree.specs.Places.{LocatedItem}
 use Rattle.source_tree.specs.LookUp.{items_named, first}
 use Rattle.source_tree.specs.Evaluated.{◌>>=◌}
-use Rattle.source_tree.specs.Computed.{ArithmeticValue, ExpressionValue, operate, negate, number_of_literal}
-use Rattle.source_tree.specs.Computed.{expression_value}
+use Rattle.source_tree.specs.Computed.{ArithmeticValue, ExpressionValue, operate, negate, number_of_literal, expression_value}
 use Rattle.source_tree.specs.Arithmetic.{NumberReceiver, receiver_of, operation}
 use Rattle.data_instructions.specs.declared.index.NumberIndex.{NumberIndex}
 use Rattle.data_instructions.specs.declared.tables.DataTables.{DataTables}
@@ -49,14 +46,12 @@ Computes tables value code = (s : Scratch) → works tables code s ≡ step_with
 
 -- One number more is known, and all else is as before.
 abbrev pub PushesNumber : DataTables → List DataInstruction → Type 0
-PushesNumber tables code = (s : Shape)
-    → effects tables code s ≡ Some (record s { stacks = record s.stacks { numbers = s.stacks.numbers + 1 } })
+PushesNumber tables code = (s : Shape) → effects tables code s ≡ Some (record s { stacks = record s.stacks { numbers = s.stacks.numbers + 1 } })
 
 -- The same of what goes on with the newest number, in whose place the outcome comes.
 abbrev pub ComputesOn : DataTables → (ArithmeticValue → ExpressionValue) → List DataInstruction → Type 0
 ComputesOn tables next code =
-    (x : ArithmeticValue) (s : Scratch)
-    → works tables code (record s { numbers = x ∷ s.numbers }) ≡ step_with (next x s.storage) (λ y. push_step y s)
+    (x : ArithmeticValue) (s : Scratch) → works tables code (record s { numbers = x ∷ s.numbers }) ≡ step_with (next x s.storage) (λ y. push_step y s)
 
 -- a value with the other sign
 abbrev pub negated_value : ExpressionValue → ExpressionValue
@@ -67,8 +62,7 @@ abbrev pub value_and_then : ExpressionValue → (ArithmeticValue → ExpressionV
 value_and_then value next storage = value storage >>= (λ x. next x storage)
 
 -- an operator on a number and a value, its right operand, and what goes on with the outcome
-abbrev pub operation_and_then : Operator → ExpressionValue → (ArithmeticValue → ExpressionValue) → ArithmeticValue
-    → ExpressionValue
+abbrev pub operation_and_then : Operator → ExpressionValue → (ArithmeticValue → ExpressionValue) → ArithmeticValue → ExpressionValue
 operation_and_then one value next x storage = value storage >>= (λ y. next (operate one x y) storage)
 
 -- With a number there, all is as before.
@@ -78,8 +72,7 @@ StaysOver tables code = (s : Shape) → 1 ≤ s.stacks.numbers → effects table
 module _ (items : List LocatedItem) (tables : DataTables) where
   -- a number of the table
   abbrev pub IsNumberCode : Fraction → List DataInstruction → Type 0
-  IsNumberCode x code =
-      (index : NumberIndex) × (slice_get tables.numbers index.number ≡ Some x) × (code ≡ i.Literal index ∷ [])
+  IsNumberCode x code = (index : NumberIndex) × (slice_get tables.numbers index.number ≡ Some x) × (code ≡ i.Literal index ∷ [])
 
   -- The number of an operand comes on the stack of numbers.
   abbrev pub IsValueCode : Operand → List DataInstruction → Type 0
@@ -90,27 +83,23 @@ module _ (items : List LocatedItem) (tables : DataTables) where
   abbrev pub AreAddedCode : List Operand → List DataInstruction → Type 0
   AreAddedCode [] code = code ≡ []
   AreAddedCode (one ∷ more) code =
-      (front : List DataInstruction) × IsValueCode one front × (back : List DataInstruction) × AreAddedCode more back
-      × (code ≡ front ++ (i.Calculate c.Add ∷ back))
+      (front : List DataInstruction) × IsValueCode one front × (back : List DataInstruction) × AreAddedCode more back × (code ≡ front ++ (i.Calculate c.Add ∷ back))
 
   abbrev pub IsTotalCode : List Operand → List DataInstruction → Type 0
   IsTotalCode [] code = IsNumberCode (record { coefficient = pos 0; scale = 0 }) code
   IsTotalCode (one ∷ more) code =
-      (front : List DataInstruction) × IsValueCode one front × (back : List DataInstruction) × AreAddedCode more back
-      × (code ≡ front ++ back)
+      (front : List DataInstruction) × IsValueCode one front × (back : List DataInstruction) × AreAddedCode more back × (code ≡ front ++ back)
 
   -- the decimals that a receiver keeps
   abbrev pub HasScale : Reference → ℕ → Type 0
   HasScale reference scale =
       (found : LocatedItem) × (first (items_named items reference.item) ≡ Some found)
-      × (to : NumberReceiver)
-      × (receiver_of (seen_through reference found).item.kind (seen_through reference found).editing ≡ Some to)
-      × (to.scale ≡ scale)
+      × (to : NumberReceiver) × (receiver_of (seen_through reference found).item.kind (seen_through reference found).editing ≡ Some to) × (to.scale ≡ scale)
 
   -- `keep`: there is an ON SIZE ERROR phrase.
   module _ (keep : Bool) where
-    -- A receiver becomes what it holds, with the newest number on its right, which stays. Its place is found twice, to
-    -- read and to store.
+    -- A receiver becomes what it holds, with the newest number on its right, which stays. Its place is found twice, to read and
+    -- to store.
     abbrev pub IsUpdateCode : Operator → Receiver → List DataInstruction → Type 0
     IsUpdateCode one receiver code =
         (front : List DataInstruction) × IsTakingCode items tables i.Push receiver.item front
@@ -120,20 +109,17 @@ module _ (items : List LocatedItem) (tables : DataTables) where
     abbrev pub AreUpdatesCode : Operator → List Receiver → List DataInstruction → Type 0
     AreUpdatesCode one [] code = code ≡ []
     AreUpdatesCode one (receiver ∷ more) code =
-        (front : List DataInstruction) × IsUpdateCode one receiver front × (back : List DataInstruction)
-        × AreUpdatesCode one more back × (code ≡ front ++ back)
+        (front : List DataInstruction) × IsUpdateCode one receiver front × (back : List DataInstruction) × AreUpdatesCode one more back × (code ≡ front ++ back)
 
     -- A receiver becomes the newest number, which stays.
     abbrev pub IsGiveCode : Receiver → List DataInstruction → Type 0
     IsGiveCode receiver code =
-        (back : List DataInstruction) × IsTakingCode items tables (i.Store receiver.rounded keep) receiver.item back
-        × (code ≡ duplicate 0 ∷ back)
+        (back : List DataInstruction) × IsTakingCode items tables (i.Store receiver.rounded keep) receiver.item back × (code ≡ duplicate 0 ∷ back)
 
     abbrev pub AreGivesCode : List Receiver → List DataInstruction → Type 0
     AreGivesCode [] code = code ≡ []
     AreGivesCode (receiver ∷ more) code =
-        (front : List DataInstruction) × IsGiveCode receiver front × (back : List DataInstruction)
-        × AreGivesCode more back × (code ≡ front ++ back)
+        (front : List DataInstruction) × IsGiveCode receiver front × (back : List DataInstruction) × AreGivesCode more back × (code ≡ front ++ back)
 
     -- Where the quotient was kept there is no remainder.
     abbrev pub kept_code : Bool → List DataInstruction
@@ -147,11 +133,10 @@ module _ (items : List LocatedItem) (tables : DataTables) where
         × (scale : ℕ) × HasScale quotient.item scale
         × (back : List DataInstruction) × IsTakingCode items tables (i.Store false keep) remainder back
         × (code ≡ (duplicate 1 ∷ duplicate 1 ∷ i.Calculate c.Divide ∷ give)
-        ++ (i.Calculate (c.Truncate scale) ∷ i.Calculate c.Multiply ∷ i.Calculate c.Subtract
-        ∷ (kept_code keep ++ back)))
+        ++ (i.Calculate (c.Truncate scale) ∷ i.Calculate c.Multiply ∷ i.Calculate c.Subtract ∷ (kept_code keep ++ back)))
 
-    -- Two operands in the order of writing, and what is done then: code that begins with the dividend below the
-    -- divisor, and that leaves nothing of them.
+    -- Two operands in the order of writing, and what is done then: code that begins with the dividend below the divisor, and
+    -- that leaves nothing of them.
     abbrev pub IsDivisionCode : DivisionOrder → List DataInstruction → List DataInstruction → Type 0
     IsDivisionCode By inner code = code ≡ inner
     IsDivisionCode Into inner code = code ≡ duplicate 1 ∷ (inner ++ (discard ∷ []))
@@ -159,45 +144,34 @@ module _ (items : List LocatedItem) (tables : DataTables) where
     -- What an operation computes and stores.
     abbrev pub IsOperationCode : Operation → List DataInstruction → Type 0
     IsOperationCode (Add operands receivers) code =
-        (front : List DataInstruction) × IsTotalCode operands front × (back : List DataInstruction)
-        × AreUpdatesCode operator.Add receivers back × (code ≡ front ++ (back ++ (discard ∷ [])))
+        (front : List DataInstruction) × IsTotalCode operands front × (back : List DataInstruction) × AreUpdatesCode operator.Add receivers back × (code ≡ front ++ (back ++ (discard ∷ [])))
     IsOperationCode (AddGiving operands receivers) code =
-        (front : List DataInstruction) × IsTotalCode operands front × (back : List DataInstruction)
-        × AreGivesCode receivers back × (code ≡ front ++ (back ++ (discard ∷ [])))
+        (front : List DataInstruction) × IsTotalCode operands front × (back : List DataInstruction) × AreGivesCode receivers back × (code ≡ front ++ (back ++ (discard ∷ [])))
     IsOperationCode (Subtract operands receivers) code =
-        (front : List DataInstruction) × IsTotalCode operands front × (back : List DataInstruction)
-        × AreUpdatesCode operator.Subtract receivers back × (code ≡ front ++ (back ++ (discard ∷ [])))
+        (front : List DataInstruction) × IsTotalCode operands front × (back : List DataInstruction) × AreUpdatesCode operator.Subtract receivers back × (code ≡ front ++ (back ++ (discard ∷ [])))
     IsOperationCode (SubtractGiving operands minuend receivers) code =
-        (front : List DataInstruction) × IsTotalCode operands front × (other : List DataInstruction)
-        × IsValueCode minuend other
+        (front : List DataInstruction) × IsTotalCode operands front × (other : List DataInstruction) × IsValueCode minuend other
         × (back : List DataInstruction) × AreGivesCode receivers back
         × (code ≡ front ++ (other ++ (duplicate 1 ∷ i.Calculate c.Subtract ∷ (back ++ (discard ∷ discard ∷ [])))))
     IsOperationCode (Multiply factor receivers) code =
-        (front : List DataInstruction) × IsValueCode factor front × (back : List DataInstruction)
-        × AreUpdatesCode operator.Multiply receivers back × (code ≡ front ++ (back ++ (discard ∷ [])))
+        (front : List DataInstruction) × IsValueCode factor front × (back : List DataInstruction) × AreUpdatesCode operator.Multiply receivers back × (code ≡ front ++ (back ++ (discard ∷ [])))
     IsOperationCode (MultiplyGiving factor by receivers) code =
-        (front : List DataInstruction) × IsValueCode factor front × (other : List DataInstruction)
-        × IsValueCode by other
-        × (back : List DataInstruction) × AreGivesCode receivers back
-        × (code ≡ front ++ (other ++ (i.Calculate c.Multiply ∷ (back ++ (discard ∷ [])))))
+        (front : List DataInstruction) × IsValueCode factor front × (other : List DataInstruction) × IsValueCode by other
+        × (back : List DataInstruction) × AreGivesCode receivers back × (code ≡ front ++ (other ++ (i.Calculate c.Multiply ∷ (back ++ (discard ∷ [])))))
     IsOperationCode (Divide divisor receivers) code =
-        (front : List DataInstruction) × IsValueCode divisor front × (back : List DataInstruction)
-        × AreUpdatesCode operator.Divide receivers back × (code ≡ front ++ (back ++ (discard ∷ [])))
+        (front : List DataInstruction) × IsValueCode divisor front × (back : List DataInstruction) × AreUpdatesCode operator.Divide receivers back × (code ≡ front ++ (back ++ (discard ∷ [])))
     IsOperationCode (DivideGiving first order second receivers) code =
-        (front : List DataInstruction) × IsValueCode first front × (other : List DataInstruction)
-        × IsValueCode second other
+        (front : List DataInstruction) × IsValueCode first front × (other : List DataInstruction) × IsValueCode second other
         × (back : List DataInstruction) × AreGivesCode receivers back
         × (last : List DataInstruction) × IsDivisionCode order (i.Calculate c.Divide ∷ (back ++ (discard ∷ []))) last
         × (code ≡ front ++ (other ++ last))
     IsOperationCode (DivideRemainder first order second quotient remainder) code =
-        (front : List DataInstruction) × IsValueCode first front × (other : List DataInstruction)
-        × IsValueCode second other
+        (front : List DataInstruction) × IsValueCode first front × (other : List DataInstruction) × IsValueCode second other
         × (back : List DataInstruction) × IsRemainderCode quotient remainder back
         × (last : List DataInstruction) × IsDivisionCode order back last
         × (code ≡ front ++ (other ++ last))
     IsOperationCode (Compute receivers value) code =
-        (front : List DataInstruction) × Computes tables (expression_value items value) front
-        × PushesNumber tables front
+        (front : List DataInstruction) × Computes tables (expression_value items value) front × PushesNumber tables front
         × (back : List DataInstruction) × AreGivesCode receivers back × (code ≡ front ++ (back ++ (discard ∷ [])))
 
     -- an arithmetic statement, up to its phrases
@@ -207,8 +181,7 @@ module _ (items : List LocatedItem) (tables : DataTables) where
     -- Storage is as `operation` says, the truth is whether a size error arose, and all else stays.
     abbrev pub DoesArithmetic : Operation → List DataInstruction → Type 0
     DoesArithmetic one code =
-        (s : Scratch) → works tables code s ≡ step_with (operation items keep one s.storage)
-        (λ after. Continues (record s { storage = after.storage; truth = after.size_error }))
+        (s : Scratch) → works tables code s ≡ step_with (operation items keep one s.storage) (λ after. Continues (record s { storage = after.storage; truth = after.size_error }))
 
   -- Each occurrence of the items that an operation names lies in its area.
   abbrev pub LiesOperand : Operand → Type 0
@@ -227,15 +200,12 @@ module _ (items : List LocatedItem) (tables : DataTables) where
   LiesOperation (Add operands receivers) = LieOperands operands × LieReceivers receivers
   LiesOperation (AddGiving operands receivers) = LieOperands operands × LieReceivers receivers
   LiesOperation (Subtract operands receivers) = LieOperands operands × LieReceivers receivers
-  LiesOperation (SubtractGiving operands minuend receivers) =
-      LieOperands operands × LiesOperand minuend × LieReceivers receivers
+  LiesOperation (SubtractGiving operands minuend receivers) = LieOperands operands × LiesOperand minuend × LieReceivers receivers
   LiesOperation (Multiply factor receivers) = LiesOperand factor × LieReceivers receivers
   LiesOperation (MultiplyGiving factor by receivers) = LiesOperand factor × LiesOperand by × LieReceivers receivers
   LiesOperation (Divide divisor receivers) = LiesOperand divisor × LieReceivers receivers
-  LiesOperation (DivideGiving first order second receivers) =
-      LiesOperand first × LiesOperand second × LieReceivers receivers
-  LiesOperation (DivideRemainder first order second quotient remainder) =
-      LiesOperand first × LiesOperand second × LiesAll items tables quotient.item × LiesAll items tables remainder
+  LiesOperation (DivideGiving first order second receivers) = LiesOperand first × LiesOperand second × LieReceivers receivers
+  LiesOperation (DivideRemainder first order second quotient remainder) = LiesOperand first × LiesOperand second × LiesAll items tables quotient.item × LiesAll items tables remainder
   LiesOperation (Compute receivers value) = LieReceivers receivers
 
 -- all is as before

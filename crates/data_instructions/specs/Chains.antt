@@ -16,8 +16,7 @@ use Rattle.data_instructions.specs.declared.tables.DataTables.{DataTables}
 use Rattle.data_instructions.specs.declared.instruction.DataInstruction.{DataInstruction}
 use Rattle.data_instructions.specs.declared.shape.Shape.{Shape}
 use Rattle.data_instructions.specs.Tables.{Lies}
-use Rattle.data_instructions.specs.Shapes.{and_then, last_reach, part_reach, effect, shape_after_accept}
-use Rattle.data_instructions.specs.Shapes.{shape_after_date}
+use Rattle.data_instructions.specs.Shapes.{and_then, last_reach, part_reach, effect, shape_after_accept, shape_after_date}
 use Rattle.data_instructions.specs.PartForms.{PartForm, OfLength, part_form, first_offset}
 use Rattle.data_instructions.specs.Codes.{data_item}
 
@@ -49,8 +48,7 @@ last_begin found part =
 module _ (items : List LocatedItem) (tables : DataTables) where
   -- so it is of the item that a reference names
   abbrev pub LiesAll : Reference → Type 0
-  LiesAll reference =
-      (found : LocatedItem) → first (items_named items reference.item) ≡ Some found → LiesWhole tables found
+  LiesAll reference = (found : LocatedItem) → first (items_named items reference.item) ≡ Some found → LiesWhole tables found
 
   abbrev pub ShowsAll : List Operand → Type 0
   ShowsAll [] = Unit {0}
@@ -59,15 +57,12 @@ module _ (items : List LocatedItem) (tables : DataTables) where
 
   -- what a sender counts as
   abbrev pub SendsAs : Operand → Taken → Type 0
-  SendsAs (operand.Item reference) sent = LiesAll reference × ((found : LocatedItem)
-      → first (items_named items reference.item) ≡ Some found → taken.Item (seen_through reference found).item ≡ sent)
+  SendsAs (operand.Item reference) sent = LiesAll reference × ((found : LocatedItem) → first (items_named items reference.item) ≡ Some found → taken.Item (seen_through reference found).item ≡ sent)
   SendsAs (operand.Literal literal) sent = (literal_sender literal.value).taken ≡ sent
 
   -- the move to the item of a reference is permitted
   abbrev pub MayReceive : Taken → Reference → Type 0
-  MayReceive sent reference =
-      LiesAll reference × ((found : LocatedItem) → first (items_named items reference.item) ≡ Some found
-      → may_move sent (seen_through reference found).item ≡ true)
+  MayReceive sent reference = LiesAll reference × ((found : LocatedItem) → first (items_named items reference.item) ≡ Some found → may_move sent (seen_through reference found).item ≡ true)
 
   abbrev pub MayReceiveEach : Taken → List Reference → Type 0
   MayReceiveEach sent [] = Unit {0}

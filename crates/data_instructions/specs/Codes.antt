@@ -1,5 +1,5 @@
--- The code of references, and of MOVE, DISPLAY and ACCEPT (own choice). Which entry of a table stands for an item or a
--- literal is left to whoever writes the code; here it is said that the entry has that item or literal.
+-- The code of references, and of MOVE, DISPLAY and ACCEPT (own choice). Which entry of a table stands for an item or a literal is
+-- left to whoever writes the code; here it is said that the entry has that item or literal.
 use Rattle.std.specs.Prelude.{◌≡◌, ℕ, ◌<◌, ◌^◌, ◌++◌, Bool, true, false, ℤ, pos, List, [], ◌∷◌, Some, slice_get}
 use Rattle.decimal18.specs.Fraction.{Fraction}
 use Rattle.source_tree.specs.declared.reference.QualifiedName.{QualifiedName}
@@ -66,15 +66,12 @@ module _ (items : List LocatedItem) (tables : DataTables) where
 
   abbrev pub IsAdjustmentCode : Adjustment → List DataInstruction → Type 0
   IsAdjustmentCode adjustment.Nothing code = code ≡ []
-  IsAdjustmentCode (adjustment.Plus n) code = (number : NumberIndex) × HasInteger tables number (number_of n)
-      × (code ≡ i.Literal number ∷ i.Calculate c.Add ∷ [])
-  IsAdjustmentCode (adjustment.Minus n) code = (number : NumberIndex) × HasInteger tables number (number_of n)
-      × (code ≡ i.Literal number ∷ i.Calculate c.Subtract ∷ [])
+  IsAdjustmentCode (adjustment.Plus n) code = (number : NumberIndex) × HasInteger tables number (number_of n) × (code ≡ i.Literal number ∷ i.Calculate c.Add ∷ [])
+  IsAdjustmentCode (adjustment.Minus n) code = (number : NumberIndex) × HasInteger tables number (number_of n) × (code ≡ i.Literal number ∷ i.Calculate c.Subtract ∷ [])
 
   -- The number of a subscript comes on the stack of numbers. Its item is an integer, as the rules want it.
   abbrev pub IsSubscriptCode : written.Subscript → List DataInstruction → Type 0
-  IsSubscriptCode (subscript.Literal n) code =
-      (number : NumberIndex) × HasInteger tables number (number_of n) × (code ≡ i.Literal number ∷ [])
+  IsSubscriptCode (subscript.Literal n) code = (number : NumberIndex) × HasInteger tables number (number_of n) × (code ≡ i.Literal number ∷ [])
   IsSubscriptCode (subscript.Item name adjusting) code =
       (index : ItemIndex) × (found : LocatedItem) × HasItem name index found × (is_integer_kind found.item.kind ≡ true)
       × (more : List DataInstruction) × IsAdjustmentCode adjusting more × (code ≡ i.Place index ∷ i.Push ∷ more)
@@ -84,22 +81,18 @@ module _ (items : List LocatedItem) (tables : DataTables) where
   AreSubscriptsCode [] subscripts code = code ≡ []
   AreSubscriptsCode (one ∷ more) [] code = ⊥
   AreSubscriptsCode (one ∷ more) (written ∷ others) code =
-      (front : List DataInstruction) × IsSubscriptCode written front × (back : List DataInstruction)
-      × AreSubscriptsCode more others back
+      (front : List DataInstruction) × IsSubscriptCode written front × (back : List DataInstruction) × AreSubscriptsCode more others back
       × (code ≡ front ++ (index_code one ∷ back))
 
   -- A part of the newest place, whose item has so many bytes, comes in that place.
   abbrev pub IsPartCode : ℕ → PartForm → List DataInstruction → Type 0
   IsPartCode size Whole code = code ≡ []
   IsPartCode size (Settled before) code = code ≡ []
-  IsPartCode size (OfLength first) code =
-      (front : List DataInstruction) × IsSubscriptCode first front × (code ≡ front ++ (i.Part (part.Fixed size) ∷ []))
+  IsPartCode size (OfLength first) code = (front : List DataInstruction) × IsSubscriptCode first front × (code ≡ front ++ (i.Part (part.Fixed size) ∷ []))
   IsPartCode size (Counted first length) code =
-      (front : List DataInstruction) × IsSubscriptCode first front × (back : List DataInstruction)
-      × IsSubscriptCode length back
+      (front : List DataInstruction) × IsSubscriptCode first front × (back : List DataInstruction) × IsSubscriptCode length back
       × (code ≡ front ++ (back ++ (i.Part part.Counted ∷ [])))
-  IsPartCode size (Rest first) code =
-      (front : List DataInstruction) × IsSubscriptCode first front × (code ≡ front ++ (i.Part part.Rest ∷ []))
+  IsPartCode size (Rest first) code = (front : List DataInstruction) × IsSubscriptCode first front × (code ≡ front ++ (i.Part part.Rest ∷ []))
 
   -- The place of a reference comes on the stack of places. The table has an entry for its item, or for its part.
   pub record IsReferenceCode (reference : Reference) (code : List DataInstruction) : Type 0 where
@@ -115,33 +108,28 @@ module _ (items : List LocatedItem) (tables : DataTables) where
 
   -- a reference, and an instruction that takes its place
   abbrev pub IsTakingCode : DataInstruction → Reference → List DataInstruction → Type 0
-  IsTakingCode taking reference code =
-      (front : List DataInstruction) × IsReferenceCode reference front × (code ≡ front ++ (taking ∷ []))
+  IsTakingCode taking reference code = (front : List DataInstruction) × IsReferenceCode reference front × (code ≡ front ++ (taking ∷ []))
 
   -- what is sent
   abbrev pub IsSenderCode : Operand → List DataInstruction → Type 0
   IsSenderCode (operand.Item reference) code = IsTakingCode i.Take reference code
   IsSenderCode (operand.Literal literal) code =
-      (index : SenderIndex) × (entry : LiteralSender) × (slice_get tables.senders index.number ≡ Some entry)
-      × (sender_of entry ≡ literal_sender literal.value)
+      (index : SenderIndex) × (entry : LiteralSender) × (slice_get tables.senders index.number ≡ Some entry) × (sender_of entry ≡ literal_sender literal.value)
       × (code ≡ i.TakeLiteral index ∷ [])
 
   abbrev pub AreReceiversCode : List Reference → List DataInstruction → Type 0
   AreReceiversCode [] code = code ≡ []
   AreReceiversCode (one ∷ more) code =
-      (front : List DataInstruction) × IsTakingCode i.Move one front × (back : List DataInstruction)
-      × AreReceiversCode more back × (code ≡ front ++ back)
+      (front : List DataInstruction) × IsTakingCode i.Move one front × (back : List DataInstruction) × AreReceiversCode more back × (code ≡ front ++ back)
 
   -- MOVE
   abbrev pub IsMoveCode : Operand → List Reference → List DataInstruction → Type 0
   IsMoveCode sender receivers code =
-      (front : List DataInstruction) × IsSenderCode sender front × (back : List DataInstruction)
-      × AreReceiversCode receivers back × (code ≡ front ++ back)
+      (front : List DataInstruction) × IsSenderCode sender front × (back : List DataInstruction) × AreReceiversCode receivers back × (code ≡ front ++ back)
 
   -- a text, added to the line
   abbrev pub IsTextCode : List ℕ → List DataInstruction → Type 0
-  IsTextCode bytes code =
-      (index : TextIndex) × (slice_get tables.texts index.number ≡ Some bytes) × (code ≡ i.AppendLiteral index ∷ [])
+  IsTextCode bytes code = (index : TextIndex) × (slice_get tables.texts index.number ≡ Some bytes) × (code ≡ i.AppendLiteral index ∷ [])
 
   abbrev pub IsOperandCode : Operand → List DataInstruction → Type 0
   IsOperandCode (operand.Item reference) code = IsTakingCode i.Append reference code
@@ -150,8 +138,7 @@ module _ (items : List LocatedItem) (tables : DataTables) where
   abbrev pub AreOperandsCode : List Operand → List DataInstruction → Type 0
   AreOperandsCode [] code = code ≡ []
   AreOperandsCode (one ∷ more) code =
-      (front : List DataInstruction) × IsOperandCode one front × (back : List DataInstruction)
-      × AreOperandsCode more back × (code ≡ front ++ back)
+      (front : List DataInstruction) × IsOperandCode one front × (back : List DataInstruction) × AreOperandsCode more back × (code ≡ front ++ back)
 
   abbrev pub IsLineEndCode : Bool → List DataInstruction → Type 0
   IsLineEndCode true code = IsTextCode (line_end true) code
@@ -160,5 +147,4 @@ module _ (items : List LocatedItem) (tables : DataTables) where
   -- DISPLAY, up to `show`
   abbrev pub IsDisplayCode : List Operand → Bool → List DataInstruction → Type 0
   IsDisplayCode operands advancing code =
-      (front : List DataInstruction) × AreOperandsCode operands front × (back : List DataInstruction)
-      × IsLineEndCode advancing back × (code ≡ front ++ back)
+      (front : List DataInstruction) × AreOperandsCode operands front × (back : List DataInstruction) × IsLineEndCode advancing back × (code ≡ front ++ back)

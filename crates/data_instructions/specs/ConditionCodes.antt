@@ -18,8 +18,7 @@ use Rattle.source_tree.specs.Evaluated.{◌>>=◌}
 use Rattle.source_tree.specs.References.{place_of}
 use Rattle.source_tree.specs.Moving.{taken_of}
 use Rattle.source_tree.specs.Computed.{expression_value}
-use Rattle.source_tree.specs.Conditions.{ConditionValue, senders_satisfy, numbers_satisfy, side_number, sign_relation}
-use Rattle.source_tree.specs.Conditions.{sign_holds, class_holds}
+use Rattle.source_tree.specs.Conditions.{ConditionValue, senders_satisfy, numbers_satisfy, side_number, sign_relation, sign_holds, class_holds}
 use Rattle.data_instructions.specs.declared.index.ItemIndex.{ItemIndex}
 use Rattle.data_instructions.specs.declared.index.SenderIndex.{SenderIndex}
 use Rattle.data_instructions.specs.declared.tables.LiteralSender.{LiteralSender}
@@ -34,13 +33,10 @@ use Rattle.data_instructions.specs.Codes.{works, data_item, IsTakingCode, IsSend
 use Rattle.data_instructions.specs.Chains.{effects, LiesWhole}
 use Rattle.data_instructions.specs.ArithmeticCodes.{Computes, PushesNumber, IsNumberCode}
 
--- The truth is what a condition says of storage, or its fault ends the code. What is taken as the sender is left open;
--- all else stays.
-pub record DecidesCondition (tables : DataTables) (value : ConditionValue) (code : List DataInstruction) (s : Scratch) :
-    Type 0 where
+-- The truth is what a condition says of storage, or its fault ends the code. What is taken as the sender is left open; all else stays.
+pub record DecidesCondition (tables : DataTables) (value : ConditionValue) (code : List DataInstruction) (s : Scratch) : Type 0 where
   pub sender : Option Sender
-  pub by : works tables code s
-      ≡ step_with (value s.storage) (λ truth. Continues (record s { truth = truth; sender = sender }))
+  pub by : works tables code s ≡ step_with (value s.storage) (λ truth. Continues (record s { truth = truth; sender = sender }))
 
 abbrev pub Decides : DataTables → ConditionValue → List DataInstruction → Type 0
 Decides tables value code = (s : Scratch) → DecidesCondition tables value code s
@@ -60,14 +56,12 @@ negation false = []
 module _ (items : List LocatedItem) (tables : DataTables) where
   -- the entry of a literal that is compared
   abbrev pub HasLiteral : Literal → SenderIndex → Type 0
-  HasLiteral literal index = (entry : LiteralSender) × (slice_get tables.senders index.number ≡ Some entry)
-      × (sender_of entry ≡ literal_sender literal.value)
+  HasLiteral literal index = (entry : LiteralSender) × (slice_get tables.senders index.number ≡ Some entry) × (sender_of entry ≡ literal_sender literal.value)
 
   -- the sender compared with an operand
   abbrev pub IsComparedCode : Relation → Operand → List DataInstruction → Type 0
   IsComparedCode one (operand.Item reference) code = IsTakingCode items tables (i.Test (t.Compare one)) reference code
-  IsComparedCode one (operand.Literal literal) code =
-      (index : SenderIndex) × HasLiteral literal index × (code ≡ i.Test (t.CompareLiteral one index) ∷ [])
+  IsComparedCode one (operand.Literal literal) code = (index : SenderIndex) × HasLiteral literal index × (code ≡ i.Test (t.CompareLiteral one index) ∷ [])
 
   -- A side as a number: whatever code computes it.
   abbrev pub IsSideCode : Side → List DataInstruction → Type 0
@@ -76,8 +70,7 @@ module _ (items : List LocatedItem) (tables : DataTables) where
   -- two operands alone, compared as what they are
   abbrev pub IsPairCode : Operand → Relation → Operand → List DataInstruction → Type 0
   IsPairCode a one b code =
-      (front : List DataInstruction) × IsSenderCode items tables a front × (back : List DataInstruction)
-      × IsComparedCode one b back × (code ≡ front ++ back)
+      (front : List DataInstruction) × IsSenderCode items tables a front × (back : List DataInstruction) × IsComparedCode one b back × (code ≡ front ++ back)
 
   -- two sides, compared as numbers
   abbrev pub AreNumbersCode : Side → Relation → Side → List DataInstruction → Type 0
@@ -93,51 +86,42 @@ module _ (items : List LocatedItem) (tables : DataTables) where
 
   abbrev pub IsClassCode : Reference → Bool → Class → List DataInstruction → Type 0
   IsClassCode reference negated one code =
-      (front : List DataInstruction) × IsTakingCode items tables (i.Test (t.Class one)) reference front
-      × (code ≡ front ++ negation negated)
+      (front : List DataInstruction) × IsTakingCode items tables (i.Test (t.Class one)) reference front × (code ≡ front ++ negation negated)
 
   -- a value, or what lies from it to the last one; of a range both stand one after the other
   abbrev pub IsRangeTest : Literal → Option Literal → DataInstruction → Type 0
   IsRangeTest from None one = (index : SenderIndex) × HasLiteral from index × (one ≡ i.Test (t.OrEqual index))
   IsRangeTest from (Some last) one =
-      (index : SenderIndex) × HasLiteral from index × HasLiteral last (record { number = index.number + 1 })
-      × (one ≡ i.Test (t.OrWithin index))
+      (index : SenderIndex) × HasLiteral from index × HasLiteral last (record { number = index.number + 1 }) × (one ≡ i.Test (t.OrWithin index))
 
   -- the values of a condition name, one after the other
   abbrev pub AreValuesCode : List ValueRange → List DataInstruction → Type 0
   AreValuesCode [] code = code ≡ []
   AreValuesCode (one ∷ more) code =
-      (front : DataInstruction) × IsRangeTest one.first one.last front × (back : List DataInstruction)
-      × AreValuesCode more back × (code ≡ front ∷ back)
+      (front : DataInstruction) × IsRangeTest one.first one.last front × (back : List DataInstruction) × AreValuesCode more back × (code ≡ front ∷ back)
 
   -- A condition name: its item is taken, in the occurrence referred to, and compared with each value.
   abbrev pub IsNameCode : Reference → List DataInstruction → Type 0
   IsNameCode reference code =
       (found : NamedCondition) × (first (conditions_named items reference.item) ≡ Some found)
       × (index : ItemIndex) × (slice_get tables.items index.number ≡ Some (data_item found.item))
-      × (subscripts : List DataInstruction)
-      × AreSubscriptsCode items tables found.item.dimensions reference.subscripts subscripts
+      × (subscripts : List DataInstruction) × AreSubscriptsCode items tables found.item.dimensions reference.subscripts subscripts
       × (values : List DataInstruction) × AreValuesCode found.condition.values values
       × (code ≡ i.Place index ∷ (subscripts ++ (i.Take ∷ i.ClearTruth ∷ values)))
 
   abbrev pub LiesCondition : Reference → Type 0
-  LiesCondition reference = (found : NamedCondition) → first (conditions_named items reference.item) ≡ Some found
-      → LiesWhole tables found.item
+  LiesCondition reference = (found : NamedCondition) → first (conditions_named items reference.item) ≡ Some found → LiesWhole tables found.item
 
 -- two operands as what they are, and two sides as numbers
 abbrev pub pair_truth : List LocatedItem → Operand → Relation → Operand → ConditionValue
-pair_truth items a one b storage =
-    taken_of items a storage >>= (λ x. taken_of items b storage >>= senders_satisfy one x)
+pair_truth items a one b storage = taken_of items a storage >>= (λ x. taken_of items b storage >>= senders_satisfy one x)
 
 abbrev pub numbers_truth : List LocatedItem → Side → Relation → Side → ConditionValue
-numbers_truth items left one right storage =
-    side_number items left storage >>= (λ x. side_number items right storage >>= numbers_satisfy one x)
+numbers_truth items left one right storage = side_number items left storage >>= (λ x. side_number items right storage >>= numbers_satisfy one x)
 
 -- a sign condition, and a class condition
 abbrev pub sign_truth : List LocatedItem → Expression → Bool → SignTest → ConditionValue
-sign_truth items value negated one storage =
-    expression_value items value storage >>= (λ x. sign_holds items x negated one)
+sign_truth items value negated one storage = expression_value items value storage >>= (λ x. sign_holds items x negated one)
 
 abbrev pub class_truth : List LocatedItem → Reference → Bool → Class → ConditionValue
-class_truth items reference negated one storage =
-    place_of items reference storage >>= class_holds items negated one storage
+class_truth items reference negated one storage = place_of items reference storage >>= class_holds items negated one storage

@@ -1,17 +1,15 @@
 -- The code of INSPECT (own choice), and what it does: INSPECT as it is laid out.
-use Rattle.std.specs.Prelude.{◌≡◌, ℕ, zero, suc, ◌+◌, List, [], ◌∷◌, ◌++◌, Option, Some, None, slice_get}
+use Rattle.std.specs.Prelude.{◌≡◌, ℕ, List, [], ◌∷◌, ◌++◌, Some, slice_get}
 use Rattle.source_tree.specs.declared.inspect_statement.Converting.{Converting}
 use Rattle.source_tree.specs.declared.inspect_statement.InspectStatement.{InspectStatement}
 use Rattle.source_tree.specs.Converting.{as_replacing, convert_by_spans}
 use Rattle.source_tree.specs.Places.{LocatedItem}
 use Rattle.source_tree.specs.InspectLayout as layout
 use Rattle.source_tree.specs.InspectLayout.{Bytes, Characters, InspectArgument, Counter, Text, takings, inspection}
-use Rattle.source_tree.specs.InspectLayout.{inspected_size, inspect_by_spans, measured_texts}
-use Rattle.source_tree.specs.MeasuredTexts.{room_of}
+use Rattle.source_tree.specs.InspectLayout.{inspected_size, inspect_by_spans}
 use Rattle.data_instructions.specs.declared.index.InspectionIndex.{InspectionIndex}
 use Rattle.data_instructions.specs.declared.tables.Inspection.{Inspection}
 use Rattle.data_instructions.specs.declared.tables.DataTables.{DataTables}
-use Rattle.data_instructions.specs.declared.gather.Gather.{Gather}
 use Rattle.data_instructions.specs.declared.gather.Gather.TheVariants as g
 use Rattle.data_instructions.specs.declared.instruction.DataInstruction.{DataInstruction}
 use Rattle.data_instructions.specs.declared.instruction.DataInstruction.TheVariants as i
@@ -21,29 +19,11 @@ use Rattle.data_instructions.specs.Codes.{works, IsReferenceCode, IsTakingCode, 
 use Rattle.data_instructions.specs.Chains.{LiesAll}
 use Rattle.data_instructions.specs.TextCodes.{KnowsString}
 
--- What adds an item's text to the line: a text with a room is measured.
-abbrev pub gather_by : Option ℕ → Gather
-gather_by None = g.Sized
-gather_by (Some room) = g.Measured
-
--- how many numbers are put on the stack: two for each text that is measured
-abbrev pub taken_numbers : List LocatedItem → List InspectArgument → ℕ
-taken_numbers items all = measured_texts items all + measured_texts items all
-
--- the last instruction, with so many numbers
-abbrev pub inspect_by : InspectionIndex → ℕ → DataInstruction
-inspect_by index zero = i.Inspect index
-inspect_by index (suc n) = i.InspectMeasured index (suc n)
-
-abbrev pub convert_by : InspectionIndex → ℕ → DataInstruction
-convert_by index zero = i.Convert index
-convert_by index (suc n) = i.ConvertMeasured index (suc n)
-
 module _ (items : List LocatedItem) (tables : DataTables) where
   -- A counter's place stays on the stack; a text is added to the line.
   abbrev pub IsTakenCode : InspectArgument → List DataInstruction → Type 0
   IsTakenCode (Counter one) code = IsReferenceCode items tables one code
-  IsTakenCode (Text (Bytes one)) code = IsTakingCode items tables (i.Gather (gather_by (room_of items one))) one code
+  IsTakenCode (Text (Bytes one)) code = IsTakingCode items tables (i.Gather g.Sized) one code
   IsTakenCode (Text (Characters text)) code = IsTextCode items tables text code
 
   -- in the order of writing
@@ -66,7 +46,7 @@ module _ (items : List LocatedItem) (tables : DataTables) where
       (subject : List DataInstruction) × IsReferenceCode items tables one.subject subject
       × (parts : List DataInstruction) × AreTakenCode (takings items one) parts
       × (index : InspectionIndex) × HasInspection (inspection items one) (inspected_size items one) index
-      × (code ≡ subject ++ (parts ++ (inspect_by index (taken_numbers items (takings items one)) ∷ [])))
+      × (code ≡ subject ++ (parts ++ (i.Inspect index ∷ [])))
 
   -- with nothing in the line, which is empty again
   abbrev pub DoesInspect : InspectStatement → List DataInstruction → Type 0
@@ -81,7 +61,7 @@ module _ (items : List LocatedItem) (tables : DataTables) where
       × (parts : List DataInstruction) × AreTakenCode (takings items (as_replacing one)) parts
       × (index : InspectionIndex)
       × HasInspection (inspection items (as_replacing one)) (inspected_size items (as_replacing one)) index
-      × (code ≡ subject ++ (parts ++ (convert_by index (taken_numbers items (takings items (as_replacing one))) ∷ [])))
+      × (code ≡ subject ++ (parts ++ (i.Convert index ∷ [])))
 
   abbrev pub DoesConvert : Converting → List DataInstruction → Type 0
   DoesConvert one code =

@@ -15,4 +15,3 @@ pub mod ArithmeticCodes
 pub mod ConditionCodes
 pub mod TextCodes
 pub mod InspectCodes
-pub mod Laws

@@ -42,5 +42,3 @@ NamesEntries tables (i.Part one) = Unit {0}
 NamesEntries tables (i.String pointer) = Unit {0}
 NamesEntries tables (i.Inspect inspection) = inspection.number < length tables.inspections
 NamesEntries tables (i.Convert inspection) = inspection.number < length tables.inspections
-NamesEntries tables (i.InspectMeasured inspection numbers) = inspection.number < length tables.inspections
-NamesEntries tables (i.ConvertMeasured inspection numbers) = inspection.number < length tables.inspections

@@ -1,5 +1,4 @@
--- What is known of a part of an item before a run (own choice). A number counts as known if it is a literal within the
--- item.
+-- What is known of a part of an item before a run (own choice). A number counts as known if it is a literal within the item.
 use Rattle.std.specs.Prelude.{ℕ, ◌+◌, ◌-◌, nat_le, ◌&&◌, if◌then◌else◌, Option, Some, None}
 use Rattle.source_tree.specs.declared.reference.Subscript as written
 use Rattle.source_tree.specs.declared.reference.Subscript.TheVariants as subscript
@@ -9,8 +8,7 @@ use Rattle.source_tree.specs.Parts.{known_length, seen_by}
 use Rattle.source_tree.specs.Places.{LocatedItem}
 use Rattle.data_instructions.specs.declared.tables.DataItem.{DataItem}
 
--- How code makes a part. `Settled` needs no instruction: the part is the same so many bytes after the item's begin in
--- each run.
+-- How code makes a part. `Settled` needs no instruction: the part is the same so many bytes after the item's begin in each run.
 pub data PartForm : Type 0 where
   Whole : PartForm
   Settled : ℕ → PartForm

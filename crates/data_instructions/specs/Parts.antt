@@ -1,5 +1,4 @@
--- Parts of places (ISO 1989:1985, Nucleus, "Reference modification"). A part that isn't within its item is fault 93
--- (own choice).
+-- Parts of places (ISO 1989:1985, Nucleus, "Reference modification"). A part that isn't within its item is fault 93 (own choice).
 use Rattle.std.specs.Prelude.{ℕ, ◌+◌, ◌-◌, ℤ, pos, negsuc, nat_le, ◌&&◌, if◌then◌else◌, Option, Ok, Err}
 use Rattle.decimal18.specs.Fraction.{Fraction}
 use Rattle.source_tree.specs.Evaluated as fault

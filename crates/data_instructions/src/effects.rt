@@ -383,43 +383,19 @@ fn beside_place(stacks: Stacks) -> Option<Stacks>
     }
 }
 
-/// Takes the newest place, and the one below it stays.
-fn beside_next(stacks: Stacks) -> Option<Stacks>
-    ensures { result ≡ spec.and_then (spec.without_place stacks) spec.beside_place }
-{
-    beside_place(without_place(stacks)?)
-}
-
-/// The stacks after a text was measured.
-fn measuring(stacks: Stacks) -> Result<Option<Stacks>, AllocError>
-    ensures { IfOk result (λ after. after
-        ≡ spec.and_then (spec.without_place stacks) (spec.and_more 2)) }
-{
-    match without_place(stacks) {
-        Some(rest) => and_more(2, rest),
-        None => Ok(None),
-    }
-}
-
 /// The stacks after a part was gathered.
-fn stacks_gathered(
-    tables: &DataTables,
-    one: Gather,
-    stacks: Stacks,
-) -> Result<Option<Stacks>, AllocError>
-    ensures { IfOk result (λ after. after ≡ spec.stacks_gathered tables.now one stacks) }
+fn stacks_gathered(tables: &DataTables, one: Gather, stacks: Stacks) -> Option<Stacks>
+    ensures { result ≡ spec.stacks_gathered tables.now one stacks }
 {
     match one {
-        Gather::Bytes | Gather::Sized => Ok(without_place(stacks)),
-        Gather::UpToPlace => Ok(beside_next(stacks)),
+        Gather::Bytes | Gather::Sized => without_place(stacks),
+        Gather::UpToPlace => beside_place(without_place(stacks)?),
         Gather::UpToText { delimiter } => {
-            let rest = without_place(stacks);
-            Ok(with_text(tables, delimiter.number as usize, rest))
+            with_text(tables, delimiter.number as usize, without_place(stacks))
         }
         Gather::TextUpToPlace { text } => {
-            Ok(with_text(tables, text.number as usize, beside_place(stacks)))
+            with_text(tables, text.number as usize, beside_place(stacks))
         }
-        Gather::Measured => measuring(stacks),
     }
 }
 
@@ -470,32 +446,6 @@ fn stacks_converted(tables: &DataTables, index: InspectionIndex, stacks: Stacks)
     without_place(stacks)
 }
 
-/// The same after so many numbers were taken.
-fn stacks_inspected_measured(
-    tables: &DataTables,
-    index: InspectionIndex,
-    numbers: u32,
-    stacks: Stacks,
-) -> Option<Stacks>
-    ensures { result ≡ spec.and_then (spec.without_numbers numbers stacks)
-        (spec.stacks_inspected tables.now index) }
-{
-    stacks_inspected(tables, index, without(numbers as usize, stacks)?)
-}
-
-/// The same of a conversion.
-fn stacks_converted_measured(
-    tables: &DataTables,
-    index: InspectionIndex,
-    numbers: u32,
-    stacks: Stacks,
-) -> Option<Stacks>
-    ensures { result ≡ spec.and_then (spec.without_numbers numbers stacks)
-        (spec.stacks_converted tables.now index) }
-{
-    stacks_converted(tables, index, without(numbers as usize, stacks)?)
-}
-
 /// The stacks after bytes were laid over others, where both texts are there.
 fn stacks_overlaid(tables: &DataTables, text: TextIndex, stacks: Stacks) -> Option<Stacks>
     ensures { result ≡ spec.with_text tables.now text.number
@@ -534,7 +484,7 @@ fn stacks_after(
         | DataInstruction::Append
         | DataInstruction::DropPlace => Ok(without_place(stacks)),
         DataInstruction::Overlay { text } => { Ok(stacks_overlaid(tables, text, stacks)) }
-        DataInstruction::Gather(one) => stacks_gathered(tables, one, stacks),
+        DataInstruction::Gather(one) => Ok(stacks_gathered(tables, one, stacks)),
         DataInstruction::Part(one) => stacks_parted(tables, one, stacks),
         DataInstruction::String { pointer } => Ok(without_receiver(pointer, stacks)),
         DataInstruction::Inspect { inspection } => {
@@ -543,14 +493,6 @@ fn stacks_after(
         DataInstruction::Convert { inspection } => {
             Ok(stacks_converted(tables, inspection, stacks))
         }
-        DataInstruction::InspectMeasured {
-            inspection,
-            numbers,
-        } => Ok(stacks_inspected_measured(tables, inspection, numbers, stacks)),
-        DataInstruction::ConvertMeasured {
-            inspection,
-            numbers,
-        } => Ok(stacks_converted_measured(tables, inspection, numbers, stacks)),
         DataInstruction::ClearTruth
         | DataInstruction::TakeLiteral { .. }
         | DataInstruction::AppendLiteral { .. } => Ok(Some(stacks)),
@@ -627,17 +569,10 @@ fn line_after(
             longer_by_text(tables, text.number as usize, line)
         }
         DataInstruction::Gather(
-            Gather::Bytes
-            | Gather::UpToPlace
-            | Gather::UpToText { .. }
-            | Gather::Sized
-            | Gather::Measured,
+            Gather::Bytes | Gather::UpToPlace | Gather::UpToText { .. } | Gather::Sized,
         ) => longer_by_item(tables, newest, line),
         DataInstruction::String { .. } => Ok(Some(0)),
-        DataInstruction::Inspect { inspection }
-        | DataInstruction::Convert { inspection }
-        | DataInstruction::InspectMeasured { inspection, .. }
-        | DataInstruction::ConvertMeasured { inspection, .. } => {
+        DataInstruction::Inspect { inspection } | DataInstruction::Convert { inspection } => {
             Ok(line_inspected(tables, inspection, line))
         }
         _ => Ok(Some(line)),

@@ -15,7 +15,4 @@ pub enum Gather {
     TextUpToPlace { text: TextIndex },
     /// Takes a place: its bytes, as many as its item has.
     Sized,
-    /// Takes a place: its bytes, padded with spaces to the size of its item in the table. The line's size before them and the
-    /// place's own size are put on the stack of numbers.
-    Measured,
 }

@@ -27,10 +27,7 @@ impl DataInstruction {
             DataInstruction::Test(test) => tests_entries(test, tables),
             DataInstruction::Overlay { text } => text.number as usize + 1 < tables.texts.len(),
             DataInstruction::Gather(one) => gathers_entries(one, tables),
-            DataInstruction::Inspect { inspection }
-            | DataInstruction::Convert { inspection }
-            | DataInstruction::InspectMeasured { inspection, .. }
-            | DataInstruction::ConvertMeasured { inspection, .. } => {
+            DataInstruction::Inspect { inspection } | DataInstruction::Convert { inspection } => {
                 (inspection.number as usize) < tables.inspections.len()
             }
             _ => true,
@@ -59,6 +56,6 @@ fn gathers_entries(one: Gather, tables: &DataTables) -> bool
         Gather::UpToText { delimiter: text } | Gather::TextUpToPlace { text } => {
             (text.number as usize) < tables.texts.len()
         }
-        Gather::Bytes | Gather::UpToPlace | Gather::Sized | Gather::Measured => true,
+        Gather::Bytes | Gather::UpToPlace | Gather::Sized => true,
     }
 }

@@ -3,11 +3,10 @@ use Rattle.std.proofs.Common.{◌≡◌, ℕ, zero, suc, ◌+◌, ◌<◌, ◌�
 use Rattle.std.proofs.Common.{subst, ◌∙◌, arith, drop-cons, Some}
 use Rattle.std.specs.Prelude.{reverse, ◌++◌, slice_get, slice_index, Result, Ok, Err}
 use Rattle.std.proofs.lemmas.Option.{same_Some, slice_get_within, get_or_from_slice_get, slice_get-get_or}
-use Rattle.std.proofs.lemmas.List.{append_assoc, append-nil, length-map, reverse-append}
+use Rattle.std.proofs.lemmas.List.{append_assoc, append-nil, reverse-append}
 use Rattle.items.specs.Texts.{padded_text}
 use Rattle.text_ops.specs.declared.entry.Entry.{Entry}
 use Rattle.text_ops.specs.Inspect.{tally, replaced_subject}
-use Rattle.source_tree.specs.Computed.{ArithmeticValue}
 use Rattle.source_tree.specs.Storage.{Storage}
 use Rattle.source_tree.specs.Evaluated.{Evaluation, ◌>>=◌}
 use Rattle.source_tree.specs.References.{ItemPlace, part_of}
@@ -19,15 +18,13 @@ use Rattle.data_instructions.specs.declared.tables.DataTables.{DataTables}
 use Rattle.data_instructions.specs.declared.tables.Inspection.{Inspection}
 use Rattle.data_instructions.specs.declared.fault.ProgramFault.{ProgramFault}
 use Rattle.data_instructions.specs.Scratch.{Scratch, Step, Continues, step_with, step_at}
-use Rattle.data_instructions.specs.Table.{at_place, at_places, inspected_at, inspected_with, at_numbers, measured_by}
-use Rattle.data_instructions.specs.Table.{measured_inspection}
+use Rattle.data_instructions.specs.Table.{at_place, at_places, inspected_at}
 use Rattle.data_instructions.specs.Tables.{shortened_item, item_place, total_length, IsEditing}
 use Rattle.data_machine.specs.Finds.{IsAtOffset, IsItemAt}
 use Rattle.data_machine.specs.Comes.{IsStepOf}
 use Rattle.data_machine.specs.Inspecting.{there, there_or_none, StandEach, FindsPlaces, stored_by, added_and_stored}
-use Rattle.data_machine.specs.Inspecting.{IsAddedStorage}
+use Rattle.data_machine.specs.Inspecting.{inspected_with, IsAddedStorage}
 use Rattle.data_machine.proofs.Strings.{stands_still}
-use Rattle.data_machine.proofs.TextLengths.{at_found}
 
 -- ---- how often entries fit
 
@@ -301,56 +298,6 @@ inspect_comes tables one qs p to s counts text done new many is stand subject he
     (inspected_is tables s.storage one qs p to s many is stand subject here
     ∙ inspect_ends one (map (there tables) qs) (item_place (shortened_item to p.length) p.offset) t counts text counted
     enough replaced_is)
-
--- ---- the same with lengths of texts
-
--- Whether there are entries does not depend on their lengths.
-stored_as : (f : Entry → Entry) (entries : List Entry) (place : ItemPlace) (text : List ℕ) (storage : Storage)
-    → stored_by entries place text storage ≡ stored_by (map f entries) place text storage
-stored_as f [] place text storage = refl
-stored_as f (one ∷ more) place text storage = refl
-
-added_as : (f : Entry → Entry) (x : Evaluation Storage) (entries : List Entry) (place : ItemPlace) (text : List ℕ)
-    → x >>= (λ after. Ok (stored_by entries place text after))
-    ≡ x >>= (λ after. Ok (stored_by (map f entries) place text after))
-added_as f (Ok after) entries place text = ap (λ s. Ok s) (stored_as f entries place text after)
-added_as f (Err fault) entries place text = refl
-
-pub inspect_measured_comes : (tables : DataTables) (one : Inspection) (n : ℕ) (found : List ArithmeticValue)
-    (qs : List Place) (p : Place) (to : DataItem) (s : Scratch)
-    (counts text : List ℕ) (done : Result (Unit {0}) ProgramFault) (new : Storage)
-    → length found ≡ n → n ≤ length s.numbers → s.numbers ≡ reverse found ++ drop n s.numbers
-    → length qs ≡ length one.counters → s.places ≡ reverse qs ++ drop (length one.counters) s.places
-    → StandEach tables s.storage qs
-    → slice_get s.places (length one.counters) ≡ Some p → slice_get tables.items p.item.number ≡ Some to
-    → (let now = measured_inspection (reverse found) one in
-    ((k : ℕ) → k < length one.tallying → slice_index counts k ≡ tally
-    (padded_text one.size s.line) now.tallying (part_of s.storage (item_place (shortened_item to p.length) p.offset)) k)
-    → total_length one.counters ≤ length one.tallying
-    → text ≡ replaced_subject (padded_text one.size s.line) now.replacing
-    (part_of s.storage (item_place (shortened_item to p.length) p.offset))
-    → IsAddedStorage done new (added_and_stored (map (there tables) qs) (layout.counted_fits (slice_index counts) 0
-    one.counters) one.replacing (item_place (shortened_item to p.length) p.offset) text s.storage)
-    → IsStepOf done
-    (record s
-    { storage = new; line = []; places = drop (length one.counters + 1) s.places; numbers = drop n s.numbers })
-    (at_numbers n (λ ns. inspected_with tables (measured_inspection ns one)) s))
-inspect_measured_comes tables one n found qs p to s counts text done new taken within newest many is stand subject here
-    counted enough replaced_is adds =
-    let now = measured_inspection (reverse found) one in
-    let t : Scratch = record s { numbers = drop n s.numbers } in
-    let place = item_place (shortened_item to p.length) p.offset in
-    let f = measured_by (reverse found) in
-    let as_many : length now.tallying ≡ length one.tallying = length-map one.tallying f in
-    let added = meaning.add_each (map (there tables) qs) (layout.counted_fits (slice_index counts) 0 one.counters)
-    s.storage in
-    subst (IsStepOf done
-    (record s
-    { storage = new; line = []; places = drop (length one.counters + 1) s.places; numbers = drop n s.numbers }))
-    (sym (at_found n found s (λ ns. inspected_with tables (measured_inspection ns one)) taken within newest))
-    (inspect_comes tables now qs p to t counts text done new many is stand subject here
-    (λ k h. counted k (omega (arith, h, as_many))) (omega (arith, enough, as_many)) replaced_is
-    (subst (IsAddedStorage done new) (added_as f added one.replacing place text) adds))
 
 -- an entry of a table, as it was read
 pub entry_read : {X : Type 0} (xs table : List X) (k : ℕ) (x : X) → xs ≡ table → k < length table → x ≡ get_or xs k x

@@ -18,9 +18,6 @@ pub mod Overlays
 pub mod Gathers
 pub mod Stacks
 pub mod Strings
-pub mod TextLengths
-pub mod MeasuredTexts
-pub mod Conversions
 pub mod Inspects
 pub mod HeldIntegers
 pub mod ShortNumbers

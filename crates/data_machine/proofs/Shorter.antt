@@ -1,5 +1,5 @@
 -- What holds of an item holds of one of its kind that is no longer.
-use Rattle.std.proofs.Common.{◌≡◌, ℕ, ◌≤◌, refl, ◌∙◌, ap, arith}
+use Rattle.std.proofs.Common.{◌≡◌, ℕ, ◌≤◌, refl, ◌∙◌, ap, subst, arith}
 use Rattle.std.specs.Prelude.{Bool, true, false, not, ◌||◌, nat_le}
 use Rattle.std.proofs.lemmas.Bool.Decides.{nat_tests}
 use Rattle.items.specs.declared.item.Item.{Item}
@@ -7,7 +7,7 @@ use Rattle.items.specs.declared.item.Kind.{Kind}
 use Rattle.items.specs.declared.item.Kind.TheVariants as k
 use Rattle.items.specs.declared.taken.Taken.{Taken}
 use Rattle.items.specs.declared.taken.Taken.TheVariants as t
-use Rattle.edited_move.specs.Moves.{needs_number, is_group_kind, is_readable, is_short}
+use Rattle.edited_move.specs.Moves.{needs_number, is_group, is_group_kind, is_readable, is_short}
 use Rattle.text_ops.specs.Lengths.{shown_length}
 use Rattle.data_instructions.specs.Fits.{NoLonger}
 

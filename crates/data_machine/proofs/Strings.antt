@@ -15,8 +15,9 @@ use Rattle.data_instructions.specs.declared.place.Place.{Place}
 use Rattle.data_instructions.specs.declared.tables.DataItem.{DataItem}
 use Rattle.data_instructions.specs.declared.tables.DataTables.{DataTables}
 use Rattle.data_instructions.specs.declared.fault.ProgramFault.{ProgramFault}
+use Rattle.data_instructions.specs.Faults.{fault_of}
 use Rattle.data_instructions.specs.Tables.{shortened_item, item_place}
-use Rattle.data_instructions.specs.Scratch.{Scratch, step_with, step_at}
+use Rattle.data_instructions.specs.Scratch.{Scratch, Step, Continues, Faulted, step_with, step_at}
 use Rattle.data_instructions.specs.Table.{at_newest, at_place, strung_to, strung_by}
 use Rattle.data_machine.specs.Finds.{IsAtOffset}
 use Rattle.data_machine.specs.Comes.{IsStepOf}

@@ -13,13 +13,13 @@ use Rattle.data_instructions.specs.declared.tables.DataTables.{DataTables}
 use Rattle.data_instructions.specs.declared.fault.ProgramFault.{ProgramFault}
 use Rattle.data_instructions.specs.Faults.{fault_of}
 use Rattle.data_instructions.specs.Tables.{shortened_item, item_place}
+use Rattle.data_instructions.specs.Scratch.{Scratch, Step}
+use Rattle.data_instructions.specs.Table.{at_place, at_places, inspected_at}
 use Rattle.data_machine.specs.declared.inspect_room.InspectRoom.{InspectRoom}
 use Rattle.data_machine.specs.Finds.{IsItemAt, FindsItem, HasItemRoom}
 
 -- Room for the entries of each inspection, for the count of each entry of TALLYING, and for the text of each item.
 pub record HasInspectRoom (tables : DataTables) (room : InspectRoom) : Type 0 where
-  pub tallied : (k : ℕ) (one : Inspection) → slice_get tables.inspections k ≡ Some one → length one.tallying ≤ length room.entries.items
-  pub replaced : (k : ℕ) (one : Inspection) → slice_get tables.inspections k ≡ Some one → length one.replacing ≤ length room.entries.items
   pub tallying : (k : ℕ) (one : Inspection) → slice_get tables.inspections k ≡ Some one → length one.tallying ≤ length room.progress.items
   pub replacing : (k : ℕ) (one : Inspection) → slice_get tables.inspections k ≡ Some one → length one.replacing ≤ length room.progress.items
   pub counts : (k : ℕ) (one : Inspection) → slice_get tables.inspections k ≡ Some one → length one.tallying ≤ length room.counts.items
@@ -27,7 +27,6 @@ pub record HasInspectRoom (tables : DataTables) (room : InspectRoom) : Type 0 wh
 
 -- the same room
 pub record SameRoom (old new : InspectRoom) : Type 0 where
-  pub entries : length new.entries.items ≡ length old.entries.items
   pub progress : length new.progress.items ≡ length old.progress.items
   pub counts : length new.counts.items ≡ length old.counts.items
   pub text : new.text.room ≡ old.text.room
@@ -64,3 +63,7 @@ stored_by (one ∷ more) place text storage = storage_with place text storage
 -- first the counters, and then the text
 abbrev pub added_and_stored : List ItemPlace → List ℕ → List Entry → ItemPlace → List ℕ → Storage → Evaluation Storage
 added_and_stored counters fits replacing place text storage = add_each counters fits storage >>= (λ after. Ok (stored_by replacing place text after))
+
+-- what an inspection does, with its counters' places and its subject's
+abbrev pub inspected_with : DataTables → Inspection → Scratch → Step
+inspected_with tables one s = at_places tables (length one.counters) [] (λ counters t. at_place tables (inspected_at one counters) t) s.places s

@@ -4,7 +4,6 @@ pub mod Areas
 pub mod Writing
 pub mod Finds
 pub mod Data
-pub mod Measured
 pub mod Inspecting
 pub mod Comes
 pub mod Ready

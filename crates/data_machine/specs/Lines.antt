@@ -16,11 +16,6 @@ abbrev pub HasPartRoom : DataTables → List Place → ℕ → ℕ → Type 0
 HasPartRoom tables [] used room = ⊥
 HasPartRoom tables (p ∷ ps) used room = used + p.length ≤ room
 
--- for all bytes of its item in the table
-abbrev pub HasWholeRoom : DataTables → List Place → ℕ → ℕ → Type 0
-HasWholeRoom tables [] used room = ⊥
-HasWholeRoom tables (p ∷ ps) used room = (one : DataItem) → slice_get tables.items p.item.number ≡ Some one → used + one.item.length ≤ room
-
 -- for a text
 abbrev pub HasTextRoom : DataTables → TextIndex → ℕ → ℕ → Type 0
 HasTextRoom tables text used room = (bytes : List ℕ) → slice_get tables.texts text.number ≡ Some bytes → used + length bytes ≤ room

@@ -13,7 +13,6 @@ ghost use Rattle.data_machine.specs.Ready.{IsReady};
 ghost use Rattle.data_machine.specs.Writing.{with_part};
 
 use crate::data::Data;
-use crate::measuring::{measure, measured};
 use crate::seen::{part_of, seen};
 use data_instructions::{DataItem, DataTables, Inspection, InspectionIndex, ProgramFault};
 use text_ops::{Entry, convert};
@@ -30,22 +29,13 @@ pub fn convert_part(one: &DataItem, area: &mut [u8], offset: usize, texts: &[u8]
 }
 
 impl Data {
-    /// A conversion at the newest place: takes so many numbers, and converts with the texts in the line, cut or padded with spaces to
-    /// their size, and with the lengths that the numbers have.
-    fn convert_by(
-        &mut self,
-        tables: &DataTables,
-        one: &Inspection,
-        numbers: usize,
-    ) -> Result<(), ProgramFault>
+    /// A conversion at the newest place, with the texts in the line, cut or padded with spaces to their size.
+    fn convert_by(&mut self, tables: &DataTables, one: &Inspection) -> Result<(), ProgramFault>
         requires form { IsInspection one.now }
         requires operand { FindsItem tables.now self.old.areas self.old.places.newest_first }
-        requires numbers { numbers ≤ length self.old.numbers.newest_first }
         requires line { one.now.size ≤ self.old.line.room }
-        requires entries { length one.now.replacing ≤ length self.old.inspecting.entries.items }
         ensures does { IsStepOf result (scratch_of self.new)
-            (spec.at_numbers numbers (λ found. spec.at_place tables.now
-            (spec.converted_at (spec.measured_inspection found one.now))) (scratch_of self.old)) }
+            (spec.at_place tables.now (spec.converted_at one.now) (scratch_of self.old)) }
         ensures keeps { KeepsRoom self.old self.new }
     {
         let place = self.places.pop();
@@ -53,13 +43,9 @@ impl Data {
         let part = part_of(to, place.length);
         let to = seen(to, &part);
         self.line.fit(one.size as usize);
-        let found = self.numbers.newest(numbers);
-        let entries = one.replacing.as_slice();
-        measure(found, entries, self.inspecting.entries.as_mut_slice());
-        let entries = measured(found, entries, self.inspecting.entries.as_slice());
+        let texts = self.line.bytes();
         self.areas
-            .convert(to, place.offset, self.line.bytes(), entries);
-        self.numbers.leave(numbers);
+            .convert(to, place.offset, texts, one.replacing.as_slice());
         self.line.clear();
         Ok(())
     }
@@ -76,22 +62,6 @@ impl Data {
         ensures keeps { KeepsRoom self.old self.new }
     {
         let one = &tables.inspections.as_slice()[inspection.number as usize];
-        self.convert_by(tables, one, 0)
-    }
-
-    /// `convert measured`: the same with so many numbers. It takes no memory.
-    pub fn convert_measured(
-        &mut self,
-        tables: &DataTables,
-        inspection: InspectionIndex,
-        numbers: u32,
-    ) -> Result<(), ProgramFault>
-        requires { IsReady tables.now self.old (instructions.ConvertMeasured inspection numbers) }
-        ensures does { IsStepOf result (scratch_of self.new)
-            (spec.converted_measured tables.now inspection numbers (scratch_of self.old)) }
-        ensures keeps { KeepsRoom self.old self.new }
-    {
-        let one = &tables.inspections.as_slice()[inspection.number as usize];
-        self.convert_by(tables, one, numbers as usize)
+        self.convert_by(tables, one)
     }
 }

@@ -153,14 +153,6 @@ impl Data {
             DataInstruction::String { pointer } => self.string(tables, pointer),
             DataInstruction::Inspect { inspection } => self.inspect(tables, inspection),
             DataInstruction::Convert { inspection } => self.convert(tables, inspection),
-            DataInstruction::InspectMeasured {
-                inspection,
-                numbers,
-            } => self.inspect_measured(tables, inspection, numbers),
-            DataInstruction::ConvertMeasured {
-                inspection,
-                numbers,
-            } => self.convert_measured(tables, inspection, numbers),
         }
     }
 }

@@ -1,6 +1,6 @@
 //! Instructions that add texts to the line, as STRING does with its senders.
 
-ghost use Rattle.std.specs.Prelude.{◌≡◌, ◌+◌, ◌<◌, ◌≤◌, length, Some};
+ghost use Rattle.std.specs.Prelude.{◌≡◌, ◌<◌, ◌≤◌, length};
 ghost use Rattle.items.specs.Items.{HasLengthOf};
 ghost use Rattle.items.specs.Texts.{padded_text};
 ghost use Rattle.text_ops.specs.Strings.{delimited_characters};
@@ -10,13 +10,12 @@ ghost use Rattle.data_instructions.specs.declared.instruction.DataInstruction.Th
 ghost use Rattle.data_machine.specs.Data.{scratch_of};
 ghost use Rattle.data_machine.specs.Comes.{IsStepOf, KeepsRoom};
 ghost use Rattle.data_machine.specs.Finds.{FindsItem, FindsNext};
-ghost use Rattle.data_machine.specs.Lines.{HasPartRoom, HasTextRoom, HasWholeRoom};
+ghost use Rattle.data_machine.specs.Lines.{HasPartRoom, HasTextRoom};
 ghost use Rattle.data_machine.specs.Ready.{IsReady};
 
 use crate::data::Data;
 use crate::seen::{part_of, seen};
 use data_instructions::{DataItem, DataTables, Gather, ProgramFault, TextIndex};
-use decimal18::Dec;
 use text_ops::delimited;
 
 impl Data {
@@ -128,31 +127,6 @@ impl Data {
         Ok(())
     }
 
-    /// `gather measured`: the bytes at the newest place, padded to the size of its item in the table, and where in the line they
-    /// begin and how many they are.
-    pub fn gather_measured(&mut self, tables: &DataTables) -> Result<(), ProgramFault>
-        requires operand { FindsItem tables.now self.old.areas self.old.places.newest_first }
-        requires line { HasWholeRoom tables.now self.old.places.newest_first
-            (length self.old.line.bytes) self.old.line.room }
-        requires numbers { length self.old.numbers.newest_first + 2 ≤ self.old.numbers.room }
-        ensures does { IsStepOf result (scratch_of self.new)
-            (spec.gather_step tables.now gathers.Measured (scratch_of self.old)) }
-        ensures keeps { KeepsRoom self.old self.new }
-    {
-        let place = self.places.pop();
-        let one = &tables.items.as_slice()[place.item.number as usize];
-        let start = self.line.bytes().len();
-        let end = start + one.item.length as usize;
-        let part = part_of(one, place.length);
-        let one = seen(one, &part);
-        self.line
-            .append(sized(one, self.areas.bytes(one, place.offset)));
-        self.line.fit(end);
-        self.numbers.push(Some(whole(start)));
-        self.numbers.push(Some(whole(place.length as usize)));
-        Ok(())
-    }
-
     /// What is added to the line. It takes no memory.
     pub fn gather(&mut self, tables: &DataTables, one: Gather) -> Result<(), ProgramFault>
         requires { IsReady tables.now self.old (instructions.Gather one) }
@@ -166,16 +140,8 @@ impl Data {
             Gather::UpToText { delimiter } => self.gather_up_to_text(tables, delimiter),
             Gather::TextUpToPlace { text } => self.gather_text(tables, text),
             Gather::Sized => self.gather_sized(tables),
-            Gather::Measured => self.gather_measured(tables),
         }
     }
-}
-
-/// A number without decimals.
-fn whole(number: usize) -> Dec
-    ensures { Some result ≡ spec.number_of number }
-{
-    Dec::new(number as i128, 0)
 }
 
 /// A text up to its delimiter, all of it where that isn't there.

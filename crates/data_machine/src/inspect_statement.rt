@@ -9,7 +9,7 @@ ghost use Rattle.data_instructions.specs.declared.instruction.DataInstruction.Th
 ghost use Rattle.data_machine.specs.Data.{scratch_of};
 ghost use Rattle.data_machine.specs.Comes.{IsStepOf, KeepsRoom};
 ghost use Rattle.data_machine.specs.Finds.{HasItemRoom, IsItemAt, IsAtOffset};
-ghost use Rattle.data_machine.specs.Inspecting.{there, stored_by, added_and_stored, StandEach, FindsPlaces, IsAddedStorage};
+ghost use Rattle.data_machine.specs.Inspecting.{there, inspected_with, stored_by, added_and_stored, StandEach, FindsPlaces, IsAddedStorage};
 ghost use Rattle.data_machine.specs.Ready.{IsReady};
 
 use crate::areas::Areas;
@@ -23,29 +23,19 @@ use source_tree::Operator;
 use text_ops::Entry;
 
 impl Data {
-    /// An inspection: takes so many numbers, and counts and replaces with the texts in the line, cut or padded with spaces to their size, and
-    /// with the lengths that the numbers have; adds to the counters, whose places are the newest, and stores the text at the place below them.
-    /// Fault 90 where a counter holds no number.
-    fn inspect_by(
-        &mut self,
-        tables: &DataTables,
-        one: &Inspection,
-        numbers: usize,
-    ) -> Result<(), ProgramFault>
+    /// An inspection: counts and replaces with the texts in the line, cut or padded with spaces to their size; adds to the counters, whose
+    /// places are the newest, and stores the text at the place below them. Fault 90 where a counter holds no number.
+    fn inspect_by(&mut self, tables: &DataTables, one: &Inspection) -> Result<(), ProgramFault>
         requires form { IsInspection one.now }
         requires places { FindsPlaces tables.now self.old.areas (length one.now.counters)
             self.old.places.newest_first }
-        requires numbers { numbers ≤ length self.old.numbers.newest_first }
         requires line { one.now.size ≤ self.old.line.room }
-        requires tallied { length one.now.tallying ≤ length self.old.inspecting.entries.items }
-        requires replaced { length one.now.replacing ≤ length self.old.inspecting.entries.items }
         requires tallying { length one.now.tallying ≤ length self.old.inspecting.progress.items }
         requires replacing { length one.now.replacing ≤ length self.old.inspecting.progress.items }
         requires counts { length one.now.tallying ≤ length self.old.inspecting.counts.items }
         requires text { HasItemRoom tables.now self.old.inspecting.text.room }
         ensures does { IsStepOf result (scratch_of self.new)
-            (spec.at_numbers numbers (λ found. spec.inspected_with tables.now
-            (spec.measured_inspection found one.now)) (scratch_of self.old)) }
+            (inspected_with tables.now one.now (scratch_of self.old)) }
         ensures keeps { KeepsRoom self.old self.new }
     {
         let counters = one.counters.as_slice();
@@ -54,14 +44,7 @@ impl Data {
         let part = part_of(to, subject.length);
         let to = seen(to, &part);
         self.line.fit(one.size as usize);
-        let found = self.numbers.newest(numbers);
-        self.inspecting.inspect(
-            one,
-            found,
-            self.line.bytes(),
-            self.areas.bytes(to, subject.offset),
-        );
-        self.numbers.leave(numbers);
+        self.inspecting.inspect(one, self.line.bytes(), self.areas.bytes(to, subject.offset));
         self.line.clear();
         let places = self.places.newest(counters.len());
         let counts = self.inspecting.counts.as_slice();
@@ -84,23 +67,7 @@ impl Data {
         ensures keeps { KeepsRoom self.old self.new }
     {
         let one = &tables.inspections.as_slice()[inspection.number as usize];
-        self.inspect_by(tables, one, 0)
-    }
-
-    /// `inspect measured`: the same with so many numbers. It takes no memory.
-    pub fn inspect_measured(
-        &mut self,
-        tables: &DataTables,
-        inspection: InspectionIndex,
-        numbers: u32,
-    ) -> Result<(), ProgramFault>
-        requires { IsReady tables.now self.old (instructions.InspectMeasured inspection numbers) }
-        ensures does { IsStepOf result (scratch_of self.new)
-            (spec.inspected_measured tables.now inspection numbers (scratch_of self.old)) }
-        ensures keeps { KeepsRoom self.old self.new }
-    {
-        let one = &tables.inspections.as_slice()[inspection.number as usize];
-        self.inspect_by(tables, one, numbers as usize)
+        self.inspect_by(tables, one)
     }
 }
 

@@ -14,7 +14,6 @@ mod inspect_statement;
 mod integers;
 mod item_part;
 mod laws;
-mod measuring;
 mod move_items;
 mod numbers;
 mod occurrence;

@@ -529,11 +529,11 @@ Fault 64 (sources: statements): INSPECT cannot use this operand
 
 In an INSPECT, at its place: a counter that is not numeric. An item or a text
 that is a number with S or not in DISPLAY usage. A text that is a numeric
-literal. A text after BY or TO whose size differs from the text's before it, or
-where one of the two sizes is not known before the run. More than one character
-after CHARACTERS BY. `INSPECT T TALLYING E FOR ALL "A"` where E is edited;
-`INSPECT T REPLACING ALL 0 BY " "`; `INSPECT T REPLACING ALL "AB" BY "C"`;
-`INSPECT T REPLACING ALL S (1:I) BY "C"`
+literal, or a part whose length is not known before the run. A text after BY or
+TO whose size differs from the text's before it. More than one character after
+CHARACTERS BY. `INSPECT T TALLYING E FOR ALL "A"` where E is edited; `INSPECT T
+REPLACING ALL 0 BY " "`; `INSPECT T REPLACING ALL "AB" BY "C"`; `INSPECT T
+TALLYING N FOR ALL S (1:I)`
 
 What to do:
 Use a counter `PIC 99`. Write a literal in quotation marks, or ZERO. MOVE the

@@ -1,9 +1,6 @@
 -- The roots of a volume, written again: sectors 0 and 1, as far as the device has them.
-use Rattle.std.specs.Prelude.{ℕ, zero, suc, slice_range}
-use Rattle.std.specs.Ordering.{nat_cmp}
-use Rattle.std.specs.declared.cmp.Ordering.{Ordering}
-use Rattle.std.specs.Cmp.Lexicographic.{slice_cmp}
-use Rattle.station.specs.Disk.{Sector, sector_at}
+use Rattle.std.specs.Prelude.{ℕ, zero, suc}
+use Rattle.station.specs.Disk.{sector_at}
 use Rattle.station.specs.State.{State, wrote, state_after_sync}
 
 -- A sector's present bytes were written to it again and synced.
@@ -15,7 +12,3 @@ abbrev pub roots_rewritten : ℕ → State → State
 roots_rewritten zero state = state
 roots_rewritten (suc zero) state = state_after_rewrite state 0
 roots_rewritten (suc (suc more)) state = state_after_rewrite (state_after_rewrite state 0) 1
-
--- how the generations of two roots compare, which are in bytes 8 to 15, the greatest part first
-abbrev pub generation_order : Sector → Sector → Ordering
-generation_order first second = slice_cmp nat_cmp (slice_range first 8 16) (slice_range second 8 16)

@@ -51,8 +51,8 @@ impl HostDevice {
         device
     }
 
-    /// The volume without the count of failures. What was gathered is written, and after a sync the roots that wait: the newest
-    /// one, and after a sync the other one, which isn't synced yet. It fails if the host refuses that.
+    /// The volume without the count of failures. What was gathered is written, and after a sync the roots that wait: the one that was
+    /// written last, and after a sync the other one, which isn't synced yet. It fails if the host refuses that.
     pub fn into_volume(mut self) -> Result<HostVolume, DeviceError>
         ensures { IfOk result (λ volume. volume ≡ volume_of self) }
     {

@@ -24,19 +24,15 @@ use Rattle.source_tree.specs.NameRules.{reference_rules}
 use Rattle.source_tree.specs.InspectRules.{inspected_item, replaced_text_rules, inspect_rules}
 use Rattle.source_tree.specs.InspectWalk.{Pattern, AnyCharacter, Occurrence, TextEntry, replaced_subject}
 use Rattle.source_tree.specs.Inspecting.{LimitTexts, text_entry, take_text, take_by, take_limits, take_replaced_text}
-use Rattle.source_tree.specs.MeasuredTexts.{length_at, measured_span, measured_entry}
-use Rattle.source_tree.specs.InspectLayout.{source, text_sizes, InspectEntry, replaced_text, entries_texts, span_at}
-use Rattle.source_tree.specs.InspectLayout.{entry_at, inspection, InspectTaken, inspected_size, with_lengths}
-use Rattle.source_tree.specs.Converting.{character_entries, conversion, convert, convert_rules, as_replacing}
-use Rattle.source_tree.specs.Converting.{convert_at}
+use Rattle.source_tree.specs.InspectLayout.{source, text_sizes, InspectEntry}
+use Rattle.source_tree.specs.InspectLayout.{replaced_text, entry_texts, entries_texts, span_at, entry_at, inspection}
+use Rattle.source_tree.specs.InspectLayout.{InspectTaken, inspected_size, HasKnownSize, HasKnownTexts}
+use Rattle.source_tree.specs.Converting.{character_entries, converted, convert, convert_rules, as_replacing, convert_at}
 use Rattle.source_tree.specs.Converting.{convert_by_spans}
 use Rattle.source_tree.proofs.InspectWalks.{text_of, entry_of, HasBy, replaced_same}
-use Rattle.source_tree.proofs.Evaluations.{Alike, okay, bind_same}
-use Rattle.source_tree.proofs.Cells.{Cell, bytes_of, bytes_many, mark_at}
-use Rattle.source_tree.proofs.Measures.{entry_is, entries_alike}
-use Rattle.source_tree.proofs.InspectTaking.{takes_replaced_text, read_all, alone}
-use Rattle.source_tree.proofs.InspectMeaning.{EntriesRead, lengths_from, lookup, only, only_texts, whole_size}
-use Rattle.source_tree.proofs.InspectKept.{AreSomeBytes, inspection_within, replacing_suits, replaced_texts_some}
+use Rattle.source_tree.proofs.InspectTaking.{Alike, okay, bind_same, takes_replaced_text, read_all, AreKnown, all_front}
+use Rattle.source_tree.proofs.InspectMeaning.{EntriesRead, only, only_texts, known_texts, whole_size}
+use Rattle.source_tree.proofs.InspectKept.{AreSomeBytes, inspection_within}
 
 -- ---- an entry for each character
 
@@ -91,7 +87,7 @@ text_is texts span = ap (λ n. take n (drop span.start texts)) (omega arith)
 entry_converts : (texts : List ℕ) (one : Entry) (from by : Span) (subject : List ℕ) → IsEntry (length texts) one
     → one.fit ≡ f.All from → one.by ≡ Some by
     → converted_subject texts (one ∷ []) subject
-    ≡ conversion (bytes_in texts from) (bytes_in texts by) (limits_of texts one) subject
+    ≡ converted (bytes_in texts from) (bytes_in texts by) (limits_of texts one) subject
 unfolding converted_subject
 entry_converts texts one from by subject is fits has =
     let n = from.length in
@@ -120,7 +116,7 @@ entry_converts texts one from by subject is fits has =
 abbrev by_pattern : Pattern → TextEntry → List ℕ → List ℕ
 by_pattern AnyCharacter one subject = subject
 by_pattern (Occurrence kind text) one subject =
-    conversion text one.by (record { before = one.before; after = one.after }) subject
+    converted text one.by (record { before = one.before; after = one.after }) subject
 
 abbrev by_entries : List TextEntry → List ℕ → List ℕ
 by_entries [] subject = subject
@@ -128,21 +124,21 @@ by_entries (one ∷ more) subject = by_pattern one.pattern one subject
 
 taken_once : (u : Evaluation (List ℕ)) (v : List ℕ → Evaluation (List ℕ)) (w : Evaluation LimitTexts)
     (put : List ℕ → Storage) (subject : List ℕ)
-    → (u >>= (λ text. v text >>= (λ by. w >>= (λ limits. okay (put (conversion text by limits subject))))))
+    → (u >>= (λ text. v text >>= (λ by. w >>= (λ limits. okay (put (converted text by limits subject))))))
     ≡ ((u >>= (λ text. v text >>= (λ by. w >>= (λ limits. okay (text_entry (Occurrence how.All text) by limits ∷ [])))))
     >>= (λ entries. okay (put (by_entries entries subject))))
 taken_once (Err f) v w put subject = refl
 taken_once (Ok text) v w put subject = by_second (v text)
   where
     by_limits : (by : List ℕ) (w : Evaluation LimitTexts)
-        → (w >>= (λ limits. okay (put (conversion text by limits subject))))
+        → (w >>= (λ limits. okay (put (converted text by limits subject))))
         ≡ ((w >>= (λ limits. okay (text_entry (Occurrence how.All text) by limits ∷ [])))
         >>= (λ entries. okay (put (by_entries entries subject))))
     by_limits by (Err f) = refl
     by_limits by (Ok limits) = refl
 
     by_second : (x : Evaluation (List ℕ))
-        → (x >>= (λ by. w >>= (λ limits. okay (put (conversion text by limits subject)))))
+        → (x >>= (λ by. w >>= (λ limits. okay (put (converted text by limits subject)))))
         ≡ ((x >>= (λ by. w >>= (λ limits. okay (text_entry (Occurrence how.All text) by limits ∷ []))))
         >>= (λ entries. okay (put (by_entries entries subject))))
     by_second (Err f) = refl
@@ -160,6 +156,10 @@ pub as_replacing_rules : (items : List LocatedItem) (one : Converting) → conve
 as_replacing_rules items one e =
     rules_none (reference_rules items inspected_item one.subject) (replaced_text_rules items one.texts) e
 
+alone_known : (items : List LocatedItem) (one : InspectEntry) → AreKnown items (entries_texts (one ∷ []))
+    → AreKnown items (entry_texts one)
+alone_known items one known = all_front (HasKnownSize items) (entry_texts one) [] known
+
 -- ---- CONVERTING
 
 module _ (items : List LocatedItem) (sized : AreSomeBytes items) (one : Converting) (storage : Storage)
@@ -167,57 +167,51 @@ module _ (items : List LocatedItem) (sized : AreSomeBytes items) (one : Converti
   abbrev laid : InspectEntry
   laid = replaced_text items how.All one.texts
 
-  conversion_same : (subject : ItemPlace) (a : List Cell) (entries : List TextEntry)
+  conversion_same : (subject : ItemPlace) (a : List ℕ) (entries : List TextEntry)
       → EntriesRead items storage (laid ∷ []) a entries
-      → convert_at (with_lengths (lengths_from 0 a) (inspection items (as_replacing one))) (bytes_of a) subject storage
+      → convert_at (inspection items (as_replacing one)) a subject storage
       ≡ storage_with subject (by_entries entries (part_of storage subject)) storage
   conversion_same subject a entries k =
       let bytes = part_of storage subject in
-      let texts = bytes_of a in
       let size = inspected_size items (as_replacing one) in
-      let lengths = length_at (lengths_from 0 a) in
       let e : Entry = entry_at items 0 laid in
-      let now : Entry = measured_entry lengths e in
       let whole : size ≡ 0 + text_sizes items (entries_texts (laid ∷ [])) = whole_size items (as_replacing one) in
-      let long : length texts ≡ size = omega (arith, bytes_many a, k.size_is, whole) in
+      let long : length a ≡ size = omega (arith, k.size_is, whole) in
       let within = inspection_within items sized (as_replacing one) (as_replacing_rules items one rules) in
       let all = recursion_from_All (IsEntry size) (e ∷ []) within.replacing in
-      let is : IsEntry (length texts) now =
-      subst (λ n. IsEntry n now) (sym long) (entry_is lengths size e all.0) in
-      let found : entry_of texts now ∷ [] ≡ entries =
-      ap (map (entry_of texts)) (entries_alike lengths (mark_at a) (lookup a) (e ∷ []))
-      ∙ ap (λ l. entry_of (bytes_of l) (measured_entry (mark_at l) e) ∷ []) (sym (append-nil a)) ∙ k.found [] [] in
+      let is : IsEntry (length a) e = subst (λ n. IsEntry n e) (sym long) all.0 in
+      let found : entry_of a e ∷ [] ≡ entries =
+      ap (λ l. entry_of l e ∷ []) (sym (append-nil a)) ∙ k.found [] [] in
       ap (λ l. storage_with subject l storage)
-      (entry_converts texts now (measured_span lengths (span_at items 0 (source one.texts.text))) _ bytes is refl refl
+      (entry_converts a e (span_at items 0 (source one.texts.text)) _ bytes is refl refl
       ∙ ap (λ l. by_entries l bytes) found)
 
-  taken_alike : (subject : ItemPlace) (u : Evaluation (List Cell)) (w : Evaluation (List TextEntry))
+  taken_alike : (subject : ItemPlace) (u : Evaluation (List ℕ)) (w : Evaluation (List TextEntry))
       → Alike (EntriesRead items storage (laid ∷ [])) u w
-      → ((u >>= (λ a. okay (only 0 a))) >>= (λ taken.
-      okay (convert_at (with_lengths taken.lengths (inspection items (as_replacing one))) taken.texts subject storage)))
+      → ((u >>= (λ a. okay (only a)))
+      >>= (λ taken. okay (convert_at (inspection items (as_replacing one)) taken.texts subject storage)))
       ≡ (w >>= (λ entries. okay (storage_with subject (by_entries entries (part_of storage subject)) storage)))
   taken_alike subject (Err f) (Err g) k = ap (λ e. Err e) k
   taken_alike subject (Err f) (Ok entries) k = absurd k
   taken_alike subject (Ok a) (Err g) k = absurd k
   taken_alike subject (Ok a) (Ok entries) k = ap (λ s. okay s) (conversion_same subject a entries k)
 
-  pub conversions_alike : convert items one storage ≡ convert_by_spans items one storage
-  conversions_alike = bind_same (place_of items one.subject storage) _ _ (λ subject.
-      let replacing = as_replacing one in
-      let kept = as_replacing_rules items one rules in
+  conversions_alike : HasKnownTexts items (as_replacing one)
+      → convert items one storage ≡ convert_by_spans items one storage
+  conversions_alike known = bind_same (place_of items one.subject storage) _ _ (λ subject.
       let texts = entries_texts (laid ∷ []) in
       let u = read_all items storage texts in
       let bytes = part_of storage subject in
-      let suits = (replacing_suits items replacing kept).0.0 in
-      let some = alone items storage laid (replaced_texts_some items sized replacing kept) in
       let last = λ (taken : InspectTaken).
-      okay (convert_at (with_lengths taken.lengths (inspection items replacing)) taken.texts subject storage) in
+      okay (convert_at (inspection items (as_replacing one)) taken.texts subject storage) in
       taken_once (take_text items storage one.texts.text) (λ text. take_by items storage (length text) one.texts.by)
       (take_limits items storage one.texts.limits) (λ l. storage_with subject l storage) bytes
-      ∙ sym (ap (λ (r : Evaluation InspectTaken). r >>= last) (only_texts items storage 0 texts)
+      ∙ sym (ap (λ (r : Evaluation InspectTaken). r >>= last) (only_texts items storage texts)
       ∙ taken_alike subject u (take_replaced_text items storage how.All one.texts)
-      (takes_replaced_text items storage how.All one.texts suits (some.0, some.1.1))))
+      (takes_replaced_text items storage how.All one.texts
+      (alone_known items laid (known_texts items storage texts known)))))
 
 pub converted_alike : (items : List LocatedItem) → AreSomeBytes items → (one : Converting) (storage : Storage)
-    → convert_rules items one ≡ [] → convert items one storage ≡ convert_by_spans items one storage
-converted_alike items sized one storage rules = conversions_alike items sized one storage rules
+    → convert_rules items one ≡ [] → HasKnownTexts items (as_replacing one)
+    → convert items one storage ≡ convert_by_spans items one storage
+converted_alike items sized one storage rules known = conversions_alike items sized one storage rules known

@@ -1,5 +1,5 @@
--- Where INSPECT keeps its rules, its texts have some characters, and what replaces has the size of what it replaces, or
--- is a constant. So each entry has its texts within those that are taken.
+-- Where INSPECT keeps its rules, its texts have some characters, and what replaces has the size of what it replaces.
+-- So each entry has its texts within those that are taken.
 use Rattle.std.proofs.Common.{◌≡◌, ℕ, suc, ◌+◌, ◌≤◌, Bool, true, false, cond, List, [], ◌∷◌, ◌++◌, length, Option, Some}
 use Rattle.std.proofs.Common.{None, refl, sym, ap, subst, ◌∙◌, arith}
 use Rattle.std.specs.Prelude.{◌==◌, not, map, filter, slice_get, nat_le, ◌&&◌}
@@ -43,7 +43,7 @@ use Rattle.source_tree.specs.ValueRules.{has_form, most_literal_characters}
 use Rattle.source_tree.specs.ConditionRules.{operand_place}
 use Rattle.source_tree.specs.InspectRules.{counter_item, inspected_item, inspected_literal, inspected_rules, only_size}
 use Rattle.source_tree.specs.InspectRules.{TextSize, AnySize, Exactly, Unknown, size_by, size_seen, size_of}
-use Rattle.source_tree.specs.InspectRules.{literal_size, replacing_size, may_replace, by_rules}
+use Rattle.source_tree.specs.InspectRules.{literal_size, replacing_size, may_replace, by_rules, known_text_rules}
 use Rattle.source_tree.specs.InspectRules.{limit_rules}
 use Rattle.source_tree.specs.InspectRules.{limits_rules, ordered_limits, tallied_text_rules, tallied_rules}
 use Rattle.source_tree.specs.InspectRules.{tallying_rules, replaced_text_rules, replacing_rules, inspect_rules}
@@ -55,10 +55,10 @@ use Rattle.source_tree.specs.InspectLayout.{replacing_entries, what_texts, by_te
 use Rattle.source_tree.specs.InspectLayout.{entry_texts, entries_texts, fit_of, span_at, what_fit, by_span, limit_span}
 use Rattle.source_tree.specs.InspectLayout.{before_at, after_at, by_at, limits_at, entry_at, entries_at, all_tallied}
 use Rattle.source_tree.specs.InspectLayout.{all_replaced, tallied_size, inspected_size, inspection, inspect_by_spans}
-use Rattle.source_tree.specs.MeasuredTexts.{room_by, part_room, room_of}
+use Rattle.source_tree.specs.InspectLayout.{InspectArgument, Counter, Text, Characters, takings, HasKnownLength}
+use Rattle.source_tree.specs.InspectLayout.{IsOfKnownSize, HasKnownTexts, HasNoPart}
 use Rattle.source_tree.proofs.SoundFiles.{left_none, right_none, kept}
-use Rattle.source_tree.proofs.Evaluations.{same_Some}
-use Rattle.source_tree.proofs.InspectTaking.{AreSome, AreSuited, IsSuited, Suits, SuitsValue, source_room, sizes_append}
+use Rattle.source_tree.proofs.InspectTaking.{same_Some, sizes_append}
 use Rattle.source_tree.proofs.InspectMeaning.{whole_size, spans_mean}
 
 all_both : {A : Type 0} (P : A → Type 0) (xs ys : List A) → AllByRecursion P xs → AllByRecursion P ys
@@ -122,43 +122,6 @@ module _ (items : List LocatedItem) where
   abbrev AreSized : List InspectEntry → Type 0
   AreSized = AllByRecursion IsSized
 
-  -- ---- Their texts have a character or more.
-
-  what_some : (one : EntryPattern) → SomeWhat one → 1 ≤ what_size one
-  what_some Any h = omega arith
-  what_some (Occurs kind text) h = h
-
-  what_are : (one : EntryPattern) → SomeWhat one → AreSome items (what_texts one)
-  what_are Any h = tt
-  what_are (Occurs kind text) h = (h, tt)
-
-  by_are : (what : EntryPattern) (by : Option Source) → SomeWhat what → SameBy what by → AreSome items (by_texts by)
-  by_are what None h same = tt
-  by_are what (Some by) h same = let some = what_some what h in (omega (arith, same, some), tt)
-
-  limit_are : (one : Option Operand) → SomeLimit one → AreSome items (limit_text one)
-  limit_are None h = tt
-  limit_are (Some one) h = (h, tt)
-
-  limits_are : (before after : Option Operand) (turned : Bool) → SomeLimit before → SomeLimit after
-      → AreSome items (limit_texts (record { before = before; after = after; after_first = turned }))
-  limits_are before after true h k =
-      all_both IsSome (limit_text after) (limit_text before) (limit_are after k) (limit_are before h)
-  limits_are before after false h k =
-      all_both IsSome (limit_text before) (limit_text after) (limit_are before h) (limit_are after k)
-
-  entry_are : (one : InspectEntry) → IsSized one → AreSome items (entry_texts one)
-  entry_are one k =
-      all_both IsSome (what_texts one.what ++ by_texts one.by) (limit_texts one.limits)
-      (all_both IsSome (what_texts one.what) (by_texts one.by) (what_are one.what k.what)
-      (by_are one.what one.by k.what k.by))
-      (limits_are one.limits.before one.limits.after one.limits.after_first k.before k.after)
-
-  entries_some : (all : List InspectEntry) → AreSized all → AreSome items (entries_texts all)
-  entries_some [] k = tt
-  entries_some (one ∷ more) k =
-      all_both IsSome (entry_texts one) (entries_texts more) (entry_are one k.0) (entries_some more k.1)
-
   -- ---- Their entries have them within all that is taken.
 
   pub record EntriesWithin (one : InspectStatement) : Type 0 where
@@ -205,6 +168,10 @@ module _ (items : List LocatedItem) where
   what_long : (at : ℕ) (one : EntryPattern) → what_size one ≡ fit_length (what_fit items at one)
   what_long at Any = refl
   what_long at (Occurs kind text) = fit_long kind (span_at items at text)
+
+  what_some : (one : EntryPattern) → SomeWhat one → 1 ≤ what_size one
+  what_some Any h = omega arith
+  what_some (Occurs kind text) h = h
 
   what_within : (one : EntryPattern) (at size : ℕ) → SomeWhat one → at + text_sizes items (what_texts one) ≤ size
       → IsFit size (what_fit items at one)
@@ -313,93 +280,6 @@ module _ (items : List LocatedItem) where
       literal_same (operand_place (operand.Literal one)) known size one.value
       is (right_none (inspected_rules items (operand.Literal one)) _ e)
 
-  -- ---- from the rules: what may replace
-
-  -- A text whose length is found in the run has an unknown size.
-  abbrev IsRoomOf : TextSize → Option ℕ → Type 0
-  IsRoomOf AnySize room = ⊥
-  IsRoomOf (Exactly n) room = room ≡ None
-  IsRoomOf Unknown room = Unit {0}
-
-  room_known : (size : ℕ) (known : Option ℕ) → IsRoomOf (size_by known) (room_by size known)
-  room_known size None = tt
-  room_known size (Some n) = refl
-
-  room_seen : (part : Option Part) (found : LocatedItem)
-      → IsRoomOf (size_seen found.item.length part) (part_room (Some found) part)
-  room_seen None found = refl
-  room_seen (Some part) found = room_known found.item.length (known_length found.item.length part.first part.length)
-
-  item_room : (one : Reference) → reference_rules items inspected_item one ≡ []
-      → IsRoomOf (only_size one.part (items_named items one.item)) (room_of items one)
-  item_room one e =
-      let found = only_named one.item.name.place _ (items_named items one.item) (left_none _ _ e) in
-      subst (λ l. IsRoomOf (only_size one.part l) (part_room (first l) one.part)) (sym found.1)
-      (room_seen one.part found.0)
-
-  operand_room : (one : Operand) → inspected_rules items one ≡ []
-      → IsRoomOf (size_of items one) (source_room items (source one))
-  operand_room (operand.Item one) e = item_room one e
-  operand_room (operand.Literal one) e = refl
-
-  both_known : (one other : TextSize) (a b : Option ℕ) → IsRoomOf one a → IsRoomOf other b
-      → may_replace one other ≡ true → (a ≡ None) × (b ≡ None)
-  both_known AnySize other a b e f h = absurd e
-  both_known (Exactly n) AnySize a b e f h = absurd f
-  both_known (Exactly n) (Exactly m) a b e f h = (e, f)
-  both_known (Exactly n) Unknown a b e f h = absurd cc
-  both_known Unknown AnySize a b e f h = absurd f
-  both_known Unknown (Exactly m) a b e f h = absurd cc
-  both_known Unknown Unknown a b e f h = absurd cc
-
-  known_by_literal : (known : TextSize) (room : Option ℕ) (n : ℕ) → IsRoomOf known room
-      → may_replace known (Exactly n) ≡ true → room ≡ None
-  known_by_literal known room n is h = (both_known known (Exactly n) room None is refl h).0
-
-  value_suits : (place : Place) (known : TextSize) (room : Option ℕ) (value : LiteralValue) → IsRoomOf known room
-      → where_so (not (may_replace known (literal_size value))) 64 place ≡ [] → SuitsValue items room value
-  value_suits place known room (literal.Figurative constant) is h = tt
-  value_suits place known room (literal.Numeric number) is h = known_by_literal known room _ is
-      (kept (may_replace known (literal_size (literal.Numeric number))) 64 place h)
-  value_suits place known room (literal.Nonnumeric bytes) is h = known_by_literal known room _ is
-      (kept (may_replace known (literal_size (literal.Nonnumeric bytes))) 64 place h)
-  value_suits place known room (literal.All bytes) is h = known_by_literal known room _ is
-      (kept (may_replace known (literal_size (literal.All bytes))) 64 place h)
-
-  by_suits : (known : TextSize) (room : Option ℕ) (by : Operand) → IsRoomOf known room → by_rules items known by ≡ []
-      → Suits items room by
-  by_suits known room (operand.Item one) is e =
-      let rules = inspected_rules items (operand.Item one) in
-      both_known known (replacing_size items (operand.Item one)) room (room_of items one) is
-      (item_room one (left_none rules _ e))
-      (kept (may_replace known (replacing_size items (operand.Item one))) 64 (operand_place (operand.Item one))
-      (right_none rules _ e))
-  by_suits known room (operand.Literal one) is e =
-      value_suits (operand_place (operand.Literal one)) known room one.value is
-      (right_none (inspected_rules items (operand.Literal one)) _ e)
-
-  replaced_suited : (one : ReplacedText) → replaced_text_rules items one ≡ [] → IsSuited items one
-  replaced_suited one e =
-      let a = inspected_rules items one.text in
-      let b = by_rules items (size_of items one.text) one.by in
-      let f = left_none (a ++ b) (limits_rules items one.limits) e in
-      by_suits (size_of items one.text) (source_room items (source one.text)) one.by
-      (operand_room one.text (left_none a b f)) (right_none a b f)
-
-  each_suited : {A : Type 0} (P : A → Type 0) (rules : A → List RuleBreach) → ((one : A) → rules one ≡ [] → P one)
-      → (all : List A) → each rules all ≡ [] → AllByRecursion P all
-  each_suited P rules keep [] e = tt
-  each_suited P rules keep (one ∷ more) e = (
-    keep one (left_none (rules one) (each rules more) e),
-    each_suited P rules keep more (right_none (rules one) (each rules more) e),
-  )
-
-  replacing_suited : (one : Replacing) → replacing_rules items one ≡ [] → AreSuited items one
-  replacing_suited (replacing.Characters by limits) e =
-      by_suits (Exactly 1) None by refl (left_none (by_rules items (Exactly 1) by) (limits_rules items limits) e)
-  replacing_suited (replacing.Texts kind texts) e =
-      each_suited (IsSuited items) (replaced_text_rules items) replaced_suited texts e
-
   -- ---- from the rules: some characters
 
   characters_some : (bytes : List ℕ) → (nat_le 1 (length bytes) && nat_le (length bytes) most_literal_characters)
@@ -468,9 +348,12 @@ module _ (items : List LocatedItem) where
     operand_some (operand.Item one) e = item_some one e
     operand_some (operand.Literal one) e = value_some one one.value e (form_kept one one.value e refl)
 
+    text_some : (one : Operand) → known_text_rules items one ≡ [] → IsSome (source one)
+    text_some one e = operand_some one (left_none (inspected_rules items one) _ e)
+
     limit_some : (one : Option Operand) → limit_rules items one ≡ [] → SomeLimit one
     limit_some None e = tt
-    limit_some (Some one) e = operand_some one e
+    limit_some (Some one) e = text_some one e
 
     ordered_some : (before after : Option Operand) (turned : Bool) → ordered_limits items before after turned ≡ []
         → SomeLimit before × SomeLimit after
@@ -505,10 +388,10 @@ module _ (items : List LocatedItem) where
         → AreSized (tallied_text kind one ∷ [])
     tallied_text_sized kind one e =
         let limits = limits_some one.limits
-        (right_none (inspected_rules items one.text) (limits_rules items one.limits) e) in (
+        (right_none (known_text_rules items one.text) (limits_rules items one.limits) e) in (
           record {
-            what = operand_some one.text
-                (left_none (inspected_rules items one.text) (limits_rules items one.limits) e);
+            what = text_some one.text
+                (left_none (known_text_rules items one.text) (limits_rules items one.limits) e);
             by = tt;
             before = limits.0;
             after = limits.1;
@@ -531,15 +414,15 @@ module _ (items : List LocatedItem) where
     replaced_text_sized : (kind : Occurrences) (one : ReplacedText) → replaced_text_rules items one ≡ []
         → AreSized (replaced_text items kind one ∷ [])
     replaced_text_sized kind one e =
-        let a = inspected_rules items one.text in
+        let a = known_text_rules items one.text in
         let b = by_rules items (size_of items one.text) one.by in
         let c = limits_rules items one.limits in
         let f = left_none (a ++ b) c e in
         let size = text_size items (source one.text) in
-        let known = known_size one.text (left_none a b f) in
+        let known = known_size one.text (left_none (inspected_rules items one.text) _ (left_none a b f)) in
         let limits = limits_some one.limits (right_none (a ++ b) c e) in (
           record {
-            what = operand_some one.text (left_none a b f);
+            what = text_some one.text (left_none a b f);
             by = by_same (size_of items one.text) size one.by known (right_none a b f);
             before = limits.0;
             after = limits.1;
@@ -564,31 +447,19 @@ module _ (items : List LocatedItem) where
 
     -- ---- INSPECT
 
-    tallied_entries_sized : (one : InspectStatement) → inspect_rules items one ≡ [] → AreSized (all_tallied items one)
-    tallied_entries_sized one e =
-        let a = reference_rules items inspected_item one.subject in
-        let b = each (tallying_rules items) one.tallying in
-        let c = each (replacing_rules items) one.replacing in
-        all_sized (tallying_rules items) counter_entries counter_sized one.tallying
-        (right_none a b (left_none (a ++ b) c e))
-
-    replaced_entries_sized : (one : InspectStatement) → inspect_rules items one ≡ []
-        → AreSized (all_replaced items one)
-    replaced_entries_sized one e =
-        let a = reference_rules items inspected_item one.subject in
-        let b = each (tallying_rules items) one.tallying in
-        let c = each (replacing_rules items) one.replacing in
-        all_sized (replacing_rules items) (replacing_entries items) replacing_sized one.replacing
-        (right_none (a ++ b) c e)
-
     kept_within : (one : InspectStatement) → inspect_rules items one ≡ [] → EntriesWithin one
     kept_within one e =
+        let a = reference_rules items inspected_item one.subject in
+        let b = each (tallying_rules items) one.tallying in
+        let c = each (replacing_rules items) one.replacing in
         let size = inspected_size items one in
         let whole = whole_size items one in
         let front = all_tallied items one in
         let back = all_replaced items one in
-        let tallying = tallied_entries_sized one e in
-        let replacing = replaced_entries_sized one e in
+        let tallying = all_sized (tallying_rules items) counter_entries counter_sized one.tallying
+        (right_none a b (left_none (a ++ b) c e)) in
+        let replacing = all_sized (replacing_rules items) (replacing_entries items) replacing_sized one.replacing
+        (right_none (a ++ b) c e) in
         record {
           tallying = All-from_recursion (IsEntry size) (entries_at items 0 front)
               (entries_within front 0 size tallying (omega (arith, whole)));
@@ -605,25 +476,30 @@ pub inspection_within : (items : List LocatedItem) → AreSomeBytes items → (o
     → EntriesWithin items one
 inspection_within items sized one e = kept_within items (by_number (λ item. 1 ≤ item.item.length) items sized) one e
 
-pub replacing_suits : (items : List LocatedItem) (one : InspectStatement) → inspect_rules items one ≡ []
-    → AllByRecursion (AreSuited items) one.replacing
-replacing_suits items one e =
-    let a = reference_rules items inspected_item one.subject in
-    let b = each (tallying_rules items) one.tallying in
-    each_suited items (AreSuited items) (replacing_rules items) (replacing_suited items) one.replacing
-    (right_none (a ++ b) (each (replacing_rules items) one.replacing) e)
-
-pub replaced_texts_some : (items : List LocatedItem) → AreSomeBytes items → (one : InspectStatement)
-    → inspect_rules items one ≡ [] → AreSome items (entries_texts (all_replaced items one))
-replaced_texts_some items sized one e =
-    let bytes = by_number (λ item. 1 ≤ item.item.length) items sized in
-    entries_some items (all_replaced items one) (replaced_entries_sized items bytes one e)
-
 pub inspected_alike : (items : List LocatedItem) → AreSomeBytes items → (one : InspectStatement) (storage : Storage)
-    → inspect_rules items one ≡ [] → inspect items one storage ≡ inspect_by_spans items one storage
-inspected_alike items sized one storage e =
-    let bytes = by_number (λ item. 1 ≤ item.item.length) items sized in
+    → inspect_rules items one ≡ [] → HasKnownTexts items one
+    → inspect items one storage ≡ inspect_by_spans items one storage
+inspected_alike items sized one storage e known =
     let within = inspection_within items sized one e in
-    sym (spans_mean items one storage within.tallying within.replacing
-    (entries_some items (all_tallied items one) (tallied_entries_sized items bytes one e))
-    (replaced_texts_some items sized one e) (replacing_suits items one e))
+    sym (spans_mean items one storage within.tallying within.replacing known)
+
+-- ---- texts without parts
+
+without_part : (items : List LocatedItem) (one : InspectArgument) → HasNoPart one → IsOfKnownSize items one
+without_part items (Counter one) e = tt
+without_part items (Text (Bytes one)) e = known (first (items_named items one.item)) one.part e
+  where
+    known : (found : Option LocatedItem) (part : Option Part) → part ≡ None → HasKnownLength found part
+    known None part e = tt
+    known (Some found) None e = tt
+    known (Some found) (Some part) e = absurd cc
+without_part items (Text (Characters text)) e = tt
+
+each_without : (items : List LocatedItem) (all : List InspectArgument) → AllByRecursion HasNoPart all
+    → AllByRecursion (IsOfKnownSize items) all
+each_without items [] h = tt
+each_without items (one ∷ more) h = (without_part items one h.0, each_without items more h.1)
+
+pub without_parts : (items : List LocatedItem) (one : InspectStatement) → AllByRecursion HasNoPart (takings items one)
+    → HasKnownTexts items one
+without_parts items one h = each_without items (takings items one) h

@@ -21,12 +21,8 @@ pub mod MoveExamples
 pub mod PartExamples
 pub mod StringExamples
 pub mod InspectWalks
-pub mod Evaluations
-pub mod Parts
-pub mod PartLengths
-pub mod Cells
 pub mod InspectTaking
-pub mod Measures
+pub mod Parts
 pub mod InspectMeaning
 pub mod InspectKept
 pub mod InspectConverting

@@ -194,7 +194,7 @@ moves_broken : (moved_to (from_to (codes "L") (codes "1") (codes "3")) (codes "I
 unfolding computing
 moves_broken = (refl, refl, refl, refl, refl, refl, refl)
 
--- 64: a figurative constant alone replaces a text of unknown size, and such a text replaces none.
+-- 64: a text of unknown size is replaced by none, and replaces none.
 abbrev replaced : Operand → Operand → List ℕ
 replaced one by = rules (replacing_rules (items_of kinds)
     (replacing.Texts how.All (record { text = one; by = by; limits = anywhere } ∷ [])))
@@ -211,11 +211,11 @@ two_characters = operand.Item (from_to (codes "L") (codes "1") (codes "2"))
 sizes : (replaced two_characters (the_literal (text (codes "AB"))) ≡ [])
     × (replaced two_characters (the_literal (text (codes "ABC"))) ≡ 64 ∷ [])
     × (replaced (the_literal (text (codes "AB"))) two_characters ≡ [])
-    × (replaced unknown (the_literal (constant figurative.Zero)) ≡ [])
-    × (replaced unknown (the_literal (text (codes "AB"))) ≡ 64 ∷ [])
+    × (replaced unknown (the_literal (constant figurative.Zero)) ≡ 64 ∷ [])
+    × (replaced unknown (the_literal (text (codes "AB"))) ≡ 64 ∷ 64 ∷ [])
     × (replaced (the_literal (text (codes "AB"))) unknown ≡ 64 ∷ [])
-    × (replaced unknown unknown ≡ 64 ∷ [])
+    × (replaced unknown unknown ≡ 64 ∷ 64 ∷ [])
     × (replaced (operand.Item (from_to (codes "L") (codes "2") (codes "0"))) (the_literal (text (codes "A")))
-    ≡ 64 ∷ [])
+    ≡ 64 ∷ 64 ∷ [])
 unfolding computing
 sizes = (refl, refl, refl, refl, refl, refl, refl, refl)

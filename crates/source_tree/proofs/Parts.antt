@@ -18,7 +18,7 @@ use Rattle.source_tree.specs.References.{ItemPlace, IsWithin, part_after, part_o
 use Rattle.source_tree.specs.References.{length_value, part_in}
 use Rattle.source_tree.specs.References.{subscript_value, occurrence, whole_place_of, place_of}
 use Rattle.source_tree.specs.Storage.{Storage}
-use Rattle.source_tree.proofs.Evaluations.{okay, bind_same, bound, chosen}
+use Rattle.source_tree.proofs.InspectTaking.{okay, bind_same, bound, chosen}
 
 -- ---- without a part
 
@@ -98,18 +98,14 @@ from p (pos zero) length place e = absurd cc
 from p (pos (suc before)) length place e = by p before length place e
 from p (negsuc n) length place e = absurd cc
 
-pub made_within : (items : List LocatedItem) (part : Part) (storage : Storage) (p place : ItemPlace)
-    → part_in items (Some part) storage p ≡ okay place → IsWithin place p × 1 ≤ place.item.length
-made_within items part storage p place e =
-    let first = bound (subscript_value items part.first storage)
-    (λ z. length_value items part.length storage >>= (λ n. part_from p z n)) place e in
-    let length = bound (length_value items part.length storage) (λ n. part_from p first.0 n) place first.2 in
-    from p first.0 length.0 place length.2
-
 pub part_within : (items : List LocatedItem) (part : Option Part) (storage : Storage) (p place : ItemPlace)
     → 1 ≤ p.item.length → part_in items part storage p ≡ okay place → IsWithin place p × 1 ≤ place.item.length
 part_within items None storage p place some e =
     let same : p ≡ place = chosen true p place e in
     let long = ap (λ (q : ItemPlace). q.item.length) same in
     (itself p place same, omega (arith, some, long))
-part_within items (Some part) storage p place some e = made_within items part storage p place e
+part_within items (Some part) storage p place some e =
+    let first = bound (subscript_value items part.first storage)
+    (λ z. length_value items part.length storage >>= (λ n. part_from p z n)) place e in
+    let length = bound (length_value items part.length storage) (λ n. part_from p first.0 n) place first.2 in
+    from p first.0 length.0 place length.2

@@ -13,7 +13,7 @@ use Rattle.source_tree.specs.Evaluated.{Evaluation, ◌>>=◌}
 use Rattle.source_tree.specs.References.{ItemPlace, part_of, storage_with, place_of}
 use Rattle.source_tree.specs.InspectWalk.{Occurrence, TextEntry, replaced_subject}
 use Rattle.source_tree.specs.Inspecting.{LimitTexts, text_entry, take_text, take_by, take_limits}
-use Rattle.source_tree.specs.InspectLayout.{Inspection, inspection, takings, with_lengths, take_each}
+use Rattle.source_tree.specs.InspectLayout.{Inspection, inspection, takings, take_each}
 use Rattle.source_tree.specs.Broken.{RuleBreach}
 use Rattle.source_tree.specs.NameRules.{reference_rules}
 use Rattle.source_tree.specs.InspectRules.{inspected_item, replaced_text_rules}
@@ -26,8 +26,8 @@ character_entries (c ∷ from) (d ∷ to) limits =
     text_entry (Occurrence occurrences.All (c ∷ [])) (d ∷ []) limits ∷ character_entries from to limits
 
 -- The limits are found in the subject as it was.
-abbrev pub conversion : List ℕ → List ℕ → LimitTexts → List ℕ → List ℕ
-conversion from to limits subject = replaced_subject (character_entries from to limits) subject
+abbrev pub converted : List ℕ → List ℕ → LimitTexts → List ℕ → List ℕ
+converted from to limits subject = replaced_subject (character_entries from to limits) subject
 
 -- A figurative constant as second text has the size of the first.
 abbrev pub convert : List LocatedItem → Converting → Storage → Evaluation Storage
@@ -36,7 +36,7 @@ convert items one storage =
     take_text items storage one.texts.text >>= (λ from.
     take_by items storage (length from) one.texts.by >>= (λ to.
     take_limits items storage one.texts.limits >>= (λ limits.
-    Ok (storage_with subject (conversion from to limits (part_of storage subject)) storage)))))
+    Ok (storage_with subject (converted from to limits (part_of storage subject)) storage)))))
 
 -- ---- rules: those of a text that is replaced by another of its size
 
@@ -44,7 +44,8 @@ abbrev pub convert_rules : List LocatedItem → Converting → List RuleBreach
 convert_rules items one = reference_rules items inspected_item one.subject ++ replaced_text_rules items one.texts
 
 -- ---- as a machine lays it out (own choice): with the texts, in the order of writing, and the one entry of REPLACING
--- ALL of the first text by the second. `converting_law` says that this is what CONVERTING means.
+-- ALL of the first text by the second. `converting_law` says that this is what CONVERTING means if the size of each
+-- text is known before a run.
 
 -- the INSPECT that takes the same
 abbrev pub as_replacing : Converting → InspectStatement
@@ -61,5 +62,5 @@ convert_at how texts subject storage =
 abbrev pub convert_by_spans : List LocatedItem → Converting → Storage → Evaluation Storage
 convert_by_spans items one storage =
     place_of items one.subject storage >>= (λ subject.
-    take_each items 0 (takings items (as_replacing one)) storage >>= (λ taken.
-    Ok (convert_at (with_lengths taken.lengths (inspection items (as_replacing one))) taken.texts subject storage)))
+    take_each items (takings items (as_replacing one)) storage >>= (λ taken.
+    Ok (convert_at (inspection items (as_replacing one)) taken.texts subject storage)))

@@ -1,9 +1,7 @@
--- INSPECT as a machine lays it out (own choice): the texts of all entries are joined in one buffer, and entries are
--- spans of it, by the sizes of items and literals alone. In the run the spans of texts of other lengths become shorter.
--- `inspect_law` says that this is what INSPECT means.
-use Rattle.std.specs.Prelude.{ℕ, zero, suc, ◌+◌, if◌then◌else◌, List, [], ◌∷◌, ◌++◌, length, map, replicate, Option}
-use Rattle.std.specs.Prelude.{Some, None, Ok}
-use Rattle.items.specs.Texts.{padded_text}
+-- INSPECT as a machine lays it out (own choice): the texts of all entries are joined in one buffer, and entries are spans of it, by the sizes
+-- of items and literals alone. `inspect_law` says that this is what INSPECT means if the size of each text is known before a run.
+use Rattle.std.specs.Prelude.{ℕ, zero, suc, ◌+◌, if◌then◌else◌, List, [], ◌∷◌, ◌++◌, length, map, replicate, ◌≡◌, ◌≢◌, Option, Some, None, Ok}
+use Rattle.std.specs.List.{AllByRecursion}
 use Rattle.text_ops.specs.declared.entry.Span.{Span}
 use Rattle.text_ops.specs.declared.entry.Fit.{Fit}
 use Rattle.text_ops.specs.declared.entry.Fit.TheVariants as fit
@@ -11,6 +9,7 @@ use Rattle.text_ops.specs.declared.entry.Entry.{Entry}
 use Rattle.text_ops.specs.Inspect.{tally, replaced_subject}
 use Rattle.source_tree.specs.declared.literal.LiteralValue.{LiteralValue}
 use Rattle.source_tree.specs.declared.literal.LiteralValue.TheVariants as literal
+use Rattle.source_tree.specs.declared.reference.Part.{Part}
 use Rattle.source_tree.specs.declared.reference.Reference.{Reference}
 use Rattle.source_tree.specs.declared.expression.Operand.{Operand}
 use Rattle.source_tree.specs.declared.expression.Operand.TheVariants as operand
@@ -27,9 +26,8 @@ use Rattle.source_tree.specs.declared.inspect_statement.Replacing.TheVariants as
 use Rattle.source_tree.specs.declared.inspect_statement.InspectStatement.{InspectStatement}
 use Rattle.source_tree.specs.Display.{figurative_byte, shown_literal}
 use Rattle.source_tree.specs.Places.{LocatedItem}
-use Rattle.source_tree.specs.LookUp.{first}
-use Rattle.source_tree.specs.Parts.{items_referred}
-use Rattle.source_tree.specs.MeasuredTexts.{room_of, TextLength, length_at, measured_entry}
+use Rattle.source_tree.specs.LookUp.{items_named, first}
+use Rattle.source_tree.specs.Parts.{known_length, items_referred}
 use Rattle.source_tree.specs.Storage.{Storage}
 use Rattle.source_tree.specs.Evaluated.{Evaluation, ◌>>=◌}
 use Rattle.source_tree.specs.References.{ItemPlace, part_of, storage_with, place_of}
@@ -116,8 +114,7 @@ abbrev pub counter_entries : Tallying → List InspectEntry
 counter_entries one = all_inspected tallied_entries one.tallied
 
 abbrev pub replacing_entries : List LocatedItem → Replacing → List InspectEntry
-replacing_entries items (replacing.Characters by limits) =
-    record { what = Any; by = Some (replacing_text 1 by); limits = limits } ∷ []
+replacing_entries items (replacing.Characters by limits) = record { what = Any; by = Some (replacing_text 1 by); limits = limits } ∷ []
 replacing_entries items (replacing.Texts how texts) = all_inspected (λ one. replaced_text items how one ∷ []) texts
 
 -- ---- the order of writing: what an entry fits, what replaces it, and BEFORE and AFTER as they stand
@@ -148,8 +145,7 @@ entries_texts (one ∷ more) = entry_texts one ++ entries_texts more
 
 abbrev pub tallying_takings : List Tallying → List InspectArgument
 tallying_takings [] = []
-tallying_takings (one ∷ more) =
-    Counter one.counter ∷ (map Text (entries_texts (counter_entries one)) ++ tallying_takings more)
+tallying_takings (one ∷ more) = Counter one.counter ∷ (map Text (entries_texts (counter_entries one)) ++ tallying_takings more)
 
 -- ---- entries as `text_ops` has them: their texts are spans of all texts joined. `at` is the size of those before.
 
@@ -199,8 +195,7 @@ module _ (items : List LocatedItem) where
   entries_at at [] = []
   entries_at at (one ∷ more) = entry_at at one ∷ entries_at (at + text_sizes items (entry_texts one)) more
 
--- What an INSPECT does with the texts that it takes: how many entries of TALLYING each counter has, those entries, and
--- those of REPLACING.
+-- What an INSPECT does with the texts that it takes: how many entries of TALLYING each counter has, those entries, and those of REPLACING.
 pub record Inspection : Type 0 where
   pub counters : List ℕ
   pub tallying : List Entry
@@ -236,53 +231,51 @@ module _ (items : List LocatedItem) where
     replacing = entries_at items (tallied_size one) (all_replaced one);
   }
 
+-- ---- statements whose texts have sizes that are known before a run
+
+-- A part has a known size if its literals say its length.
+abbrev pub HasKnownLength : Option LocatedItem → Option Part → Type 0
+HasKnownLength None part = Unit {0}
+HasKnownLength (Some found) None = Unit {0}
+HasKnownLength (Some found) (Some part) = known_length found.item.length part.first part.length ≢ None
+
+module _ (items : List LocatedItem) where
+  abbrev pub HasKnownSize : Source → Type 0
+  HasKnownSize (Bytes one) = HasKnownLength (first (items_named items one.item)) one.part
+  HasKnownSize (Characters text) = Unit {0}
+
+  abbrev pub IsOfKnownSize : InspectArgument → Type 0
+  IsOfKnownSize (Counter one) = Unit {0}
+  IsOfKnownSize (Text one) = HasKnownSize one
+
+  abbrev pub HasKnownTexts : InspectStatement → Type 0
+  HasKnownTexts one = AllByRecursion IsOfKnownSize (takings items one)
+
+-- whole items and literals alone
+abbrev pub HasNoPart : InspectArgument → Type 0
+HasNoPart (Text (Bytes one)) = one.part ≡ None
+HasNoPart _ = Unit {0}
+
 -- ---- taking, in the order of writing
 
--- the counters' places, all texts joined, and the lengths that are found in the run, the last text's first
+-- the counters' places, and all texts joined
 pub record InspectTaken : Type 0 where
   pub counters : List ItemPlace
   pub texts : List ℕ
-  pub lengths : List TextLength
 
 abbrev pub with_counter : ItemPlace → InspectTaken → InspectTaken
 with_counter place taken = record taken { counters = place ∷ taken.counters }
 
-abbrev pub with_text : List ℕ → List TextLength → InspectTaken → InspectTaken
-with_text text lengths taken = record taken { texts = text ++ taken.texts; lengths = taken.lengths ++ lengths }
+abbrev pub with_text : List ℕ → InspectTaken → InspectTaken
+with_text text taken = record taken { texts = text ++ taken.texts }
 
--- An item's text, padded to its room where it has one.
-abbrev pub text_in : Option ℕ → Storage → ItemPlace → List ℕ
-text_in None storage place = text_at storage place
-text_in (Some room) storage place = padded_text room (text_at storage place)
-
--- its length, where it has room
-abbrev pub lengths_in : Option ℕ → ℕ → ItemPlace → List TextLength
-lengths_in None at place = []
-lengths_in (Some room) at place = record { start = at; length = place.item.length } ∷ []
-
--- after so many bytes
-abbrev pub take_each : List LocatedItem → ℕ → List InspectArgument → Storage → Evaluation InspectTaken
-take_each items at [] storage = Ok (record { counters = []; texts = []; lengths = [] })
-take_each items at (Counter one ∷ more) storage =
-    place_of items one storage >>=
-    (λ place. take_each items at more storage >>= (λ taken. Ok (with_counter place taken)))
-take_each items at (Text (Bytes one) ∷ more) storage =
-    place_of items one storage >>= (λ place. take_each items (at + text_size items (Bytes one)) more storage
-    >>= (λ taken.
-    Ok (with_text (text_in (room_of items one) storage place) (lengths_in (room_of items one) at place) taken)))
-take_each items at (Text (Characters text) ∷ more) storage =
-    take_each items (at + length text) more storage >>= (λ taken. Ok (with_text text [] taken))
-
--- how many texts have lengths that are found in the run
-abbrev pub count_of : Option ℕ → ℕ
-count_of None = 0
-count_of (Some room) = 1
-
-abbrev pub measured_texts : List LocatedItem → List InspectArgument → ℕ
-measured_texts items [] = 0
-measured_texts items (Counter one ∷ more) = measured_texts items more
-measured_texts items (Text (Bytes one) ∷ more) = count_of (room_of items one) + measured_texts items more
-measured_texts items (Text (Characters text) ∷ more) = measured_texts items more
+abbrev pub take_each : List LocatedItem → List InspectArgument → Storage → Evaluation InspectTaken
+take_each items [] storage = Ok (record { counters = []; texts = [] })
+take_each items (Counter one ∷ more) storage =
+    place_of items one storage >>= (λ place. take_each items more storage >>= (λ taken. Ok (with_counter place taken)))
+take_each items (Text (Bytes one) ∷ more) storage =
+    place_of items one storage >>= (λ place. take_each items more storage >>= (λ taken. Ok (with_text (text_at storage place) taken)))
+take_each items (Text (Characters text) ∷ more) storage = take_each items more storage >>= (λ taken. Ok (with_text text taken))
 
 -- ---- counters
 
@@ -301,18 +294,9 @@ counted_fits count from (entries ∷ more) = fits_together count from entries �
 -- Without REPLACING no text is stored.
 abbrev pub store_replaced : List ℕ → List Entry → List ℕ → ItemPlace → Storage → Storage
 store_replaced texts [] bytes subject storage = storage
-store_replaced texts (one ∷ more) bytes subject storage =
-    storage_with subject (replaced_subject texts (one ∷ more) bytes) storage
+store_replaced texts (one ∷ more) bytes subject storage = storage_with subject (replaced_subject texts (one ∷ more) bytes) storage
 
--- with these lengths
-abbrev pub with_lengths : List TextLength → Inspection → Inspection
-with_lengths lengths how = record how {
-  tallying = map (measured_entry (length_at lengths)) how.tallying;
-  replacing = map (measured_entry (length_at lengths)) how.replacing;
-}
-
--- With the texts and places that were taken. Both phrases look at the subject's bytes as they are before anything is
--- stored.
+-- With the texts and places that were taken. Both phrases look at the subject's bytes as they are before anything is stored.
 abbrev pub inspect_at : Inspection → List ℕ → List ItemPlace → ItemPlace → Storage → Evaluation Storage
 inspect_at how texts counters subject storage =
     add_each counters (counted_fits (tally texts how.tallying (part_of storage subject)) 0 how.counters) storage
@@ -321,5 +305,5 @@ inspect_at how texts counters subject storage =
 abbrev pub inspect_by_spans : List LocatedItem → InspectStatement → Storage → Evaluation Storage
 inspect_by_spans items one storage =
     place_of items one.subject storage >>= (λ subject.
-    take_each items 0 (takings items one) storage >>= (λ taken.
-    inspect_at (with_lengths taken.lengths (inspection items one)) taken.texts taken.counters subject storage))
+    take_each items (takings items one) storage >>= (λ taken.
+    inspect_at (inspection items one) taken.texts taken.counters subject storage))

@@ -103,11 +103,19 @@ may_replace size Unknown = false
 abbrev pub by_rules : List LocatedItem → TextSize → Operand → List RuleBreach
 by_rules items size by = inspected_rules items by ++ where_so (not (may_replace size (replacing_size items by))) 64 (operand_place by)
 
+abbrev pub is_unknown : TextSize → Bool
+is_unknown Unknown = true
+is_unknown size = false
+
+-- A text that is counted or replaced, or that limits. Its size is known before the run.
+abbrev pub known_text_rules : List LocatedItem → Operand → List RuleBreach
+known_text_rules items one = inspected_rules items one ++ where_so (is_unknown (size_of items one)) 64 (operand_place one)
+
 -- ---- entries, in the order of writing
 
 abbrev pub limit_rules : List LocatedItem → Option Operand → List RuleBreach
 limit_rules items None = []
-limit_rules items (Some one) = inspected_rules items one
+limit_rules items (Some one) = known_text_rules items one
 
 -- first one limit, then the other
 abbrev pub two_limits : List LocatedItem → Option Operand → Option Operand → List RuleBreach
@@ -121,7 +129,7 @@ abbrev pub limits_rules : List LocatedItem → Limits → List RuleBreach
 limits_rules items one = ordered_limits items one.before one.after one.after_first
 
 abbrev pub tallied_text_rules : List LocatedItem → TalliedText → List RuleBreach
-tallied_text_rules items one = inspected_rules items one.text ++ limits_rules items one.limits
+tallied_text_rules items one = known_text_rules items one.text ++ limits_rules items one.limits
 
 abbrev pub tallied_rules : List LocatedItem → Tallied → List RuleBreach
 tallied_rules items (tallied.Characters limits) = limits_rules items limits
@@ -131,7 +139,7 @@ abbrev pub tallying_rules : List LocatedItem → Tallying → List RuleBreach
 tallying_rules items one = reference_rules items counter_item one.counter ++ each (tallied_rules items) one.tallied
 
 abbrev pub replaced_text_rules : List LocatedItem → ReplacedText → List RuleBreach
-replaced_text_rules items one = inspected_rules items one.text ++ by_rules items (size_of items one.text) one.by ++ limits_rules items one.limits
+replaced_text_rules items one = known_text_rules items one.text ++ by_rules items (size_of items one.text) one.by ++ limits_rules items one.limits
 
 abbrev pub replacing_rules : List LocatedItem → Replacing → List RuleBreach
 replacing_rules items (replacing.Characters by limits) = by_rules items (Exactly 1) by ++ limits_rules items limits

@@ -31,7 +31,6 @@ pub mod Until
 pub mod Showing
 pub mod InspectWalk
 pub mod Inspecting
-pub mod MeasuredTexts
 pub mod InspectLayout
 pub mod Texts
 pub mod Accepting

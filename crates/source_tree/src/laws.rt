@@ -21,13 +21,10 @@ ghost use Rattle.source_tree.specs.declared.statement.Statement.{Statement};
 ghost use Rattle.source_tree.specs.ConditionRules.{is_literal_alone};
 ghost use Rattle.source_tree.specs.Conditions.{without_value, alone_side, holds};
 ghost use Rattle.source_tree.specs.Evaluate.{Value, take_resolved};
-ghost use Rattle.source_tree.specs.Converting.{convert, convert_by_spans, convert_rules};
+ghost use Rattle.source_tree.specs.Converting.{as_replacing, convert, convert_by_spans, convert_rules};
 ghost use Rattle.source_tree.specs.Filing.{read_verb, start_verb};
 ghost use Rattle.source_tree.specs.Given.{RunInput, with_budget};
-ghost use Rattle.source_tree.specs.InspectLayout.{inspect_by_spans};
-ghost use Rattle.source_tree.specs.MeasuredTexts.{length_at, measured_entry};
-ghost use Rattle.text_ops.specs.Entries.{IsEntry};
-ghost use Rattle.text_ops.specs.declared.entry.Entry.{Entry};
+ghost use Rattle.source_tree.specs.InspectLayout.{takings, HasKnownTexts, HasNoPart, inspect_by_spans};
 ghost use Rattle.source_tree.specs.InspectRules.{inspect_rules};
 ghost use Rattle.source_tree.specs.Inspecting.{inspect};
 ghost use Rattle.source_tree.specs.Integers.{number_of};
@@ -120,30 +117,25 @@ pub fn turns_law()
         ≡ turns line (number_of count) (in_turn (exec around depth) statements) s }
 {}
 
-/// Where INSPECT keeps its rules and each item has a byte or more, it does what entries do that are spans of all its texts joined,
-/// whatever is in storage.
+/// Where INSPECT keeps its rules, each item has a byte or more, and the size of each text is known before a run, it does what
+/// entries do that are spans of all its texts joined, whatever is in storage. Texts without parts have known sizes.
 pub fn inspect_law()
-    ensures { (items : List LocatedItem)
-        → ((n : ℕ) (item : LocatedItem) → slice_get items n ≡ Some item → 1 ≤ item.item.length)
-        → (one : InspectStatement) (storage : Storage) → inspect_rules items one ≡ []
-        → inspect items one storage ≡ inspect_by_spans items one storage }
+    ensures spans { (items : List LocatedItem)
+        → ((n : ℕ) (item : LocatedItem) → slice_get items n ≡ Some item → 1 ≤ item.item.length) →
+        (one : InspectStatement) (storage : Storage) → inspect_rules items one ≡ []
+        → HasKnownTexts items one → inspect items one storage ≡ inspect_by_spans items one storage }
+    ensures known { (items : List LocatedItem) (one : InspectStatement)
+        → AllByRecursion HasNoPart (takings items one) → HasKnownTexts items one }
 {}
 
-/// Where CONVERTING keeps its rules and each item has a byte or more, it does what an entry does that has spans of its texts joined,
-/// whatever is in storage.
+/// Where CONVERTING keeps its rules, each item has a byte or more, and the size of each text is known before a run, it does what
+/// an entry does that has spans of its texts joined, whatever is in storage.
 pub fn converting_law()
-    ensures { (items : List LocatedItem)
+    ensures spans { (items : List LocatedItem)
         → ((n : ℕ) (item : LocatedItem) → slice_get items n ≡ Some item → 1 ≤ item.item.length)
         → (one : Converting) (storage : Storage) → convert_rules items one ≡ []
+        → HasKnownTexts items (as_replacing one)
         → convert items one storage ≡ convert_by_spans items one storage }
-{}
-
-/// With lengths that are found in the run an entry of INSPECT has its texts within the same bytes, and what replaces has the size of
-/// what it replaces. Without such lengths it is as it was.
-pub fn measured_entry_law()
-    ensures within { (lengths : ℕ → Option ℕ) (size : ℕ) (one : Entry)
-        → IsEntry size one → IsEntry size (measured_entry lengths one) }
-    ensures without { (one : Entry) → measured_entry (length_at []) one ≡ one }
 {}
 
 /// A reference without a part is what its item is: it means the same item, at the same place, with the same rules of its

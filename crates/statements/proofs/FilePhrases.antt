@@ -19,7 +19,7 @@ use Rattle.grammar.specs.Reading.{Parser, after_word}
 use Rattle.grammar.specs.Phrases as grammar
 use Rattle.grammar.specs.Phrases.{phrase_words, negated_phrase_words, two_sided, two_sided_reader}
 use Rattle.grammar.proofs.Outcomes.{Reached, step, unstep, value, after, last}
-use Rattle.grammar.proofs.Looking.{some_is, word_stands, word_begins, begins_no_other}
+use Rattle.grammar.proofs.Looking.{some_is, word_stands, word_begins, begins_no_other, true_not_false}
 use Rattle.grammar.proofs.Lists.{Sound, Complete, Shrinks}
 use Rattle.grammar.proofs.Phrases.{two_sided_shrinks, two_sided_sound, two_sided_complete}
 use Rattle.statements.specs.FilePhrases as g

@@ -20,7 +20,7 @@ use Rattle.statements.specs.Display.{display}
 use Rattle.statements.specs.Exiting.{exit_statement}
 use Rattle.statements.specs.Filing.{file_statement}
 use Rattle.statements.specs.Initializing.{initialize_statement}
-use Rattle.statements.specs.Inspecting.{inspect_statement, convert_statement}
+use Rattle.statements.specs.Inspecting.{inspect_statement}
 use Rattle.statements.specs.Moving.{move_statement}
 use Rattle.statements.specs.Performing.{perform_statement}
 use Rattle.statements.specs.Setting.{set_statement}

@@ -6,8 +6,8 @@ use records::{Organization, StoreFault};
 use station::{Device, MemoryStation};
 use std::alloc::Global;
 use std::process::Abort;
-use volume_commands::{FileDump, VolumeError, dump_volume, list_volume};
-use volume_copies::{Copied, CopyError, VolumeCopy, copy_volume};
+use volume_commands::list_volume;
+use volume_copies::{CopyError, VolumeCopy, copy_volume};
 
 const LISTING: &[u8] =
     b"BOXES relative 1 2\nEMPTY sequential 9 0\nKEYS indexed 2 3\nLOG sequential 1 3\n";
@@ -29,39 +29,11 @@ fn copy(
     rt: &impl Abort,
     alloc: Global,
     old: &mut MemoryStation,
-    new: MemoryStation,
-) -> Copied<MemoryStation, CopyError> {
+    new: &mut MemoryStation,
+) -> Result<VolumeCopy, CopyError> {
     assert!(rt; 1024 <= new.count());
     assert!(rt; new.count() <= 921_600);
     copy_volume(alloc, old, new, &mut Unseen)
-}
-
-/// The new device of a copy that is done.
-fn done(
-    rt: &impl Abort,
-    alloc: Global,
-    old: &mut MemoryStation,
-    new: MemoryStation,
-) -> MemoryStation {
-    let Copied { device, copy } = copy(rt, alloc, old, new);
-    holds(rt, copy == Ok(VolumeCopy::Done));
-    device
-}
-
-fn volume_of_keys(rt: &impl Abort, alloc: Global) -> MemoryStation {
-    let mut station = new_volume(rt, alloc);
-    let keys = indexed(rt, alloc, b"KEYS", 2);
-    add_file(rt, alloc, &mut station, &keys, &[b"C3", b"A1"]);
-    station
-}
-
-/// A station is no volume, or it holds the copied file.
-fn is_none_or_copy(rt: &impl Abort, alloc: Global, station: &mut MemoryStation) {
-    let mut out = Vec::new(alloc);
-    match dump_volume(alloc, station, b"KEYS", &mut out) {
-        Ok(FileDump::Written) => same(rt, out.as_slice(), b"A1\nC3\n"),
-        answer => holds(rt, answer == Err(VolumeError::Damaged)),
-    }
 }
 
 fn holds_four(rt: &impl Abort, alloc: Global, station: &mut MemoryStation) {
@@ -87,8 +59,12 @@ fn holds_four(rt: &impl Abort, alloc: Global, station: &mut MemoryStation) {
 
 fn copy_lasts(rt: &impl Abort, alloc: Global, choices: &[u32]) {
     let mut old = volume_of_four(rt, alloc);
+    let mut new = blank_station(rt, alloc);
     let writes = old.writes();
-    let mut new = done(rt, alloc, &mut old, blank_station(rt, alloc));
+    holds(
+        rt,
+        copy(rt, alloc, &mut old, &mut new) == Ok(VolumeCopy::Done),
+    );
     new.crash(choices);
     holds_four(rt, alloc, &mut new);
     same(rt, old.writes(), writes);
@@ -105,69 +81,56 @@ fn copies_that_are_done(rt: HostRuntime) {
 #[test]
 fn volumes_without_files(rt: HostRuntime) {
     let alloc = rt.alloc();
-    let mut old = new_volume(&rt, alloc);
-    let mut new = done(&rt, alloc, &mut old, blank_station(&rt, alloc));
+    let mut new = blank_station(&rt, alloc);
+    holds(
+        &rt,
+        copy(&rt, alloc, &mut new_volume(&rt, alloc), &mut new) == Ok(VolumeCopy::Done),
+    );
     let mut listing = Vec::new(alloc);
     holds(&rt, list_volume(alloc, &mut new, &mut listing).is_ok());
     same(&rt, listing.len(), 0);
     let error = CopyError::Old(StoreFault::Damaged);
-    let copied = copy(&rt, alloc, &mut blank_station(&rt, alloc), new);
-    holds(&rt, copied.copy == Err(error));
+    holds(
+        &rt,
+        copy(&rt, alloc, &mut blank_station(&rt, alloc), &mut new) == Err(error),
+    );
 }
 
-// No failure of the new device is passed over: each of its calls is needed. None leaves some of the
-// rows.
+// No failure of the new device is passed over: each of its calls is needed.
 #[test]
 fn new_devices_that_fail(rt: HostRuntime) {
     let alloc = rt.alloc();
-    let mut old = volume_of_keys(&rt, alloc);
+    let mut old = new_volume(&rt, alloc);
+    add_file(
+        &rt,
+        alloc,
+        &mut old,
+        &indexed(&rt, alloc, b"KEYS", 2),
+        &[b"C3", b"A1"],
+    );
     let mut new = blank_station(&rt, alloc);
     let mut failed = 0u64;
     for call in 1..200 {
         new.fail_at(call);
-        let Copied { device, copy } = copy(&rt, alloc, &mut old, new);
-        new = device;
-        if copy == Ok(VolumeCopy::Done) {
+        let answer = copy(&rt, alloc, &mut old, &mut new);
+        if answer == Ok(VolumeCopy::Done) {
             break;
         }
         same_in(
             &rt,
             &call,
-            copy == Err(CopyError::New(StoreFault::Device)),
+            answer == Err(CopyError::New(StoreFault::Device)),
             true,
         );
-        new.crash(&[1, 0, 1, 0, 1, 0]); // It doesn't fail from now on.
-        is_none_or_copy(&rt, alloc, &mut new);
         failed = call;
     }
-    new.crash(&[]);
+    new.crash(&[]); // It doesn't fail from now on.
     holds(&rt, 20 < failed && failed < 199);
     same(
         &rt,
         dump_of(&rt, alloc, &mut new, b"KEYS").as_slice(),
         b"A1\nC3\n",
     );
-}
-
-// A stop at each call of the new device leaves no volume, or the whole copy.
-#[test]
-fn new_devices_that_stop(rt: HostRuntime) {
-    let alloc = rt.alloc();
-    let mut old = volume_of_keys(&rt, alloc);
-    let mut new = blank_station(&rt, alloc);
-    let mut stopped = 0u64;
-    for call in 1..200 {
-        new.stop_at(call);
-        let Copied { device, copy } = copy(&rt, alloc, &mut old, new);
-        new = device;
-        if copy == Ok(VolumeCopy::Done) {
-            break;
-        }
-        new.crash(&[0, 1, 0, 1, 1, 1]); // It works again.
-        is_none_or_copy(&rt, alloc, &mut new);
-        stopped = call;
-    }
-    holds(&rt, 20 < stopped && stopped < 199);
 }
 
 // The sync and the reads of the roots are the first three calls on the old device.
@@ -177,11 +140,11 @@ fn old_devices_that_fail(rt: HostRuntime) {
     for call in 1..=3 {
         let mut old = volume_of_four(&rt, alloc);
         old.fail_at(call);
-        let copied = copy(&rt, alloc, &mut old, blank_station(&rt, alloc));
+        let answer = copy(&rt, alloc, &mut old, &mut blank_station(&rt, alloc));
         same_in(
             &rt,
             &call,
-            copied.copy == Err(CopyError::Old(StoreFault::Device)),
+            answer == Err(CopyError::Old(StoreFault::Device)),
             true,
         );
     }

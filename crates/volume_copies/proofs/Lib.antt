@@ -10,4 +10,3 @@ pub mod LinesAdded
 pub mod LoadsOfVolumes
 pub mod Unloads
 pub mod LoadedAgain
-pub mod Publishing

@@ -1,22 +1,15 @@
 -- What `copy` leaves, and what its refusal says.
-use Rattle.std.specs.Prelude.{◌≡◌, ◌≢◌, ◌⊎◌, ◌↔◌, ℕ, List, Result, Ok, Err, ⊤}
-use Rattle.station.specs.Disk.{Disk, Sector, IsCrashImage}
+use Rattle.std.specs.Prelude.{◌≡◌, ◌⊎◌, ◌↔◌, ℕ, List, ⊤}
+use Rattle.station.specs.Disk.{Sector}
 use Rattle.station.specs.Failures.{Blames}
 use Rattle.station.specs.History.{Through, EachImage}
 use Rattle.station.specs.Opening.{IsOpening}
 use Rattle.station.specs.State.{State, state_after_sync}
 use Rattle.station.specs.declared.device.Device.{Ghosts as Devices}
-use Rattle.roots.specs.declared.pair.RootsFault.TheVariants as roots
-use Rattle.roots.specs.Reading.{roots_in}
-use Rattle.pages.specs.Layout.{known_marks as tree_marks}
-use Rattle.half_store.specs.Half.{known_marks as half_marks}
-use Rattle.records.specs.declared.fault.StoreFault.TheVariants.{Device}
 use Rattle.records.specs.Files.{Files}
 use Rattle.records.specs.Faults.{number_of as fault_number}
-use Rattle.file_recovery.specs.Recovered.{HoldsFiles, HoldsNone, IsRecoveryRefusal, IsReadCause}
+use Rattle.file_recovery.specs.Recovered.{HoldsFiles, IsRecoveryRefusal, IsReadCause}
 use Rattle.volume_copies.specs.Same.{AreSameFiles}
-use Rattle.volume_copies.specs.declared.copied.VolumeCopy.{VolumeCopy}
-use Rattle.volume_copies.specs.declared.copied.VolumeCopy.TheVariants.{Done, Different}
 use Rattle.volume_copies.specs.declared.copy_error.CopyError.{CopyError}
 use Rattle.volume_copies.specs.declared.copy_error.CopyError.TheVariants.{Old, New}
 
@@ -33,40 +26,6 @@ pub record IsReadBack (files : Files) (new : State) : Type 0 where
   pub copies : Files
   pub durable : EachImage (λ image. HoldsFiles image copies) new
   pub same : AreSameFiles files copies
-
--- An image holds the same files as these.
-pub record HoldsSame (files : Files) (image : List Sector) : Type 0 where
-  pub copies : Files
-  pub holds : HoldsFiles image copies
-  pub same : AreSameFiles files copies
-
--- An image holds the same files as another one.
-pub record HoldsCopy (old image : List Sector) : Type 0 where
-  pub files : Files
-  pub holds : HoldsFiles old files
-  pub copy : HoldsSame files image
-
--- An image is no volume: neither a reader of trees nor one of halves finds a root, and it holds no files.
-pub record IsNoVolume (image : List Sector) : Type 0 where
-  pub trees : roots_in tree_marks 1 image ≡ Err roots.Damaged
-  pub halves : roots_in half_marks 1 image ≡ Err roots.Damaged
-  pub files : HoldsNone image
-
--- While these files are copied to a device, a crash leaves what was possible before, no volume, or the same files.
-abbrev pub IsWhileMade : Files → Disk → List Sector → Type 0
-IsWhileMade files before image = IsCrashImage before image ⊎ (IsNoVolume image ⊎ HoldsSame files image)
-
--- While a volume is copied to a new device, a crash leaves of it what was possible before, no volume, or the same
--- files.
-abbrev pub IsWhileCopied : State → State → List Sector → Type 0
-IsWhileCopied old new image = IsCrashImage new.disk image ⊎ (IsNoVolume image ⊎ HoldsCopy old.disk.present image)
-
--- The new device was written and is no volume: the files differ, or it was refused for another reason than its failure.
-abbrev pub IsAbandoned : Result VolumeCopy CopyError → Type 0
-IsAbandoned (Ok Done) = ⊥
-IsAbandoned (Ok Different) = ⊤
-IsAbandoned (Err (Old fault)) = ⊥
-IsAbandoned (Err (New fault)) = fault ≢ Device
 
 -- whatever a crash leaves is a volume: it holds these files
 pub record IsVolume (new : State) : Type 0 where

@@ -1,8 +1,6 @@
 pub mod Same
 pub mod Ascents
 pub mod Copied
-pub mod Made
-pub mod Blamed
 pub mod Lines
 pub mod Record
 pub mod LineErrors

@@ -5,7 +5,6 @@
 //! holds the lines so far.
 #![tactic(auto)]
 
-mod copied;
 mod copy_command;
 mod copy_error;
 mod file_writes;
@@ -16,15 +15,13 @@ mod lines;
 mod load_command;
 mod load_end;
 mod loading;
-mod new_volume;
 mod progress;
 mod rewriting;
 mod same_files;
 mod same_order;
 mod write_order;
 
-pub use copied::{Copied, VolumeCopy};
-pub use copy_command::copy_volume;
+pub use copy_command::{VolumeCopy, copy_volume};
 pub use copy_error::CopyError;
 pub use laws::{unloaded_lines_spell_records, unloaded_rows_come_back};
 pub use load_command::load_volume;

@@ -1,4 +1,4 @@
-      * A part whose size is not known before the run replaces a text.
+      * A part whose size is not known before the run as a text of INSPECT.
        IDENTIFICATION DIVISION.
        PROGRAM-ID. LEFT-OUT.
        DATA DIVISION.
@@ -8,7 +8,7 @@
        01  X PIC X(8) VALUE "ABCDEFGH".
        PROCEDURE DIVISION.
        MAIN-PARAGRAPH.
-           INSPECT X REPLACING ALL X (1:M) BY X (2:M).
+           INSPECT X TALLYING N FOR ALL X (1:M).
            STOP RUN.
        OTHER-PARAGRAPH.
-           DISPLAY X.
+           DISPLAY N.

@@ -1,11 +1,13 @@
 -- INSPECT: what is read is spelled, and what is spelled is read.
-use Rattle.std.proofs.Common.{◌≡◌, ◌<◌, ◌≤◌, ℕ, Bool, true, false, if◌then◌else◌, List, [], ◌∷◌, length, Some}
-use Rattle.std.proofs.Common.{Ok, refl, ap, ◌∙◌, subst, arith}
+use Rattle.std.proofs.Common.{◌≡◌, ◌<◌, ◌≤◌, ℕ, Bool, true, false, if◌then◌else◌, List, [], ◌∷◌, length, Option, Some}
+use Rattle.std.proofs.Common.{None, Ok, refl, ap, ◌∙◌, subst, arith}
 use Rattle.std.specs.Prelude.{◌||◌, is_some}
 use Rattle.tokens.specs.declared.reserved.Reserved.TheVariants as w
 use Rattle.tokens.specs.declared.token.Token.{Token}
 use Rattle.tokens.specs.Reserved.{same_word}
+use Rattle.source_tree.specs.declared.inspect_statement.Occurrences.{Occurrences}
 use Rattle.source_tree.specs.declared.inspect_statement.TalliedText.{TalliedText}
+use Rattle.source_tree.specs.declared.inspect_statement.Tallied.{Tallied}
 use Rattle.source_tree.specs.declared.inspect_statement.Tallied.TheVariants as tallied_as
 use Rattle.source_tree.specs.declared.inspect_statement.Tallying.{Tallying}
 use Rattle.source_tree.specs.declared.inspect_statement.ReplacedText.{ReplacedText}
@@ -24,7 +26,7 @@ use Rattle.grammar.specs.Parts.{Part, is_told, token_with, begins_telling, looka
 use Rattle.grammar.specs.Reading as read
 use Rattle.grammar.specs.Reading.{begins_word, refuse, one_token}
 use Rattle.grammar.proofs.Outcomes.{Answers, Reached, step, unstep, value, after, last}
-use Rattle.grammar.proofs.Looking.{Tests, tests_tested, tests_words, tests_but, true_not_false, word_begins}
+use Rattle.grammar.proofs.Looking.{Tests, finds_word, tests_tested, tests_words, tests_but, true_not_false, word_begins}
 use Rattle.grammar.proofs.Looking.{begins_no_other}
 use Rattle.grammar.proofs.Lists as lists
 use Rattle.grammar.proofs.Lists.{Sound, Complete, Shrinks, Starts}
@@ -549,18 +551,18 @@ subject_sound : (depth : ℕ) (p : Statement → Part) (subject : Reference) (on
     (i i1 i2 rest : List Token) → word w.Inspect i i1 → reference subject i1 i2
     → inspected_of subject i2 ≡ Ok (one, rest) → g.verb_line depth p (verb.TextStatement one) i rest
 unfolding inspected_of convert_of phrases_of
-subject_sound depth p subject one i i1 i2 rest begun there e = go (begins_word w.Converting i2) e
+subject_sound depth p subject one i i1 i2 rest verb there e = go (begins_word w.Converting i2) e
   where
     go : (b : Bool) → (if b then convert_of subject i2 else phrases_of subject i2) ≡ Ok (one, rest)
         → g.verb_line depth p (verb.TextStatement one) i rest
     go true e =
         unstep (converted_texts_reader i2) _ e (λ texts i3 is3 e3.
         subst (λ y. g.verb_line depth p (verb.TextStatement y) i rest) (value e3)
-        (i1, begun, (i2, there, converted_sound texts i2 rest (last is3 e3))))
+        (i1, verb, (i2, there, converted_sound texts i2 rest (last is3 e3))))
     go false e =
         unstep (phrases_reader i2) _ e (λ phrases i3 is3 e3.
         subst (λ y. g.verb_line depth p (verb.TextStatement y) i rest) (value e3)
-        (i1, begun, (i2, there, phrases_sound phrases i2 rest (last is3 e3))))
+        (i1, verb, (i2, there, phrases_sound phrases i2 rest (last is3 e3))))
 
 pub inspecting_sound : (depth : ℕ) (p : Statement → Part) → Sound (g.verb_line depth p) inspect_reader
 unfolding inspect_reader

@@ -13,7 +13,7 @@ use Rattle.grammar.specs.Parts.{word}
 use Rattle.grammar.specs.Reading as read
 use Rattle.grammar.specs.Reading.{after_word, begins_word, refuse}
 use Rattle.grammar.proofs.Outcomes.{Answers, Reached, step, unstep, value, after, last}
-use Rattle.grammar.proofs.Looking.{is_absent, is_missing, finds_word, true_not_false, word_begins}
+use Rattle.grammar.proofs.Looking.{Finds, is_absent, is_missing, finds_word, true_not_false, word_begins}
 use Rattle.grammar.proofs.Looking.{begins_no_other}
 use Rattle.grammar.proofs.Lists.{Sound, Complete, Shrinks, Starts}
 use Rattle.grammar.proofs.Parts.{word_shrinks, skip_sound, skip_complete, skip_shrinks}

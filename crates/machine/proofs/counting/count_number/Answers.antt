@@ -32,7 +32,7 @@ returns-in-Ok-clause-stands c =
       places = refl;
       sender = refl;
       line = refl;
-      inspecting = record { entries = refl; progress = refl; counts = refl; text = refl };
+      inspecting = record { progress = refl; counts = refl; text = refl };
       taken = λ holds. holds;
     } in
     stands_after_number c.args.code.now r c.args.address c.requires.stands c.args.counter c.requires.here

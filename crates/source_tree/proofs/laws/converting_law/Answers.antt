@@ -2,4 +2,4 @@ use Rattle.source_tree.proofs.InspectConverting.{converted_alike}
 use Rattle.source_tree.proofs.laws.converting_law.Goals as goal
 
 pub returns : goal.returns
-returns c = converted_alike
+returns c = record { spans = converted_alike }

@@ -1,5 +1,5 @@
-use Rattle.source_tree.proofs.InspectKept.{inspected_alike}
+use Rattle.source_tree.proofs.InspectKept.{inspected_alike, without_parts}
 use Rattle.source_tree.proofs.laws.inspect_law.Goals as goal
 
 pub returns : goal.returns
-returns c = inspected_alike
+returns c = record { spans = inspected_alike; known = without_parts }

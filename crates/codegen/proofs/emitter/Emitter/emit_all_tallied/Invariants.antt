@@ -8,4 +8,5 @@ use Rattle.codegen.proofs.emitter.Emitter.emit_all_tallied.Given as goal
 abbrev pub invariant-loop-one : goal.invariant-loop-one
 invariant-loop-one l =
     let items = items_in l.self.declarations.now in
-    Puts items (all_inspected tallied_entries (take l.one-index l.all)) l.initial.code l.code l.initial.made l.made
+    Puts items (all_inspected tallied_entries (take l.one-index l.all)) l.initial.code l.code l.initial.made.size
+    l.initial.made.entries l.made.size l.made.entries

@@ -1,6 +1,6 @@
 use Rattle.source_tree.specs.InspectRules.{inspected_item}
 use Rattle.declarations.specs.Named.{items_in}
-use Rattle.codegen.proofs.InspectMaking.{bytes_taken}
+use Rattle.codegen.proofs.InspectMaking.{bytes_made}
 use Rattle.codegen.proofs.Kept.{item_kept}
 use Rattle.codegen.proofs.emitter.Emitter.emit_bytes.Goals as goal
 
@@ -10,8 +10,6 @@ emit_taking-requires-clause-rules c =
 
 pub returns : goal.returns
 returns c =
-    bytes_taken (items_in c.args.self.now.declarations.now) c.with.result c.args.one.now c.args.code.now
-    c.emit_taking.new.code c.args.line.now c.with.new.self c.length_shown.result c.is_measured-measured.result
-    c.gather.result
-    c.requires.rules c.in_ok-emit_taking.ensures c.gather.ensures c.is_measured-measured.ensures c.length_shown.ensures
-    c.with.ensures.line c.with.ensures.span
+    bytes_made (items_in c.args.self.now.declarations.now) c.args.one.now c.args.code.now c.emit_taking.new.code
+    c.args.at c.length_shown.result c.requires.rules c.in_ok-emit_taking.ensures
+    c.length_shown.ensures

@@ -1,8 +1,6 @@
-use Rattle.std.proofs.Common.{refl}
 use Rattle.declarations.specs.Named.{items_in}
 use Rattle.source_tree.specs.InspectRules.{inspected_item, replaced_text_rules}
 use Rattle.source_tree.specs.NameRules.{reference_rules}
-use Rattle.codegen.specs.declared.inspect_statement.Entries.{Entries}
 use Rattle.codegen.proofs.Codes.{left_none, right_none}
 use Rattle.codegen.proofs.Kept.{item_kept}
 use Rattle.codegen.proofs.InspectMaking.{convert_made}
@@ -29,8 +27,7 @@ returns c =
     let a = c.emit_reference.new.code in
     let d = c.emit_replaced_text.new.code in
     let made = c.emit_replaced_text.new.made in
-    let begins : Entries = record { line = record { size = 0; measured = 0 }; entries = c.new.result } in
     on_ok c.emit_conversion.result c.emit_conversion.ensures
-    (λ e. convert_made items c.args.one.now c.args.code.now a d c.emit_conversion.new.code c.new-2.result c.new-3.result
-    begins made c.in_ok-emit_reference.ensures c.new-2.ensures c.new-3.ensures refl c.new.ensures
-    c.in_ok-emit_replaced_text.ensures e)
+    (λ e. convert_made items c.args.one.now c.args.code.now a d c.emit_conversion.new.code made.size c.new-2.result
+    c.new-3.result c.new.result made.entries c.in_ok-emit_reference.ensures c.new-2.ensures c.new-3.ensures
+    c.new.ensures c.in_ok-emit_replaced_text.ensures e)

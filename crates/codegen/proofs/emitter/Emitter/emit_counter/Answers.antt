@@ -31,12 +31,12 @@ returns c =
     let b = c.emit_all_tallied.new.code in
     let old = c.args.made.now in
     let new = c.emit_all_tallied.new.made in
-    let made = subst (λ l. Puts items (all_inspected tallied_entries l) a b old new)
+    let made = subst (λ l. Puts items (all_inspected tallied_entries l) a b old.size old.entries new.size new.entries)
     c.as_slice.ensures c.in_ok-emit_all_tallied.ensures in
-    let count = put_count items (counter_entries one) a b old new made in
+    let count = put_count items (counter_entries one) a b old.size new.size old.entries new.entries made in
     let number : c.in_ok-entry_number.field-0 ≡ length (counter_entries one) =
     omega (arith, c.in_ok-entry_number.ensures, c.len.ensures, c.len-before.ensures, count) in
     on_ok c.push.result c.push.ensures.ok
-    (λ e. counter_put items one c.args.code.now a b old new c.args.counters.now
+    (λ e. counter_put items one c.args.code.now a b old.size new.size old.entries new.entries c.args.counters.now
     c.push.new.self c.in_ok-emit_reference.ensures made
     (e ∙ ap (λ n. c.args.counters.now ++ n ∷ []) number))

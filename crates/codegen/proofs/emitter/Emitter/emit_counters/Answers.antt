@@ -12,14 +12,15 @@ emit_counter-requires-clause-rules c =
     c.one-item.result c.loop-one-test.true c.requires.rules
 
 pub loop-one-init : goal.loop-one-init
-loop-one-init c = counts_none (items_in c.args.self.now.declarations.now) c.args.code.now c.args.made.now
-    c.args.counters.now
+loop-one-init c = counts_none (items_in c.args.self.now.declarations.now) c.args.code.now c.args.made.now.size
+    c.args.made.now.entries c.args.counters.now
 
 pub loop-one-preserved : goal.loop-one-preserved
 loop-one-preserved c =
     counts_more (items_in c.args.self.now.declarations.now) c.args.all.now c.loop-one.one-index c.one-item.result
     c.loop-one-test.true c.one-item.is c.args.code.now c.loop-one.code
-    c.emit_counter.new.code c.args.made.now c.loop-one.made c.emit_counter.new.made
+    c.emit_counter.new.code c.args.made.now.size c.loop-one.made.size c.emit_counter.new.made.size
+    c.args.made.now.entries c.loop-one.made.entries c.emit_counter.new.made.entries
     c.args.counters.now c.loop-one.counters c.emit_counter.new.counters c.loop-one.invariant
     c.in_ok-emit_counter.ensures
 
@@ -27,4 +28,5 @@ pub returns : goal.returns
 returns c =
     let le : length c.args.all.now ≤ c.loop-one.one-index = omega arith in
     counts_all (items_in c.args.self.now.declarations.now) c.args.all.now c.loop-one.one-index c.args.code.now
-    c.loop-one.code c.args.made.now c.loop-one.made c.args.counters.now c.loop-one.counters le c.loop-one.invariant
+    c.loop-one.code c.args.made.now.size c.loop-one.made.size
+    c.args.made.now.entries c.loop-one.made.entries c.args.counters.now c.loop-one.counters le c.loop-one.invariant

@@ -6,5 +6,5 @@ use Rattle.codegen.proofs.emitter.Emitter.emit_counters.Given as goal
 -- the first counters are there
 abbrev pub invariant-loop-one : goal.invariant-loop-one
 invariant-loop-one l =
-    Counts (items_in l.self.declarations.now) (take l.one-index l.all) l.initial.code l.code l.initial.made
-    l.made l.initial.counters l.counters
+    Counts (items_in l.self.declarations.now) (take l.one-index l.all) l.initial.code l.code l.initial.made.size
+    l.initial.made.entries l.made.size l.made.entries l.initial.counters l.counters

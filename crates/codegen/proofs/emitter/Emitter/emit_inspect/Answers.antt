@@ -1,11 +1,10 @@
 use Rattle.declarations.specs.Named.{items_in}
-use Rattle.std.proofs.Common.{ap, refl, subst, ◌∙◌}
+use Rattle.std.proofs.Common.{ap, subst, ◌∙◌}
 use Rattle.source_tree.specs.InspectRules.{inspected_item, tallying_rules, replacing_rules}
 use Rattle.source_tree.specs.Broken.{each}
 use Rattle.codegen.proofs.InspectKept.{keeps_inspect}
 use Rattle.codegen.proofs.Kept.{item_kept}
 use Rattle.source_tree.specs.InspectLayout.{all_inspected, replacing_entries}
-use Rattle.codegen.specs.declared.inspect_statement.Entries.{Entries}
 use Rattle.codegen.specs.InspectCode.{Puts, Counts}
 use Rattle.codegen.proofs.InspectMaking.{inspect_made}
 use Rattle.codegen.proofs.Sequences.{on_ok}
@@ -36,13 +35,12 @@ returns c =
     let tallied = c.emit_counters.new.made in
     let replaced = c.emit_all_replaced.new.made in
     let counters = c.emit_counters.new.counters in
-    let begins : Entries = record { line = record { size = 0; measured = 0 }; entries = c.new.result } in
-    let goes_on : Entries = record { line = tallied.line; entries = c.new-2.result } in
-    let counts = subst (λ l. Counts items l a b begins tallied c.new-counters.result counters)
+    let counts =
+    subst (λ l. Counts items l a b 0 c.new.result tallied.size tallied.entries c.new-counters.result counters)
     c.as_slice.ensures c.in_ok-emit_counters.ensures in
-    let puts = subst (λ l. Puts items (all_inspected (replacing_entries items) l) b d goes_on replaced)
-    c.as_slice-2.ensures c.in_ok-emit_all_replaced.ensures in
+    let puts = subst (λ l. Puts items (all_inspected (replacing_entries items) l) b d tallied.size c.new-2.result
+    replaced.size replaced.entries) c.as_slice-2.ensures c.in_ok-emit_all_replaced.ensures in
     on_ok c.emit_inspection.result c.emit_inspection.ensures
-    (λ e. inspect_made items c.args.one.now c.args.code.now a b d c.emit_inspection.new.code
-    counters c.new-counters.result begins tallied goes_on replaced c.in_ok-emit_reference.ensures
-    c.new-counters.ensures refl c.new.ensures refl c.new-2.ensures counts puts e)
+    (λ e. inspect_made items c.args.one.now c.args.code.now a b d c.emit_inspection.new.code tallied.size replaced.size
+    counters c.new-counters.result c.new.result tallied.entries c.new-2.result replaced.entries
+    c.in_ok-emit_reference.ensures c.new-counters.ensures c.new.ensures c.new-2.ensures counts puts e)

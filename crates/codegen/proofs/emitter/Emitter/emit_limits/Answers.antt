@@ -25,12 +25,18 @@ emit_limit-requires-3-clause-rules c =
 
 pub returns : goal.returns
 returns c =
-    limits_straight (items_in c.args.self.now.declarations.now) c.args.one.now c.args.code.now c.emit_limit-2.new.code
-    c.emit_limit-3.new.code c.args.line.now c.emit_limit-2.new.line c.emit_limit-3.new.line
-    c.in_ok-before-2.before c.in_ok-after-2.after c.if-one.false c.in_ok-before-2.ensures c.in_ok-after-2.ensures
+    let items = items_in c.args.self.now.declarations.now in
+    let before = c.in_ok-before-2.before in
+    let after = c.in_ok-after-2.after in
+    limits_straight items c.args.one.now c.args.code.now c.emit_limit-2.new.code c.emit_limit-3.new.code c.args.at
+    before.end after.end before.span after.span
+    c.if-one.false c.in_ok-before-2.ensures c.in_ok-after-2.ensures
 
 pub returns-then-one : goal.returns-then-one
 returns-then-one c =
-    limits_turned (items_in c.args.self.now.declarations.now) c.args.one.now c.args.code.now c.emit_limit.new.code
-    c.emit_limit-then-one.new.code c.args.line.now c.emit_limit.new.line c.emit_limit-then-one.new.line
-    c.in_ok-before.before c.in_ok-after.after c.if-one.true c.in_ok-after.ensures c.in_ok-before.ensures
+    let items = items_in c.args.self.now.declarations.now in
+    let after = c.in_ok-after.after in
+    let before = c.in_ok-before.before in
+    limits_turned items c.args.one.now c.args.code.now c.emit_limit.new.code c.emit_limit-then-one.new.code c.args.at
+    after.end before.end before.span after.span
+    c.if-one.true c.in_ok-after.ensures c.in_ok-before.ensures

@@ -20,8 +20,7 @@ returns-then-is_none c =
     let old = c.args.code.now in
     let found = slice_get items (item_number items one.item) in
     let item : ℕ → ItemIndex = λ n. record { number = n } in
-    is_so c.emit_work.result c.emit_work.new.code
-    (append old (work_fragment (i.Place (item c.in_ok-number.number)) old))
+    is_so c.emit_work.result c.emit_work.new.code (append old (work_fragment (i.Place (item c.in_ok-number.number)) old))
     (append old (place_fragment items found one one.part old)) c.emit_work.ensures
     (ap (λ (n : ℕ). append old (work_fragment (i.Place (item n)) old)) (c.in_ok-number.ensures ∙ c.requires.number)
     ∙ ap (append old) (whole_place items one old found one.part (c.is_none.ensures ∙ ap not c.if-is_none.true)))

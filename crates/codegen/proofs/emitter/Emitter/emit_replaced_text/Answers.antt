@@ -1,6 +1,6 @@
 use Rattle.declarations.specs.Named.{items_in}
 use Rattle.std.proofs.Common.{◌++◌}
-use Rattle.source_tree.specs.InspectRules.{inspected_rules, by_rules, size_of, limits_rules}
+use Rattle.source_tree.specs.InspectRules.{inspected_rules, known_text_rules, by_rules, size_of, limits_rules}
 use Rattle.codegen.proofs.Kept.{front_kept, back_kept}
 use Rattle.codegen.proofs.InspectMaking.{replaced_put}
 use Rattle.codegen.proofs.Sequences.{on_ok}
@@ -10,15 +10,16 @@ pub emit_source-requires-clause-rules : goal.emit_source-requires-clause-rules
 emit_source-requires-clause-rules c =
     let items = items_in c.args.self.now.declarations.now in
     let one = c.args.one.now in
-    let text = inspected_rules items one.text in
+    let text = known_text_rules items one.text in
     let by = by_rules items (size_of items one.text) one.by in
-    front_kept text by (front_kept (text ++ by) (limits_rules items one.limits) c.requires.rules)
+    front_kept (inspected_rules items one.text) _ (front_kept text by
+    (front_kept (text ++ by) (limits_rules items one.limits) c.requires.rules))
 
 pub emit_by-requires-clause-rules : goal.emit_by-requires-clause-rules
 emit_by-requires-clause-rules c =
     let items = items_in c.args.self.now.declarations.now in
     let one = c.args.one.now in
-    let text = inspected_rules items one.text in
+    let text = known_text_rules items one.text in
     let by = by_rules items (size_of items one.text) one.by in
     front_kept (inspected_rules items one.by) _ (back_kept text by
     (front_kept (text ++ by) (limits_rules items one.limits) c.requires.rules))
@@ -27,15 +28,18 @@ pub emit_limits-requires-clause-rules : goal.emit_limits-requires-clause-rules
 emit_limits-requires-clause-rules c =
     let items = items_in c.args.self.now.declarations.now in
     let one = c.args.one.now in
-    back_kept (inspected_rules items one.text ++ by_rules items (size_of items one.text) one.by)
+    back_kept (known_text_rules items one.text ++ by_rules items (size_of items one.text) one.by)
     (limits_rules items one.limits) c.requires.rules
 
 pub returns : goal.returns
 returns c =
     let items = items_in c.args.self.now.declarations.now in
+    let text = c.in_ok-text.text in
+    let by = c.in_ok-by.by in
     let limits = c.in_ok-limits.limits in
     on_ok c.push.result c.push.ensures.ok
     (λ e. replaced_put items c.args.how c.args.one.now c.args.code.now c.emit_source.new.code c.emit_by.new.code
-    c.emit_limits.new.code c.args.made.now.line c.emit_source.new.line c.emit_by.new.line c.emit_limits.new.line
-    c.in_ok-text.text c.in_ok-by.by c.fit_of.result limits.before limits.after c.args.made.now.entries c.push.new.self
-    c.in_ok-text.ensures c.in_ok-by.ensures c.in_ok-limits.ensures c.fit_of.ensures e)
+    c.emit_limits.new.code c.args.made.now.size c.in_ok-behind.behind c.in_ok-end.end limits.end
+    text by c.fit_of.result limits.before limits.after c.args.made.now.entries c.push.new.self c.in_ok-text.ensures
+    c.in_ok-behind.ensures c.in_ok-by.ensures c.in_ok-end.ensures c.in_ok-limits.ensures
+    c.fit_of.ensures e)

@@ -17,16 +17,18 @@ loop-one-preserved c =
     let items = items_in c.args.self.now.declarations.now in
     puts_more items (λ one. replaced_text items c.args.how one ∷ []) c.args.all.now c.loop-one.one-index
     c.one-item.result c.loop-one-test.true c.one-item.is c.args.code.now c.loop-one.code c.emit_replaced_text.new.code
-    c.args.made.now c.loop-one.made
-    c.emit_replaced_text.new.made c.loop-one.invariant c.in_ok-emit_replaced_text.ensures
+    c.args.made.now.size c.loop-one.made.size c.emit_replaced_text.new.made.size c.args.made.now.entries
+    c.loop-one.made.entries c.emit_replaced_text.new.made.entries c.loop-one.invariant
+    c.in_ok-emit_replaced_text.ensures
 
 pub returns : goal.returns
 returns c =
     let items = items_in c.args.self.now.declarations.now in
     let le : length c.args.all.now ≤ c.loop-one.one-index = omega arith in
     puts_all items (λ one. replaced_text items c.args.how one ∷ []) c.args.all.now c.loop-one.one-index c.args.code.now
-    c.loop-one.code c.args.made.now c.loop-one.made le c.loop-one.invariant
+    c.loop-one.code c.args.made.now.size c.loop-one.made.size c.args.made.now.entries c.loop-one.made.entries le
+    c.loop-one.invariant
 
 pub loop-one-init : goal.loop-one-init
 loop-one-init c =
-    puts_none (items_in c.args.self.now.declarations.now) c.args.code.now c.args.made.now
+    puts_none (items_in c.args.self.now.declarations.now) c.args.code.now c.args.made.now.size c.args.made.now.entries

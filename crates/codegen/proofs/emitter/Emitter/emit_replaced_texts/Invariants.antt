@@ -9,4 +9,4 @@ abbrev pub invariant-loop-one : goal.invariant-loop-one
 invariant-loop-one l =
     let items = items_in l.self.declarations.now in
     Puts items (all_inspected (λ one. replaced_text items l.how one ∷ []) (take l.one-index l.all)) l.initial.code
-    l.code l.initial.made l.made
+    l.code l.initial.made.size l.initial.made.entries l.made.size l.made.entries

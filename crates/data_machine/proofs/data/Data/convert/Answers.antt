@@ -1,12 +1,11 @@
-use Rattle.std.proofs.Common.{◌<◌, sym, subst, length, List, ◌∙◌, ap}
+use Rattle.std.proofs.Common.{◌<◌, sym, subst, length, List}
 use Rattle.data_instructions.specs.declared.tables.Inspection.{Inspection}
 use Rattle.data_instructions.specs.Scratch.{step_at}
-use Rattle.data_instructions.specs.Table.{at_place, converted_at, measured_inspection}
+use Rattle.data_instructions.specs.Table.{at_place, converted_at}
 use Rattle.data_machine.specs.Data.{scratch_of}
 use Rattle.data_machine.specs.Comes.{IsStepOf}
 use Rattle.data_machine.proofs.Readies.{ready_convert, conversion_there}
 use Rattle.data_machine.proofs.Inspects.{entry_read}
-use Rattle.data_machine.proofs.TextLengths.{at_none, none_found}
 use Rattle.data_machine.proofs.data.Data.convert.Goals as goal
 
 pub bounds-as_slice-inspection : goal.bounds-as_slice-inspection
@@ -37,22 +36,11 @@ convert_by-requires-clause-line c =
     (ready_convert c.args.tables.now c.args.self.now c.args.inspection c.index-as_slice-inspection.result here
     c.requires).1
 
-pub convert_by-requires-clause-entries : goal.convert_by-requires-clause-entries
-convert_by-requires-clause-entries c =
-    let there = conversion_there c.args.tables.now c.args.self.now c.args.inspection c.requires in
-    let here = entry_read c.as_slice.result.now c.args.tables.now.inspections c.args.inspection.number
-    c.index-as_slice-inspection.result c.as_slice.ensures there c.index-as_slice-inspection.is in
-    c.requires.at.inspects.replaced c.args.inspection.number c.index-as_slice-inspection.result here
-
 pub returns-clause-does : goal.returns-clause-does
 returns-clause-does c =
     let there = conversion_there c.args.tables.now c.args.self.now c.args.inspection c.requires in
-    let one = c.index-as_slice-inspection.result in
     let here = entry_read c.as_slice.result.now c.args.tables.now.inspections c.args.inspection.number
-    one c.as_slice.ensures there c.index-as_slice-inspection.is in
-    let s = scratch_of c.args.self.now in
-    let same = at_none s (λ found. at_place c.args.tables.now (converted_at (measured_inspection found one)))
-    ∙ ap (λ (x : Inspection). at_place c.args.tables.now (converted_at x) s) (none_found one) in
+    c.index-as_slice-inspection.result c.as_slice.ensures there c.index-as_slice-inspection.is in
     subst (λ o. IsStepOf c.convert_by.result (scratch_of c.convert_by.new.self) (step_at o
-    (λ x. at_place c.args.tables.now (converted_at x) s))) (sym here)
-    (subst (IsStepOf c.convert_by.result (scratch_of c.convert_by.new.self)) same c.convert_by.ensures.does)
+    (λ one. at_place c.args.tables.now (converted_at one) (scratch_of c.args.self.now)))) (sym here)
+    c.convert_by.ensures.does

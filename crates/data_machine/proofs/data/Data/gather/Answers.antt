@@ -3,7 +3,7 @@ use Rattle.data_instructions.specs.declared.gather.Gather.{Gather}
 use Rattle.data_instructions.specs.declared.instruction.DataInstruction.TheVariants as i
 use Rattle.data_machine.specs.Ready.{IsReady}
 use Rattle.data_machine.proofs.Readies.{ready_gather_bytes, ready_gather_up_to_place, ready_gather_up_to_text}
-use Rattle.data_machine.proofs.Readies.{ready_gather_text, ready_gather_sized, ready_gather_measured}
+use Rattle.data_machine.proofs.Readies.{ready_gather_text, ready_gather_sized}
 use Rattle.data_machine.proofs.data.Data.gather.Goals as goal
 
 pub gather_bytes-requires-clause-operand : goal.gather_bytes-requires-clause-operand
@@ -70,15 +70,3 @@ gather_sized-requires-clause-operand c = (ready_gather_sized c.args.tables.now c
 pub gather_sized-requires-clause-room : goal.gather_sized-requires-clause-room
 gather_sized-requires-clause-room c = (ready_gather_sized c.args.tables.now c.args.self.now
     (subst (λ (one : Gather). IsReady c.args.tables.now c.args.self.now (i.Gather one)) c.in-Sized.is c.requires)).1
-
-pub gather_measured-requires-clause-operand : goal.gather_measured-requires-clause-operand
-gather_measured-requires-clause-operand c = (ready_gather_measured c.args.tables.now c.args.self.now
-    (subst (λ (one : Gather). IsReady c.args.tables.now c.args.self.now (i.Gather one)) c.in-Measured.is c.requires)).0
-
-pub gather_measured-requires-clause-line : goal.gather_measured-requires-clause-line
-gather_measured-requires-clause-line c = (ready_gather_measured c.args.tables.now c.args.self.now
-    (subst (λ (one : Gather). IsReady c.args.tables.now c.args.self.now (i.Gather one)) c.in-Measured.is c.requires)).1
-
-pub gather_measured-requires-clause-numbers : goal.gather_measured-requires-clause-numbers
-gather_measured-requires-clause-numbers c = (ready_gather_measured c.args.tables.now c.args.self.now
-    (subst (λ (one : Gather). IsReady c.args.tables.now c.args.self.now (i.Gather one)) c.in-Measured.is c.requires)).2

@@ -1,12 +1,11 @@
-use Rattle.std.proofs.Common.{◌<◌, sym, subst, length, List, ◌∙◌, ap}
+use Rattle.std.proofs.Common.{◌<◌, sym, subst, length, List}
 use Rattle.data_instructions.specs.declared.tables.Inspection.{Inspection}
 use Rattle.data_instructions.specs.Scratch.{step_at}
-use Rattle.data_instructions.specs.Table.{inspected_with, measured_inspection}
 use Rattle.data_machine.specs.Data.{scratch_of}
 use Rattle.data_machine.specs.Comes.{IsStepOf}
+use Rattle.data_machine.specs.Inspecting.{inspected_with}
 use Rattle.data_machine.proofs.Readies.{ready_inspect, inspection_there}
 use Rattle.data_machine.proofs.Inspects.{entry_read}
-use Rattle.data_machine.proofs.TextLengths.{at_none, none_found}
 use Rattle.data_machine.proofs.data.Data.inspect.Goals as goal
 
 pub bounds-as_slice-inspection : goal.bounds-as_slice-inspection
@@ -58,29 +57,10 @@ inspect_by-requires-clause-counts c =
     c.index-as_slice-inspection.result c.as_slice.ensures there c.index-as_slice-inspection.is in
     c.requires.at.inspects.counts c.args.inspection.number c.index-as_slice-inspection.result here
 
-pub inspect_by-requires-clause-tallied : goal.inspect_by-requires-clause-tallied
-inspect_by-requires-clause-tallied c =
-    let there = inspection_there c.args.tables.now c.args.self.now c.args.inspection c.requires in
-    let here = entry_read c.as_slice.result.now c.args.tables.now.inspections c.args.inspection.number
-    c.index-as_slice-inspection.result c.as_slice.ensures there c.index-as_slice-inspection.is in
-    c.requires.at.inspects.tallied c.args.inspection.number c.index-as_slice-inspection.result here
-
-pub inspect_by-requires-clause-replaced : goal.inspect_by-requires-clause-replaced
-inspect_by-requires-clause-replaced c =
-    let there = inspection_there c.args.tables.now c.args.self.now c.args.inspection c.requires in
-    let here = entry_read c.as_slice.result.now c.args.tables.now.inspections c.args.inspection.number
-    c.index-as_slice-inspection.result c.as_slice.ensures there c.index-as_slice-inspection.is in
-    c.requires.at.inspects.replaced c.args.inspection.number c.index-as_slice-inspection.result here
-
 pub returns-clause-does : goal.returns-clause-does
 returns-clause-does c =
     let there = inspection_there c.args.tables.now c.args.self.now c.args.inspection c.requires in
-    let one = c.index-as_slice-inspection.result in
     let here = entry_read c.as_slice.result.now c.args.tables.now.inspections c.args.inspection.number
-    one c.as_slice.ensures there c.index-as_slice-inspection.is in
-    let s = scratch_of c.args.self.now in
-    let same = at_none s (λ found. inspected_with c.args.tables.now (measured_inspection found one))
-    ∙ ap (λ (x : Inspection). inspected_with c.args.tables.now x s) (none_found one) in
+    c.index-as_slice-inspection.result c.as_slice.ensures there c.index-as_slice-inspection.is in
     subst (λ o. IsStepOf c.inspect_by.result (scratch_of c.inspect_by.new.self) (step_at o
-    (λ x. inspected_with c.args.tables.now x s))) (sym here)
-    (subst (IsStepOf c.inspect_by.result (scratch_of c.inspect_by.new.self)) same c.inspect_by.ensures.does)
+    (λ one. inspected_with c.args.tables.now one (scratch_of c.args.self.now)))) (sym here) c.inspect_by.ensures.does

@@ -4,21 +4,19 @@ use Rattle.std.proofs.lemmas.Option.{slice_get_read}
 use Rattle.items.specs.Texts.{padded_text}
 use Rattle.text_ops.specs.Inspect.{tally, replaced_subject}
 use Rattle.source_tree.specs.InspectLayout as layout
-use Rattle.source_tree.specs.Computed.{ArithmeticValue}
 use Rattle.source_tree.specs.References.{part_of}
 use Rattle.data_instructions.specs.declared.place.Place.{Place}
 use Rattle.data_instructions.specs.declared.tables.DataItem.{DataItem}
 use Rattle.data_instructions.specs.Scratch.{Scratch}
-use Rattle.data_instructions.specs.Table.{inspected_with, at_numbers, measured_inspection}
 use Rattle.data_instructions.specs.Tables.{shortened_item, item_place, IsEditing}
 use Rattle.data_machine.specs.Held.{StackView}
 use Rattle.data_machine.specs.Filled.{BufferView}
 use Rattle.data_machine.specs.Data.{scratch_of}
 use Rattle.data_machine.specs.Comes.{IsStepOf}
 use Rattle.data_machine.specs.Finds.{IsAtOffset}
-use Rattle.data_machine.specs.Inspecting.{there, added_and_stored, IsAddedStorage}
+use Rattle.data_machine.specs.Inspecting.{there, inspected_with, added_and_stored, IsAddedStorage}
 use Rattle.data_machine.proofs.Inspects.{index_within, stands_one, whole_one, enough_places, subject_stands}
-use Rattle.data_machine.proofs.Inspects.{counters_stand, inspect_measured_comes}
+use Rattle.data_machine.proofs.Inspects.{counters_stand, inspect_comes}
 use Rattle.data_machine.proofs.data.Data.inspect_by.Goals as goal
 
 pub below-subject-requires : goal.below-subject-requires
@@ -33,8 +31,8 @@ newest-places-requires c =
     c.args.self.now.places.newest_first c.requires.places in
     omega (arith, many, ap (λ (xs : List ℕ). length xs) c.as_slice-counters.ensures)
 
-pub leave-requires-2 : goal.leave-requires-2
-leave-requires-2 c =
+pub leave-requires : goal.leave-requires
+leave-requires c =
     let many = enough_places c.args.tables.now c.args.self.now.areas (length c.args.one.now.counters)
     c.args.self.now.places.newest_first c.requires.places in
     omega (arith, many, ap (λ (xs : List ℕ). length xs) c.as_slice-counters.ensures)
@@ -160,54 +158,35 @@ returns-clause-does c =
     c.seen-to.ensures ∙ ap (λ (d : DataItem). shortened_item to d.item.length) c.part_of-part.ensures in
     let texts_are : c.bytes.result.now ≡ padded_text one.size s.line =
     c.bytes.ensures ∙ ap (λ (f : BufferView). f.bytes) c.fit.ensures in
-    let found = c.newest-found.result.now in
-    let now = measured_inspection (reverse found) one in
     let counted : (k : ℕ) → k < length one.tallying
-    → slice_index c.as_slice-counts.result.now k ≡ tally (padded_text one.size s.line) now.tallying
+    → slice_index c.as_slice-counts.result.now k ≡ tally (padded_text one.size s.line) one.tallying
     (part_of s.storage (item_place (shortened_item to p.length) p.offset)) k =
     λ k h. ap (λ (xs : List ℕ). slice_index xs k) c.as_slice-counts.ensures.value ∙ c.inspect.ensures.counts k h
-    ∙ ap (λ (xs : List ℕ). tally xs now.tallying c.bytes-2.result.now k) texts_are
-    ∙ ap (λ (xs : List ℕ). tally (padded_text one.size s.line) now.tallying xs k) c.bytes-2.ensures.value
+    ∙ ap (λ (xs : List ℕ). tally xs one.tallying c.bytes-2.result.now k) texts_are
+    ∙ ap (λ (xs : List ℕ). tally (padded_text one.size s.line) one.tallying xs k) c.bytes-2.ensures.value
     ∙ ap (λ (o : DataItem).
-    tally (padded_text one.size s.line) now.tallying (part_of s.storage (item_place o p.offset)) k) seen_is in
-    let text_is : c.bytes-text.result.now ≡ replaced_subject (padded_text one.size s.line) now.replacing
+    tally (padded_text one.size s.line) one.tallying (part_of s.storage (item_place o p.offset)) k) seen_is in
+    let text_is : c.bytes-text.result.now ≡ replaced_subject (padded_text one.size s.line) one.replacing
     (part_of s.storage (item_place (shortened_item to p.length) p.offset)) =
     c.bytes-text.ensures ∙ c.inspect.ensures.text
-    ∙ ap (λ (xs : List ℕ). replaced_subject xs now.replacing c.bytes-2.result.now) texts_are
-    ∙ ap (λ (xs : List ℕ). replaced_subject (padded_text one.size s.line) now.replacing xs) c.bytes-2.ensures.value
+    ∙ ap (λ (xs : List ℕ). replaced_subject xs one.replacing c.bytes-2.result.now) texts_are
+    ∙ ap (λ (xs : List ℕ). replaced_subject (padded_text one.size s.line) one.replacing xs) c.bytes-2.ensures.value
     ∙ ap (λ (o : DataItem).
-    replaced_subject (padded_text one.size s.line) now.replacing (part_of s.storage (item_place o p.offset))) seen_is in
+    replaced_subject (padded_text one.size s.line) one.replacing (part_of s.storage (item_place o p.offset))) seen_is in
     let adds = subst (λ (o : DataItem). IsAddedStorage c.add_and_store-done.result c.add_and_store-done.new.areas
     (added_and_stored (map (there c.args.tables.now) c.newest-places.result.now)
     (layout.counted_fits (slice_index c.as_slice-counts.result.now) 0 one.counters) one.replacing
     (item_place o p.offset) c.bytes-text.result.now s.storage))
     seen_is c.add_and_store-done.ensures.adds in
-    let comes = inspect_measured_comes c.args.tables.now one c.args.numbers found c.newest-places.result.now p to s
-    c.as_slice-counts.result.now c.bytes-text.result.now c.add_and_store-done.result c.add_and_store-done.new.areas
-    c.newest-found.ensures.length c.requires.numbers c.newest-found.ensures.value
+    let comes = inspect_comes c.args.tables.now one c.newest-places.result.now p to s c.as_slice-counts.result.now
+    c.bytes-text.result.now c.add_and_store-done.result c.add_and_store-done.new.areas
     many order stand at here counted c.requires.form.counters text_is adds in
-    let left = ap (λ (h : StackView Place). h.newest_first) c.leave-2.ensures
+    let left = ap (λ (h : StackView Place). h.newest_first) c.leave.ensures
     ∙ ap (λ (xs : List ℕ). drop (length xs + 1) places) c.as_slice-counters.ensures in
-    let numbers = ap (λ (h : StackView ArithmeticValue). h.newest_first) c.leave.ensures in
-    let step = at_numbers c.args.numbers
-    (λ ns. inspected_with c.args.tables.now (measured_inspection ns one)) s in
-    let stored = c.add_and_store-done.new.areas in
-    subst (λ (ns : List ArithmeticValue). IsStepOf c.add_and_store-done.result (record s {
-      storage = stored;
-      line = c.clear.new.self.bytes;
-      places = c.leave-2.new.self.newest_first;
-      numbers = ns;
-    }) step) (sym numbers)
-    (subst (λ (ps : List Place). IsStepOf c.add_and_store-done.result (record s {
-      storage = stored;
-      line = c.clear.new.self.bytes;
-      places = ps;
-      numbers = drop c.args.numbers s.numbers;
-    }) step) (sym left)
-    (subst (λ (l : List ℕ). IsStepOf c.add_and_store-done.result (record s {
-      storage = stored;
-      line = l;
-      places = drop (length one.counters + 1) places;
-      numbers = drop c.args.numbers s.numbers;
-    }) step)
-    (sym (ap (λ (f : BufferView). f.bytes) c.clear.ensures)) comes))
+    subst (λ (ps : List Place). IsStepOf c.add_and_store-done.result
+    (record s { storage = c.add_and_store-done.new.areas; line = c.clear.new.self.bytes; places = ps })
+    (inspected_with c.args.tables.now one s)) (sym left)
+    (subst (λ (l : List ℕ). IsStepOf c.add_and_store-done.result (record s
+    { storage = c.add_and_store-done.new.areas; line = l; places = drop (length one.counters + 1) places })
+    (inspected_with c.args.tables.now one s))
+    (sym (ap (λ (f : BufferView). f.bytes) c.clear.ensures)) comes)

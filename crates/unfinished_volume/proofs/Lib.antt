@@ -1,4 +1,0 @@
-pub mod Inversion
-pub mod Hiding
-pub mod RootMoments
-pub mod NoRoots

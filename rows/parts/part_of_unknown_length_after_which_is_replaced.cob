@@ -1,0 +1,12 @@
+       IDENTIFICATION DIVISION.
+       PROGRAM-ID. P.
+       DATA DIVISION.
+       WORKING-STORAGE SECTION.
+       01  S PIC X(6) VALUE "AABAAB".
+       01  T PIC X(3) VALUE "BAA".
+       01  I PIC 9 VALUE 2.
+       01  N PIC 9 VALUE 0.
+       PROCEDURE DIVISION.
+       MAIN-1.
+           INSPECT S REPLACING ALL "A" BY "C" AFTER INITIAL T (1:I).
+           STOP RUN.
