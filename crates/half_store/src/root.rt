@@ -4,7 +4,7 @@ ghost use Rattle.std.specs.List.{list_all};
 ghost use Rattle.byteorder.specs.Endian.{big_number};
 ghost use Rattle.half_store.specs.Write.{SpellsRoot};
 
-use roots::{Root, root_sector};
+use roots::{Mark, Root, root_sector};
 
 /// The mark of a volume of halves.
 pub(crate) const MARK: [u8; 8] = *b"COBHALF1";
@@ -20,7 +20,10 @@ pub(crate) fn root_bytes(sectors: u32, generation: u64, bytes: u64) -> [u8; 4096
     ensures { SpellsRoot sectors generation bytes result }
 {
     let root = Root {
-        mark: 0,
+        mark: Mark {
+            family: 0,
+            version: 0,
+        },
         generation,
         sectors,
         payload: payload_of(bytes),

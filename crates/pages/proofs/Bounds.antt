@@ -7,7 +7,7 @@ use Rattle.std.proofs.lemmas.List.{length-map, length-take}
 use Rattle.station.specs.Disk.{Sector}
 use Rattle.roots.specs.declared.root.Root.{Root}
 use Rattle.roots.proofs.Next.{newest_within}
-use Rattle.pages.specs.Layout.{VolumeRoot, words, map_count, root_spelled, known_marks}
+use Rattle.pages.specs.Layout.{VolumeRoot, words, map_count, root_spelled, known_families}
 use Rattle.pages.specs.Image.{Map, Volume, Reads, IsImageOf, page_at, map_of}
 use Rattle.pages.proofs.Roots.{IsThat, that, behind}
 
@@ -35,7 +35,7 @@ few_pages : (image : List Sector) (v : Volume) → Reads image v
     → (v.root.generation < 2 ^ 63) × (length v.table ≤ 921600)
 few_pages image v reads =
     let b = behind image v.root reads.root in
-    let facts = newest_within known_marks 1 image b.roots b.reads in
+    let facts = newest_within known_families image b.roots b.reads in
     let maps = few_maps b.roots.newest (words b.roots.newest.payload) v.root b.root in
     (omega (arith, facts.1.generation, b.generation), omega (arith, facts.1.most, maps, reads.maps.count))
 

@@ -12,7 +12,7 @@ use Rattle.station.proofs.TwoPhase.{all_same_outside, with_all_count}
 use Rattle.roots.specs.Root.{root_in}
 use Rattle.roots.specs.declared.root.RootSector.TheVariants.{Valid}
 use Rattle.pages.specs.declared.change.Change.{Change}
-use Rattle.pages.specs.Layout.{newest, known_marks}
+use Rattle.pages.specs.Layout.{newest, known_families}
 use Rattle.pages.specs.Image.{Map, pages_in, Volume, names, Reads, map_of, IsImageOf, KeepsUsed, IsCommitted}
 use Rattle.pages.specs.Changes.{pages_after, next_map, BeforeOrAfter}
 use Rattle.pages.specs.Plan.{IsPlan}
@@ -47,9 +47,10 @@ module _ (v w : Volume) (base : List Sector) (blocks : List Block) (changes : Li
   keeps : KeepsUsed v base staged
   keeps = keeps_used v base blocks staged plan.free (all_same_outside base blocks)
 
-  valid : root_in known_marks (length staged) (spells.root.generation % 2) bytes ≡ Valid spells.root
+  valid : root_in known_families (length staged) (spells.root.generation % 2) bytes ≡ Valid spells.root
   valid =
-      subst (λ (g : ℕ). root_in known_marks (length staged) (g % 2) bytes ≡ Valid spells.root) (sym spells.generation)
+      subst (λ (g : ℕ). root_in known_families (length staged) (g % 2) bytes ≡ Valid spells.root)
+      (sym spells.generation)
       (spells.valid (length staged) (omega (arith, plan.sectors, all, with_all_count base blocks)))
 
   image_newest : newest image ≡ Some w.root

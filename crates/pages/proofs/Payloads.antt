@@ -9,10 +9,10 @@ use Rattle.std.proofs.lemmas.List.{take_at, drop_at, drop-drop, drop-replicate}
 use Rattle.std.proofs.lemmas.Bool.{and_from, lt-ltb, le-leb, eq-eqb}
 use Rattle.station.specs.Disk.{Sector}
 use Rattle.roots.specs.declared.root.Root.{Root}
-use Rattle.roots.specs.Root.{put_at, root_bytes}
+use Rattle.roots.specs.Root.{own_mark, put_at, root_bytes}
 use Rattle.roots.proofs.Spelled.{reads_back}
 use Rattle.byteorder.specs.Endian.{big_bytes}
-use Rattle.pages.specs.Layout.{words, number_bytes, map_count, known_marks}
+use Rattle.pages.specs.Layout.{words, number_bytes, map_count, known_families}
 use Rattle.pages.specs.Payload.{payload_words, SpellsRoot}
 use Rattle.pages.proofs.Roots.{spelled_payload}
 use Rattle.pages.proofs.Words.{words-spelled}
@@ -63,7 +63,7 @@ filled catalog count maps blank first last same few low lows is_blank is_first i
     (All-append (λ (n : ℕ). n < 2 ^ 32) maps (replicate (1017 - length maps) 0) lows
     (All-replicate (λ (n : ℕ). n < 2 ^ 32) (1017 - length maps) 0 (omega arith)))))
 
-pub spells : (root : Root) (catalog : ℕ) (maps payload : List ℕ) (bytes : Sector) → root.mark ≡ 0
+pub spells : (root : Root) (catalog : ℕ) (maps payload : List ℕ) (bytes : Sector) → root.mark ≡ own_mark 0
     → root.payload ≡ payload → words payload ≡ payload_words catalog maps
     → root.generation < 2 ^ 63 → 1024 ≤ root.sectors → root.sectors ≤ 921600 → length maps ≡ map_count root.sectors
     → bytes ≡ root_bytes (67 ∷ 79 ∷ 66 ∷ 86 ∷ 79 ∷ 76 ∷ 48 ∷ 49 ∷ []) root
@@ -74,7 +74,7 @@ spells root catalog maps payload bytes own has reads generation least most count
   generation = refl;
   sectors = refl;
   reads = spelled_payload root catalog (1017 - length maps) maps (ap words has ∙ reads) count;
-  valid = λ n there. rw spelled (reads_back known_marks n (root.generation % 2)
+  valid = λ n there. rw spelled (reads_back known_families n (root.generation % 2)
       (67 ∷ 79 ∷ 66 ∷ 86 ∷ 79 ∷ 76 ∷ 48 ∷ 49 ∷ []) root refl refl (ap Some (sym own))
       (and_from (nat_lt root.generation (2 ^ 63) && (root.generation % 2 == root.generation % 2)
       && nat_le 1024 root.sectors && nat_le root.sectors 921600) (nat_le root.sectors n)

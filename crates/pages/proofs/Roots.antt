@@ -1,21 +1,24 @@
 -- What is known of the newest root of an image.
-use Rattle.std.proofs.Common.{◌≡◌, ◌≤◌, ◌+◌, ◌%◌, ◌==◌, ◌&&◌, true, false, cond, set, ℕ, zero, suc, List, [], ◌∷◌, ◌++◌}
+use Rattle.std.proofs.Common.{◌≡◌, ◌<◌, ◌≤◌, ◌+◌, ◌%◌, ◌==◌, ◌&&◌, true, false, cond, set, ℕ, zero, suc, List, [], ◌∷◌}
+use Rattle.std.proofs.Common.{◌++◌}
 use Rattle.std.proofs.Common.{length, get_or, take, drop, replicate, refl, sym, ◌∙◌, ap, subst, arith}
-use Rattle.std.specs.Prelude.{Option, Some, None, Result, Ok, Err, is_some}
+use Rattle.std.specs.Prelude.{Option, Some, None, Result, Ok, Err, is_some, slice_index_or}
 use Rattle.std.specs.List.{list_all}
 use Rattle.std.proofs.lemmas.Bool.{cond_both, cond-true, cond-false, eq-eqb, ne_eqb, and_from, and_left, and_right}
 use Rattle.std.proofs.lemmas.List.{take_at, drop_at, take_all, drop-drop, length-drop}
 use Rattle.station.specs.Disk.{Sector}
+use Rattle.roots.specs.declared.root.Mark.{Mark}
 use Rattle.roots.specs.declared.root.Root.{Root}
 use Rattle.roots.specs.declared.root.RootSector.TheVariants as root_sector
 use Rattle.roots.specs.declared.pair.Roots.{Roots}
 use Rattle.roots.specs.declared.pair.RootsFault.{RootsFault}
 use Rattle.roots.specs.Reading.{roots_in}
 use Rattle.roots.specs.Laws.{Follows}
-use Rattle.roots.specs.Root.{root_in}
+use Rattle.roots.specs.Root.{own_mark, root_in}
 use Rattle.roots.proofs.Next.{newest_within, next_is_newest}
+use Rattle.roots.proofs.Within.{roots_stand}
 use Rattle.pages.specs.Layout.{VolumeRoot, words, map_count, root_spelled, volume_root, beside, root_of, newest}
-use Rattle.pages.specs.Layout.{known_marks}
+use Rattle.pages.specs.Layout.{known_families}
 use Rattle.pages.specs.Image.{Volume, Reads}
 
 abbrev pub IsThat : {T : Type 0} → Option T → T → Type 0
@@ -52,7 +55,7 @@ same_root root (catalog ∷ count ∷ rest) r is =
 -- the roots of an image, after its newest root
 pub record Behind (image : List Sector) (r : VolumeRoot) : Type 0 where
   pub roots : Roots
-  pub reads : roots_in known_marks 1 image ≡ Ok roots
+  pub reads : roots_in known_families image ≡ Ok roots
   pub root : volume_root roots.newest ≡ Some r
   pub generation : r.generation ≡ roots.newest.generation
   pub sectors : r.sectors ≡ roots.newest.sectors
@@ -66,7 +69,7 @@ beside_that (Some older) None r is = cond_both (is_some (volume_root older)) Non
 beside_that (Some older) (Some a) r is = cond_both (is_some (volume_root older)) (Some a) None
     (λ x. IsThat x r → Some a ≡ Some r) (λ _ same. ap Some same) (λ _ never. absurd never) is
 
-behind_result : (image : List Sector) (r : VolumeRoot) (x : Result Roots RootsFault) → roots_in known_marks 1 image ≡ x
+behind_result : (image : List Sector) (r : VolumeRoot) (x : Result Roots RootsFault) → roots_in known_families image ≡ x
     → IsThat (root_of x) r → Behind image r
 behind_result image r (Err e) reads never = absurd never
 behind_result image r (Ok roots) reads is =
@@ -75,14 +78,14 @@ behind_result image r (Ok roots) reads is =
     record { roots = roots; reads = reads; root = root; generation = same.generation; sectors = same.sectors }
 
 pub behind : (image : List Sector) (r : VolumeRoot) → newest image ≡ Some r → Behind image r
-behind image r is = behind_result image r (roots_in known_marks 1 image) refl (that (newest image) r is)
+behind image r is = behind_result image r (roots_in known_families image) refl (that (newest image) r is)
 
 -- a volume has at least 1,024 sectors, and no more than the device
 pub enough : (image : List Sector) (v : Volume) → Reads image v
     → (1024 ≤ v.root.sectors) × (v.root.sectors ≤ length image)
 enough image v reads =
     let b = behind image v.root reads.root in
-    let facts = newest_within known_marks 1 image b.roots b.reads in
+    let facts = newest_within known_families image b.roots b.reads in
     (omega (arith, facts.1.least, b.sectors), omega (arith, facts.1.there, b.sectors))
 
 -- a payload that spells these maps
@@ -116,20 +119,22 @@ spelled_payload root catalog zero_count maps is count =
 -- the next root, once it stands in its sector
 pub next_newest : (image : List Sector) (r : VolumeRoot) (next : Root) (w : VolumeRoot) (bytes : Sector)
     → newest image ≡ Some r
-    → next.mark ≡ 0 → next.generation ≡ r.generation + 1 → next.sectors ≡ r.sectors → volume_root next ≡ Some w
-    → root_in known_marks (length image) (next.generation % 2) bytes ≡ root_sector.Valid next
+    → next.mark ≡ own_mark 0 → next.generation ≡ r.generation + 1 → next.sectors ≡ r.sectors → volume_root next ≡ Some w
+    → root_in known_families (length image) (next.generation % 2) bytes ≡ root_sector.Valid next
     → newest (set image (next.generation % 2) bytes) ≡ Some w
 next_newest image r next w bytes is mark generation sectors spells valid =
     let b = behind image r is in
-    let facts = newest_within known_marks 1 image b.roots b.reads in
-    let low : b.roots.newest.mark ≡ 0 = omega (arith, facts.2) in
-    let follows : Follows 1 b.roots.newest next = record {
+    let there = roots_stand known_families image b.roots b.reads in
+    let one : b.roots.newest.mark.version < 1 =
+    subst (λ (n : ℕ). b.roots.newest.mark.version < length (slice_index_or known_families n [])) there.own_family
+    there.known_marks.newest.version in
+    let follows : Follows b.roots.newest next = record {
       generation = omega (arith, generation, b.generation);
       sectors = sectors ∙ b.sectors;
-      mark = omega (arith, low);
-      own_mark = omega (arith, mark);
+      family = ap (λ (m : Mark). m.family) mark ∙ sym there.own_family;
+      version = omega (arith, one);
     } in
-    ap root_of (next_is_newest known_marks 1 image b.roots next bytes b.reads follows valid)
+    ap root_of (next_is_newest known_families image b.roots next bytes b.reads follows valid)
     ∙ cond-true (is_some (volume_root b.roots.newest)) (volume_root next) None (ap is_some b.root)
     ∙ spells
 

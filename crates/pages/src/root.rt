@@ -91,7 +91,7 @@ pub(crate) fn read_root<D: Device>(alloc: Global, device: &mut D) -> Result<Foun
         → IfErr result (λ error. RefusesImage (D.state device.old).disk.present error) }
     ensures cause { IsOpenError result }
 {
-    let roots = read_roots(device, &[MARK, FOREIGN_MARK], 1)?;
+    let roots = read_roots(device, &[&[MARK], &[FOREIGN_MARK]])?;
     if !is_sound_beside(alloc, &roots.older)? {
         return Err(PagesError::Damaged);
     }

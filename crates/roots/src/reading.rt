@@ -1,5 +1,5 @@
 //! The roots of a device.
-ghost use Rattle.std.specs.Prelude.{◌≡◌, ◌<◌, Err, IfOk, IfErr};
+ghost use Rattle.std.specs.Prelude.{◌≡◌, ◌<◌, map, Err, IfOk, IfErr};
 ghost use Rattle.station.specs.Disk.{sector_at};
 ghost use Rattle.station.specs.Calls.{OnlyReads};
 ghost use Rattle.answers.specs.Answer.{Gives};
@@ -12,18 +12,14 @@ use crate::pair::{Roots, RootsFault, newest_of};
 use crate::root::{RootSector, read_root};
 use station::Device;
 
-/// The roots of a device, to a reader that knows these marks. Of them the first `own` are those of its own format, in the order
-/// in which they came up. Nothing is written.
-pub fn read_roots<D: Device>(
-    device: &mut D,
-    known: &[[u8; 8]],
-    own: usize,
-) -> Result<Roots, RootsError>
+/// The roots of a device, to a reader that knows these families of marks, its own first. Each family has the marks of one format, in
+/// the order of their introduction. Nothing is written.
+pub fn read_roots<D: Device>(device: &mut D, known: &[&[[u8; 8]]]) -> Result<Roots, RootsError>
     ensures only { OnlyReads D.Device (result ≡ Err RootsError.Device) device.old device.new }
 
     // The roots of the present image, or the fault that it has.
     ensures roots { D.is_honest device.old → Gives (λ roots. roots) fault_of result
-        (roots_in known.now own (D.state device.old).disk.present) }
+        (roots_in (map (λ family. family.now) known.now) (D.state device.old).disk.present) }
 
     // On any device they are within the bounds of a volume.
     ensures within { IfOk result (λ roots. EachRoot (IsWithinVolume (D.sectors device.old)) roots) }
@@ -33,7 +29,7 @@ pub fn read_roots<D: Device>(
     }
     let first = root_of(device, known, 0)?;
     let second = root_of(device, known, 1)?;
-    match newest_of(own, first, second) {
+    match newest_of(first, second) {
         Ok(roots) => Ok(roots),
         Err(fault) => Err(RootsError::Roots(fault)),
     }
@@ -42,12 +38,13 @@ pub fn read_roots<D: Device>(
 /// What a root sector of a device is.
 fn root_of<D: Device>(
     device: &mut D,
-    known: &[[u8; 8]],
+    known: &[&[[u8; 8]]],
     number: u32,
 ) -> Result<RootSector, RootsError>
     requires { number < D.sectors device.old }
     ensures only { OnlyReads D.Device (result ≡ Err RootsError.Device) device.old device.new }
-    ensures root { D.is_honest device.old → IfOk result (λ root. root ≡ root_in known.now
+    ensures root { D.is_honest device.old
+        → IfOk result (λ root. root ≡ root_in (map (λ family. family.now) known.now)
         (D.sectors device.old) number (sector_at (D.state device.old).disk.present number)) }
     ensures within { IfOk result (λ root. IfValid root (IsWithinVolume (D.sectors device.old))) }
     ensures cause { IfErr result (λ error. error ≡ RootsError.Device) }

@@ -13,7 +13,7 @@ use Rattle.file_recovery.proofs.Reopened.{opens_again}
 use Rattle.roots.specs.declared.root.Root.{Root}
 use Rattle.records.specs.declared.fault.StoreFault.{StoreFault}
 use Rattle.records.specs.declared.fault.StoreFault.TheVariants as store
-use Rattle.pages.specs.Layout.{known_marks as page_marks}
+use Rattle.pages.specs.Layout.{known_families as page_families}
 use Rattle.pages.specs.Image.{Volume, Reads}
 use Rattle.pages.specs.Use.{free_count}
 use Rattle.volume_commands.specs.declared.volume_state.Layout.{Layout}
@@ -33,7 +33,7 @@ ok_so (Ok x) so p = so x p
 ok_so (Err e) so p = tt
 
 trees_state : (image : List Sector) (state : VolumeState) (v : Volume) → Reads image v
-    → (state.layout ≡ Trees) × (state.free ≡ free_count v) × ((root : Root) × HasRoot page_marks image state root)
+    → (state.layout ≡ Trees) × (state.free ≡ free_count v) × ((root : Root) × HasRoot page_families image state root)
     → IsStateOf image state
 trees_state image state v reads (layout, free, root) =
     subst (λ (l : Layout). IsStateAs l image state) (sym layout)
@@ -43,12 +43,12 @@ trees_state image state v reads (layout, free, root) =
 pub trees_states : (image present : List Sector) (r : Result VolumeState VolumeError) (v : Volume) (free : ℕ)
     → present ≡ image → Reads present v → free ≡ free_count v
     → IfOk r (λ state. (state.layout ≡ Trees) × (state.free ≡ free)
-    × ((root : Root) × HasRoot page_marks present state root)) → IfOk r (IsStateOf image)
+    × ((root : Root) × HasRoot page_families present state root)) → IfOk r (IsStateOf image)
 trees_states image present r v free same reads count = ok_so r (λ state is. trees_state image state v
     (subst (λ (l : List Sector). Reads l v) same reads) (
       is.0,
       is.1 ∙ count,
-      (is.2.0, subst (λ (l : List Sector). HasRoot page_marks l state is.2.0) same is.2.1),
+      (is.2.0, subst (λ (l : List Sector). HasRoot page_families l state is.2.0) same is.2.1),
     ))
 
 pub same_console : (old new : State) → (new ≡ old) ⊎ (new ≡ state_after_sync old) → SameConsole old new

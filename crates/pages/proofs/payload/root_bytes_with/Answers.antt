@@ -1,10 +1,11 @@
 use Rattle.std.proofs.Common.{drop, refl}
+use Rattle.roots.specs.Root.{own_mark}
 use Rattle.pages.proofs.Payloads.{spells}
 use Rattle.pages.proofs.payload.root_bytes_with.Goals as goal
 
 pub returns : goal.returns
 returns c = spells (record {
-  mark = 0;
+  mark = own_mark 0;
   generation = c.args.generation;
   sectors = c.args.sectors;
   payload = drop 20 c.payload_bytes-bytes.result;

@@ -1,6 +1,6 @@
 use Rattle.std.proofs.Common.{inr, ⊎_elim, sym, ap, subst, ◌∙◌}
 use Rattle.roots.specs.Reading.{roots_in}
-use Rattle.pages.specs.Layout.{known_marks}
+use Rattle.pages.specs.Layout.{known_families}
 use Rattle.pages.specs.Pages.{committed_of}
 use Rattle.pages.proofs.Roots.{behind}
 use Rattle.file_recovery.proofs.Foreign.{half_is_foreign}
@@ -33,7 +33,7 @@ returns-in-Ok-clause-opens g c = λ honest files holds.
     (λ trees.
     let own = behind image trees.1.0.root trees.1.1.root in
     c.read_trees.ensures.opens (c.in-Ok.ensures.honest.0 honest) own.roots
-    (ap (roots_in known_marks 1) same ∙ own.reads))
+    (ap (roots_in known_families) same ∙ own.reads))
     (λ half. absurd (c.in-Ok.ensures.foreign honest (half_is_foreign image files half)))
     holds
 
