@@ -146,7 +146,7 @@ module _ (m : Map) (files : Files) (holds : MapHolds m files) (name : List ℕ) 
       listing ≡ listing_bytes
       (record { spec = spec; prime = 0; alternates = replicate (length spec.alternates) 0; next_arrival = 1 })
       → AreFiles (with_file name (empty_file spec) files)
-      → MapHolds (map_with (m.generation + 1) catalog pages) (with_file name (empty_file spec) files)
+      → MapHolds (map_with m.mark (m.generation + 1) catalog pages) (with_file name (empty_file spec) files)
   holds_added pages catalog listing stands says are =
       let here = gap in
       let root : TreeLevels = tree_levels (catalog_at catalog) stands.levels in
@@ -169,6 +169,7 @@ module _ (m : Map) (files : Files) (holds : MapHolds m files) (name : List ℕ) 
       let entry : entry_as (padded_name name) listing ≡ catalog_entry new =
       ap (entry_as (padded_name name)) (empty_says spec name listing says) in
       record {
+        mark = holds.mark;
         kept = here.before ++ new ∷ here.after;
         keeps = record {
           catalog = stands.levels;

@@ -44,7 +44,7 @@ module _ (spec : Spec) (named : NamedFile) (generation : ℕ) (pages : List (Opt
   spec_here = ap (λ (f : File). f.spec) file_is ∙ has.spec_is
 
   abbrev the_map : Map
-  the_map = record { generation = generation; catalog = 0; pages = pages }
+  the_map = record { mark = 0; generation = generation; catalog = 0; pages = pages }
 
   grown : All (IsTreeIn pages) (trees_of kept_in)
   grown = all_left (IsTreeIn pages) (trees_of kept_in) right

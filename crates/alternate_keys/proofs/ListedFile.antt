@@ -113,6 +113,7 @@ module _ {D : Type 0} (d : Devices D) where
             still = still ∙ looks.only.state at.honest;
             committed = record {
               volume = edits.committed.volume ∙ before.volume;
+              mark = edits.committed.mark ∙ before.mark;
               spent = edits.committed.spent ∙ before.spent;
             };
             catalog = edits.catalog ∙ ap (λ (m : Map). m.catalog) (looks.unchanged.map (d.state a).disk.present);
@@ -161,6 +162,7 @@ module _ {D : Type 0} (d : Devices D) where
               put.placed (map_now r (d.state a).disk.present).pages map_at.catalog rooted change are in
               let same : SameCommitted p r = record {
                 volume = edits.committed.volume ∙ put.committed.volume;
+                mark = edits.committed.mark ∙ put.committed.mark;
                 spent = edits.committed.spent ∙ put.committed.spent;
               } in
               will_hold map_at files at.holds name held at.named at.there p r (d.state a).disk.present changed refl same

@@ -149,11 +149,12 @@ pub holds_then : (m : Map) (files : Files) (holds : MapHolds m files) (name : Li
     ++ (trees_of placed.kept ++ flat_map trees_of found.split.after)) (catalog_at catalog)
     (with_value (map catalog_entry holds.kept) (record { key = padded_name name; value = listing })) →
     is_name name ≡ true → AreFiles (with_file name after files) → MapHolds
-    (record { generation = m.generation + 1; catalog = catalog; pages = pages }) (with_file name after files)
+    (record { mark = m.mark; generation = m.generation + 1; catalog = catalog; pages = pages })
+    (with_file name after files)
 holds_then m files holds name held found after between pages catalog listing placed stands named are =
     let split = found.split in
     let new : FileTrees = placed.kept in
-    let next : Map = record { generation = m.generation + 1; catalog = catalog; pages = pages } in
+    let next : Map = record { mark = m.mark; generation = m.generation + 1; catalog = catalog; pages = pages } in
     let own : new.named.name ≡ name = ap (λ (n : NamedFile). n.name) placed.named_is in
     let file_is : new.named.file ≡ after = ap (λ (n : NamedFile). n.file) placed.named_is in
     let all : AllByRecursion (λ (k : FileTrees). is_name k.named.name ≡ true) split.before = names_of split.before
@@ -171,6 +172,7 @@ holds_then m files holds name held found after between pages catalog listing pla
     ap (λ (n : List ℕ). entry_as (padded_name n) (listing_bytes (listing_of new))) own
     ∙ ap (entry_as (padded_name name)) (sym placed.says) in
     record {
+      mark = holds.mark;
       kept = split.before ++ new ∷ split.after;
       keeps = record {
         catalog = stands.levels;

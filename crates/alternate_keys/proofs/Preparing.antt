@@ -54,15 +54,20 @@ some_clash : (x : Option Entry) (e : Entry) → x ≡ Some e → x ≡ None → 
 some_clash x e some none = cc
 
 -- the map after it, in the next generation
-abbrev pub map_with : ℕ → ℕ → List (Option Sector) → Map
-map_with generation catalog pages = record { generation = generation; catalog = catalog; pages = pages }
+abbrev pub map_with : ℕ → ℕ → ℕ → List (Option Sector) → Map
+map_with mark generation catalog pages =
+    record { mark = mark; generation = generation; catalog = catalog; pages = pages }
 
 next_map : (p q : PageMap) (image : List Sector) → SameCommitted p q → catalog_of q ≡ catalog_of p
-    → map_with ((map_now p image).generation + 1) (map_now p image).catalog (map_now q image).pages ≡ next_generation
-    (map_now q image)
+    → map_with (map_now p image).mark ((map_now p image).generation + 1) (map_now p image).catalog
+    (map_now q image).pages ≡ next_generation (map_now q image)
 next_map p q image same catalog =
-    ap (λ v. map_with (v.generation + 1) (map_now p image).catalog (map_now q image).pages) (sym same.volume)
-    ∙ ap (λ (n : ℕ). map_with ((map_now q image).generation + 1) n (map_now q image).pages) (sym catalog)
+    ap (λ v. map_with (map_now p image).mark (v.generation + 1) (map_now p image).catalog (map_now q image).pages)
+    (sym same.volume)
+    ∙ ap (λ (n : ℕ). map_with n ((map_now q image).generation + 1) (map_now p image).catalog (map_now q image).pages)
+    (sym same.mark)
+    ∙ ap (λ (n : ℕ). map_with (map_now q image).mark ((map_now q image).generation + 1) n (map_now q image).pages)
+    (sym catalog)
 
 module _ (m : Map) (files : Files) (holds : MapHolds m files) (name : List ℕ) (held : File)
     (named : is_name name ≡ true) (there : file_at name files ≡ Some held) where
@@ -109,19 +114,20 @@ module _ (m : Map) (files : Files) (holds : MapHolds m files) (name : List ℕ) 
     pub holds_after : (pages : List (Option Sector)) (catalog : ℕ) → IsTreeAmong pages [] around (catalog_at catalog)
         (with_value (map catalog_entry holds.kept) (record { key = padded_name name; value = listing })) →
         is_change changed.outcome ≡ true → AreFiles (files_after name files changed)
-        → MapHolds (map_with (m.generation + 1) catalog pages) (files_after name files changed)
+        → MapHolds (map_with m.mark (m.generation + 1) catalog pages) (files_after name files changed)
     holds_after pages catalog stands change are =
         let after : files_after name files changed ≡ with_file name changed.file files =
         ap (λ (b : Bool). if b then with_file name changed.file files else files) change in
-        subst (λ (l : Files). MapHolds (map_with (m.generation + 1) catalog pages) l) (sym after)
+        subst (λ (l : Files). MapHolds (map_with m.mark (m.generation + 1) catalog pages) l) (sym after)
         (holds_then m files holds name held own changed.file between pages catalog listing placed stands named
         (subst AreFiles after are))
 
   pub will_hold : (p q : PageMap) (image : List Sector) (changed : FileChange)
       → map_now p image ≡ m → SameCommitted p q → catalog_of q ≡ catalog_of p
-      → MapHolds (map_with (m.generation + 1) m.catalog (map_now q image).pages) (files_after name files changed) →
+      → MapHolds (map_with m.mark (m.generation + 1) m.catalog (map_now q image).pages) (files_after name files changed)
+      →
       MapHolds (next_generation (map_now q image)) (files_after name files changed)
   will_hold p q image changed is same catalog holds_now =
       subst (λ (n : Map). MapHolds n (files_after name files changed)) (next_map p q image same catalog)
-      (subst (λ (n : Map). MapHolds (map_with (n.generation + 1) n.catalog (map_now q image).pages)
+      (subst (λ (n : Map). MapHolds (map_with n.mark (n.generation + 1) n.catalog (map_now q image).pages)
       (files_after name files changed)) (sym is) holds_now)

@@ -1,6 +1,6 @@
 -- An image whose newest root has a mark of one store is the other store's foreign one.
 use Rattle.std.proofs.Common.{◌≡◌, ◌≤◌, ◌+◌, ◌==◌, ◌&&◌, Bool, true, false, ℕ, zero, suc, List, [], ◌∷◌, ◌++◌, length}
-use Rattle.std.proofs.Common.{drop, refl, sym, ap, subst, ◌∙◌, arith}
+use Rattle.std.proofs.Common.{drop, inl, inr, ⊎_elim, ◌⊎◌, refl, sym, ap, subst, ◌∙◌, arith}
 use Rattle.std.specs.Prelude.{Option, Some, None, Result, Ok, Err, nat_lt, nat_le, nat_eq, position, codes, slice_index}
 use Rattle.std.specs.Prelude.{is_some, slice_index_or, if◌then◌else◌}
 use Rattle.std.specs.List.{starts_with}
@@ -233,37 +233,50 @@ newest_never (Valid a) (Valid b) is also =
 abbrev half_mark : List ℕ
 half_mark = codes "COBHALF1"
 
-abbrev page_mark : List ℕ
-page_mark = codes "COBVOL01"
+abbrev half_family : Family
+half_family = half_mark ∷ []
 
--- no sector begins with both marks
-apart : (bytes : Sector) → starts_with nat_eq bytes half_mark ≡ true → starts_with nat_eq bytes page_mark ≡ true → ⊥
-apart bytes one two =
+abbrev page_family : Family
+page_family = codes "COBVOL01" ∷ codes "COBVOL02" ∷ []
+
+-- no sector begins with the mark of halves and with one whose fourth byte is another
+apart : (bytes rest : List ℕ) (a b c d : ℕ) → d ≡ 86 → starts_with nat_eq bytes half_mark ≡ true
+    → starts_with nat_eq bytes (a ∷ b ∷ c ∷ d ∷ rest) ≡ true → ⊥
+apart bytes rest a b c d fourth one two =
+    let mark : List ℕ = a ∷ b ∷ c ∷ d ∷ rest in
     let first : bytes ≡ half_mark ++ drop (length half_mark) bytes =
     (starts_is Decides-eqb bytes half_mark (starts_with nat_eq bytes half_mark) refl).0 one in
-    let second : bytes ≡ page_mark ++ drop (length page_mark) bytes =
-    (starts_is Decides-eqb bytes page_mark (starts_with nat_eq bytes page_mark) refl).0 two in
-    let clash : 72 ≡ 86 = ap (λ (l : List ℕ). slice_index l 3) (sym first ∙ second) in
-    omega (arith, clash)
+    let second : bytes ≡ mark ++ drop (length mark) bytes =
+    (starts_is Decides-eqb bytes mark (starts_with nat_eq bytes mark) refl).0 two in
+    let clash : 72 ≡ d = ap (λ (l : List ℕ). slice_index l 3) (sym first ∙ second) in
+    omega (arith, clash, fourth)
 
--- the one mark of a family
-only : (b : Bool) → is_some (position (λ (x : Bool). x) (b ∷ [])) ≡ true → b ≡ true
+-- the marks of a family of one, and of two
+only : (a : Bool) → is_some (position (λ (x : Bool). x) (a ∷ [])) ≡ true → a ≡ true
 only true is = refl
 only false is = is
 
-families_apart : (bytes : Sector) → is_some (version_in (half_mark ∷ []) bytes) ≡ true
-    → is_some (version_in (page_mark ∷ []) bytes) ≡ true → ⊥
-families_apart bytes one two = apart bytes (only (starts_with nat_eq bytes half_mark) one)
-    (only (starts_with nat_eq bytes page_mark) two)
+either : (a b : Bool) → is_some (position (λ (x : Bool). x) (a ∷ b ∷ [])) ≡ true → (a ≡ true) ⊎ (b ≡ true)
+either true b is = inl refl
+either false true is = inr refl
+either false false is = cc
+
+families_apart : (bytes : Sector) → is_some (version_in half_family bytes) ≡ true
+    → is_some (version_in page_family bytes) ≡ true → ⊥
+families_apart bytes one two =
+    let half = only (starts_with nat_eq bytes half_mark) one in
+    ⊎_elim (apart bytes (79 ∷ 76 ∷ 48 ∷ 49 ∷ []) 67 79 66 86 refl half)
+    (apart bytes (79 ∷ 76 ∷ 48 ∷ 50 ∷ []) 67 79 66 86 refl half)
+    (either (starts_with nat_eq bytes (codes "COBVOL01")) (starts_with nat_eq bytes (codes "COBVOL02")) two)
 
 module _ (image : List Sector) where
   both_turn : roots_in page_families image
       ≡ newest_root (turned_sector (root_in half_families (length image) 0 (sector_at image 0)))
       (turned_sector (root_in half_families (length image) 1 (sector_at image 1)))
   both_turn =
-      let first = in_turns (length image) 0 (sector_at image 0) (half_mark ∷ []) (page_mark ∷ [])
+      let first = in_turns (length image) 0 (sector_at image 0) half_family page_family
       (families_apart (sector_at image 0)) in
-      let second = in_turns (length image) 1 (sector_at image 1) (half_mark ∷ []) (page_mark ∷ [])
+      let second = in_turns (length image) 1 (sector_at image 1) half_family page_family
       (families_apart (sector_at image 1)) in
       ap (λ x. newest_root x (root_in page_families (length image) 1 (sector_at image 1))) first
       ∙ ap (newest_root (turned_sector (root_in half_families (length image) 0 (sector_at image 0)))) second

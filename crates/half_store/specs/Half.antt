@@ -15,7 +15,7 @@ use Rattle.half_store.specs.Spelled.{files_bytes}
 
 -- the marks of a volume of halves, and those of the other format
 abbrev pub known_families : List Family
-known_families = (codes "COBHALF1" ∷ []) ∷ (codes "COBVOL01" ∷ []) ∷ []
+known_families = (codes "COBHALF1" ∷ []) ∷ (codes "COBVOL01" ∷ codes "COBVOL02" ∷ []) ∷ []
 
 -- the sectors of a half of a volume of n sectors
 unfoldable pub half : ℕ → ℕ

@@ -20,7 +20,7 @@ ghost use Rattle.half_store.specs.Stands.{Represents};
 use crate::checking::are_files;
 use crate::halves::{count_of, half_of, start_of};
 use crate::reading::read_files;
-use crate::root::{FOREIGN_MARK, MARK};
+use crate::root::{FOREIGN_FAMILY, MARK};
 use crate::spelling::spell;
 use crate::store::HalfStore;
 use byteorder::{BigEndian, ByteOrder};
@@ -216,7 +216,7 @@ fn own_roots<D: Device>(device: &mut D) -> Result<Roots, StoreFault>
     ensures foreign { D.is_honest device.old → IsForeign (D.state device.old).disk.present
         → FailsWith StoreFault.Layout result }
 {
-    match read_roots(device, &[&[MARK], &[FOREIGN_MARK]]) {
+    match read_roots(device, &[&[MARK], &FOREIGN_FAMILY]) {
         Ok(roots) => Ok(roots),
         Err(error) => Err(fault_of(error)),
     }

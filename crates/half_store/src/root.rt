@@ -9,8 +9,8 @@ use roots::{Mark, Root, root_sector};
 /// The mark of a volume of halves.
 pub(crate) const MARK: [u8; 8] = *b"COBHALF1";
 
-/// The mark of the other format.
-pub(crate) const FOREIGN_MARK: [u8; 8] = *b"COBVOL01";
+/// The marks of the other format, in the order of their introduction.
+pub(crate) const FOREIGN_FAMILY: [[u8; 8]; 2] = [*b"COBVOL01", *b"COBVOL02"];
 
 /// The bytes of a root sector.
 pub(crate) fn root_bytes(sectors: u32, generation: u64, bytes: u64) -> [u8; 4096]

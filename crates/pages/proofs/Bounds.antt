@@ -19,7 +19,13 @@ few_maps root [] r is = absurd (that None r is)
 few_maps root (a ∷ []) r is = absurd (that None r is)
 few_maps root (catalog ∷ count ∷ rest) r is =
     let there : VolumeRoot =
-    record { generation = root.generation; sectors = root.sectors; catalog = catalog; maps = take count rest } in
+    record {
+      mark = root.mark.version;
+      generation = root.generation;
+      sectors = root.sectors;
+      catalog = catalog;
+      maps = take count rest;
+    } in
     cond_both ((count == map_count root.sectors) && list_all (λ word. word == 0) (drop count rest)) (Some there) None
     (λ x. IsThat x r → length r.maps ≤ map_count root.sectors)
     (λ both same. omega (

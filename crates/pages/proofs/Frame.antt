@@ -87,7 +87,7 @@ still_reads v base image reads keeps = record {
 pub same_map : (v : Volume) (base image : List Sector) → Reads base v → KeepsUsed v base image
     → map_of image v ≡ map_of base v
 same_map v base image reads keeps = ap (λ (pages : List (Option Sector)).
-    record { generation = v.root.generation; catalog = v.root.catalog; pages = pages })
+    record { mark = v.root.mark; generation = v.root.generation; catalog = v.root.catalog; pages = pages })
     (pages_same image base v.table
     (λ s has. named_same v base image reads keeps s (Contains-append_right v.root.maps v.table s has)))
 

@@ -1,8 +1,8 @@
 -- What is known of the newest root of an image.
-use Rattle.std.proofs.Common.{◌≡◌, ◌<◌, ◌≤◌, ◌+◌, ◌%◌, ◌==◌, ◌&&◌, true, false, cond, set, ℕ, zero, suc, List, [], ◌∷◌}
+use Rattle.std.proofs.Common.{◌≡◌, ◌≤◌, ◌+◌, ◌%◌, ◌==◌, ◌&&◌, true, false, cond, set, ℕ, zero, suc, List, [], ◌∷◌}
 use Rattle.std.proofs.Common.{◌++◌}
 use Rattle.std.proofs.Common.{length, get_or, take, drop, replicate, refl, sym, ◌∙◌, ap, subst, arith}
-use Rattle.std.specs.Prelude.{Option, Some, None, Result, Ok, Err, is_some, slice_index_or}
+use Rattle.std.specs.Prelude.{Option, Some, None, Result, Ok, Err, is_some}
 use Rattle.std.specs.List.{list_all}
 use Rattle.std.proofs.lemmas.Bool.{cond_both, cond-true, cond-false, eq-eqb, ne_eqb, and_from, and_left, and_right}
 use Rattle.std.proofs.lemmas.List.{take_at, drop_at, take_all, drop-drop, length-drop}
@@ -16,7 +16,6 @@ use Rattle.roots.specs.Reading.{roots_in}
 use Rattle.roots.specs.Laws.{Follows}
 use Rattle.roots.specs.Root.{own_mark, root_in}
 use Rattle.roots.proofs.Next.{newest_within, next_is_newest}
-use Rattle.roots.proofs.Within.{roots_stand}
 use Rattle.pages.specs.Layout.{VolumeRoot, words, map_count, root_spelled, volume_root, beside, root_of, newest}
 use Rattle.pages.specs.Layout.{known_families}
 use Rattle.pages.specs.Image.{Volume, Reads}
@@ -34,6 +33,7 @@ one_root there a b is also = that (Some a) b (sym is ∙ also)
 
 -- what a root's payload leaves as it is
 record SameRoot (root : Root) (r : VolumeRoot) : Type 0 where
+  pub mark : r.mark ≡ root.mark.version
   pub generation : r.generation ≡ root.generation
   pub sectors : r.sectors ≡ root.sectors
 
@@ -43,10 +43,17 @@ same_root root [] r is = absurd (that None r is)
 same_root root (a ∷ []) r is = absurd (that None r is)
 same_root root (catalog ∷ count ∷ rest) r is =
     let there : VolumeRoot =
-    record { generation = root.generation; sectors = root.sectors; catalog = catalog; maps = take count rest } in
+    record {
+      mark = root.mark.version;
+      generation = root.generation;
+      sectors = root.sectors;
+      catalog = catalog;
+      maps = take count rest;
+    } in
     cond_both ((count == map_count root.sectors) && list_all (λ word. word == 0) (drop count rest)) (Some there) None
     (λ x. IsThat x r → SameRoot root r)
     (λ _ same. record {
+      mark = sym (ap (λ (q : VolumeRoot). q.mark) same);
       generation = sym (ap (λ (q : VolumeRoot). q.generation) same);
       sectors = sym (ap (λ (q : VolumeRoot). q.sectors) same);
     })
@@ -57,6 +64,7 @@ pub record Behind (image : List Sector) (r : VolumeRoot) : Type 0 where
   pub roots : Roots
   pub reads : roots_in known_families image ≡ Ok roots
   pub root : volume_root roots.newest ≡ Some r
+  pub mark : r.mark ≡ roots.newest.mark.version
   pub generation : r.generation ≡ roots.newest.generation
   pub sectors : r.sectors ≡ roots.newest.sectors
 
@@ -75,7 +83,14 @@ behind_result image r (Err e) reads never = absurd never
 behind_result image r (Ok roots) reads is =
     let root : volume_root roots.newest ≡ Some r = beside_that roots.older (volume_root roots.newest) r is in
     let same = same_root roots.newest (words roots.newest.payload) r root in
-    record { roots = roots; reads = reads; root = root; generation = same.generation; sectors = same.sectors }
+    record {
+      roots = roots;
+      reads = reads;
+      root = root;
+      mark = same.mark;
+      generation = same.generation;
+      sectors = same.sectors;
+    }
 
 pub behind : (image : List Sector) (r : VolumeRoot) → newest image ≡ Some r → Behind image r
 behind image r is = behind_result image r (roots_in known_families image) refl (that (newest image) r is)
@@ -92,10 +107,17 @@ enough image v reads =
 pub spelled_payload : (root : Root) (catalog zero_count : ℕ) (maps : List ℕ)
     → words root.payload ≡ catalog ∷ length maps ∷ maps ++ replicate zero_count 0 → length maps ≡ map_count root.sectors
     → volume_root root
-    ≡ Some (record { generation = root.generation; sectors = root.sectors; catalog = catalog; maps = maps })
+    ≡ Some (record {
+      mark = root.mark.version;
+      generation = root.generation;
+      sectors = root.sectors;
+      catalog = catalog;
+      maps = maps;
+    })
 unfolding root_spelled
 spelled_payload root catalog zero_count maps is count =
     let there : VolumeRoot = record {
+      mark = root.mark.version;
       generation = root.generation;
       sectors = root.sectors;
       catalog = catalog;
@@ -109,7 +131,13 @@ spelled_payload root catalog zero_count maps is count =
     && list_all (λ word. word == 0) (drop (length maps) (maps ++ replicate zero_count 0))) (Some there) None
     (and_from _ _ (eq-eqb (length maps) (map_count root.sectors) count) blank)
     ∙ ap (λ (l : List ℕ).
-    Some (record { generation = root.generation; sectors = root.sectors; catalog = catalog; maps = l }))
+    Some (record {
+      mark = root.mark.version;
+      generation = root.generation;
+      sectors = root.sectors;
+      catalog = catalog;
+      maps = l;
+    }))
     (take_at maps (replicate zero_count 0) (length maps) refl)
   where
     all_blank : (n : ℕ) → list_all (λ word. word == 0) (replicate n 0) ≡ true
@@ -119,20 +147,18 @@ spelled_payload root catalog zero_count maps is count =
 -- the next root, once it stands in its sector
 pub next_newest : (image : List Sector) (r : VolumeRoot) (next : Root) (w : VolumeRoot) (bytes : Sector)
     → newest image ≡ Some r
-    → next.mark ≡ own_mark 0 → next.generation ≡ r.generation + 1 → next.sectors ≡ r.sectors → volume_root next ≡ Some w
+    → next.mark ≡ own_mark w.mark → r.mark ≤ w.mark → next.generation ≡ r.generation + 1 → next.sectors ≡ r.sectors
+    → volume_root next ≡ Some w
     → root_in known_families (length image) (next.generation % 2) bytes ≡ root_sector.Valid next
     → newest (set image (next.generation % 2) bytes) ≡ Some w
-next_newest image r next w bytes is mark generation sectors spells valid =
+next_newest image r next w bytes is mark rises generation sectors spells valid =
     let b = behind image r is in
-    let there = roots_stand known_families image b.roots b.reads in
-    let one : b.roots.newest.mark.version < 1 =
-    subst (λ (n : ℕ). b.roots.newest.mark.version < length (slice_index_or known_families n [])) there.own_family
-    there.known_marks.newest.version in
+    let facts = newest_within known_families image b.roots b.reads in
     let follows : Follows b.roots.newest next = record {
       generation = omega (arith, generation, b.generation);
       sectors = sectors ∙ b.sectors;
-      family = ap (λ (m : Mark). m.family) mark ∙ sym there.own_family;
-      version = omega (arith, one);
+      family = ap (λ (m : Mark). m.family) mark ∙ sym facts.2;
+      version = omega (arith, b.mark, rises, ap (λ (m : Mark). m.version) mark);
     } in
     ap root_of (next_is_newest known_families image b.roots next bytes b.reads follows valid)
     ∙ cond-true (is_some (volume_root b.roots.newest)) (volume_root next) None (ap is_some b.root)
@@ -143,6 +169,7 @@ root_numbers : (root : Root) (xs : List ℕ) (a b : ℕ) → 2 ≤ length xs →
     ≡ cond
     ((get_or xs 1 b == map_count root.sectors) && list_all (λ word. word == 0) (drop (get_or xs 1 b) (drop 2 xs)))
     (Some (record {
+      mark = root.mark.version;
       generation = root.generation;
       sectors = root.sectors;
       catalog = get_or xs 0 a;
@@ -157,6 +184,7 @@ module _ (root : Root) (xs : List ℕ) (a b count : ℕ) (is : xs ≡ words root
     (counted : count ≡ map_count root.sectors) where
   abbrev there : VolumeRoot
   there = record {
+    mark = root.mark.version;
     generation = root.generation;
     sectors = root.sectors;
     catalog = get_or xs 0 a;
@@ -186,10 +214,22 @@ module _ (root : Root) (xs : List ℕ) (a b count : ℕ) (is : xs ≡ words root
   pub is_there : (n : ℕ) → length xs ≤ 2 + count + n
       → get_or xs 1 b ≡ count → list_all (λ word. word == 0) (take n (drop (2 + count) xs)) ≡ true → (maps : List ℕ)
       → maps ≡ take count (drop 2 xs)
-      → Some (record { generation = root.generation; sectors = root.sectors; catalog = get_or xs 0 a; maps = maps })
+      → Some (record {
+        mark = root.mark.version;
+        generation = root.generation;
+        sectors = root.sectors;
+        catalog = get_or xs 0 a;
+        maps = maps;
+      })
       ≡ volume_root root
   is_there n all same blank maps cut = ap (λ (l : List ℕ).
-      Some (record { generation = root.generation; sectors = root.sectors; catalog = get_or xs 0 a; maps = l }))
+      Some (record {
+        mark = root.mark.version;
+        generation = root.generation;
+        sectors = root.sectors;
+        catalog = get_or xs 0 a;
+        maps = l;
+      }))
       (cut ∙ ap (λ (k : ℕ). take k (drop 2 xs)) (sym same))
       ∙ sym (by_numbers ∙ cond-true _ (Some there) None (and_from
       (get_or xs 1 b == map_count root.sectors) _ (eq-eqb (get_or xs 1 b) (map_count root.sectors) (same ∙ counted))

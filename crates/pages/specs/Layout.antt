@@ -13,7 +13,7 @@ use Rattle.roots.specs.Reading.{roots_in}
 
 -- the marks of a volume of pages, and those of the other format
 abbrev pub known_families : List Family
-known_families = (codes "COBVOL01" ∷ []) ∷ (codes "COBHALF1" ∷ []) ∷ []
+known_families = (codes "COBVOL01" ∷ codes "COBVOL02" ∷ []) ∷ (codes "COBHALF1" ∷ []) ∷ []
 
 -- the numbers of four bytes
 unfoldable pub words : List ℕ → List ℕ
@@ -25,6 +25,8 @@ abbrev pub number_bytes : List ℕ → List ℕ
 number_bytes numbers = flat_map (big_bytes 4) numbers
 
 pub record VolumeRoot : Type 0 where
+  -- 0 for the first mark of a volume of pages, 1 for the second
+  pub mark : ℕ
   pub generation : ℕ
   pub sectors : ℕ
   -- the page of the catalog's root, 0 for none
@@ -41,7 +43,13 @@ unfoldable pub root_spelled : Root → List ℕ → Option VolumeRoot
 root_spelled root (catalog ∷ count ∷ rest) =
     if (count == map_count root.sectors) && list_all (λ word. word == 0) (drop count rest)
     then Some
-    (record { generation = root.generation; sectors = root.sectors; catalog = catalog; maps = take count rest })
+    (record {
+      mark = root.mark.version;
+      generation = root.generation;
+      sectors = root.sectors;
+      catalog = catalog;
+      maps = take count rest;
+    })
     else None
 root_spelled root _ = None
 

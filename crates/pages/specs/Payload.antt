@@ -1,5 +1,5 @@
 -- The root sector of a volume.
-use Rattle.std.specs.Prelude.{◌≡◌, ◌≤◌, ◌-◌, ◌%◌, ℕ, List, ◌∷◌, ◌++◌, length, replicate, Some}
+use Rattle.std.specs.Prelude.{◌≡◌, ◌≤◌, ◌-◌, ◌%◌, ℕ, zero, suc, List, ◌∷◌, ◌++◌, length, replicate, codes, Some}
 use Rattle.station.specs.Disk.{Sector}
 use Rattle.roots.specs.declared.root.Root.{Root}
 use Rattle.roots.specs.declared.root.RootSector.TheVariants.{Valid}
@@ -10,10 +10,15 @@ use Rattle.pages.specs.Layout.{VolumeRoot, volume_root, known_families}
 abbrev pub payload_words : ℕ → List ℕ → List ℕ
 payload_words catalog maps = catalog ∷ length maps ∷ maps ++ replicate (1017 - length maps) 0
 
+-- the bytes of a mark of a volume of pages
+abbrev pub own_bytes : ℕ → List ℕ
+own_bytes zero = codes "COBVOL01"
+own_bytes (suc n) = codes "COBVOL02"
+
 -- the bytes are a root sector, on a device of any size that has the volume's sectors
 pub record SpellsRoot (w : VolumeRoot) (bytes : Sector) : Type 0 where
   pub root : Root
-  pub mark : root.mark ≡ own_mark 0
+  pub mark : root.mark ≡ own_mark w.mark
   pub generation : root.generation ≡ w.generation
   pub sectors : root.sectors ≡ w.sectors
   pub reads : volume_root root ≡ Some w

@@ -38,5 +38,5 @@ fn empty_root(sectors: u32) -> [u8; 4096]
     ensures { SpellsRoot (empty_volume sectors).root result }
 {
     let maps = [0; 900];
-    root_bytes_with(0, sectors, 0, &maps[..map_count_of(sectors)])
+    root_bytes_with(0, 0, sectors, 0, &maps[..map_count_of(sectors)])
 }

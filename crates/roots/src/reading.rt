@@ -6,6 +6,7 @@ ghost use Rattle.answers.specs.Answer.{Gives};
 ghost use Rattle.roots.specs.Root.{root_in, IsWithinVolume, IfValid};
 ghost use Rattle.roots.specs.Pair.{EachRoot};
 ghost use Rattle.roots.specs.Reading.{roots_in, fault_of};
+ghost use Rattle.roots.specs.Laws.{IsKnown};
 
 use crate::error::RootsError;
 use crate::pair::{Roots, RootsFault, newest_of};
@@ -21,8 +22,11 @@ pub fn read_roots<D: Device>(device: &mut D, known: &[&[[u8; 8]]]) -> Result<Roo
     ensures roots { D.is_honest device.old → Gives (λ roots. roots) fault_of result
         (roots_in (map (λ family. family.now) known.now) (D.state device.old).disk.present) }
 
-    // On any device they are within the bounds of a volume.
+    // On any device they are within the bounds of a volume, with marks that are known, and the newest has one of the first family.
     ensures within { IfOk result (λ roots. EachRoot (IsWithinVolume (D.sectors device.old)) roots) }
+    ensures marks { IfOk result (λ roots.
+        EachRoot (λ root. IsKnown (map (λ family. family.now) known.now) root.mark) roots) }
+    ensures own { IfOk result (λ roots. roots.newest.mark.family ≡ 0) }
 {
     if device.count() < 2 {
         return Err(RootsError::Roots(RootsFault::Damaged));
@@ -47,6 +51,8 @@ fn root_of<D: Device>(
         → IfOk result (λ root. root ≡ root_in (map (λ family. family.now) known.now)
         (D.sectors device.old) number (sector_at (D.state device.old).disk.present number)) }
     ensures within { IfOk result (λ root. IfValid root (IsWithinVolume (D.sectors device.old))) }
+    ensures marks { IfOk result (λ root. IfValid root
+        (λ root. IsKnown (map (λ family. family.now) known.now) root.mark)) }
     ensures cause { IfErr result (λ error. error ≡ RootsError.Device) }
 {
     let mut bytes = [0; 4096];

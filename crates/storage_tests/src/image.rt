@@ -34,6 +34,9 @@ pub const BEHIND: usize = 36;
 
 pub const FOREIGN_MARK: (u32, u32) = (0x434F_4248, 0x414C_4631);
 
+/// The last four bytes of the second mark of a volume of pages.
+pub const SECOND_MARK: u32 = 0x4F4C_3032;
+
 /// A change to an image.
 #[derive(Clone, Copy)]
 pub enum Edit {

@@ -191,6 +191,30 @@ fn a_commit_of_the_catalog(rt: HostRuntime) {
     same(&rt, (volume.catalog(), volume.free_sectors()), (9, 1022));
 }
 
+// A new volume has the first mark. Where the mark alone became the second, the root alone is written, and the root before it keeps
+// the first mark.
+#[test]
+fn a_commit_of_the_mark(rt: HostRuntime) {
+    let mut volume = Volume::empty(&rt, rt.alloc(), 1024);
+    same(&rt, volume.mark(), 0);
+    volume.set_second_mark(&rt);
+    let before = volume.counts();
+    works(&rt, volume.commit(&rt));
+    same(&rt, volume.since(before), (1, 2));
+    let roots = [volume.sector(&rt, 0), volume.sector(&rt, 1)];
+    holds(&rt, roots[0] == root(0, 1024, 0, &[0]));
+    holds(
+        &rt,
+        roots[1].starts_with(b"COBVOL02\0\0\0\0\0\0\0\x01\0\0\x04\0"),
+    );
+    volume.reopen(&rt, rt.alloc());
+    same(&rt, (volume.mark(), volume.free_sectors()), (1, 1022));
+    works(&rt, volume.edit(&rt, 1, 1));
+    works(&rt, volume.commit(&rt));
+    volume.reopen(&rt, rt.alloc());
+    same(&rt, (volume.mark(), volume.has(&rt, 1)), (1, Some(1)));
+}
+
 // Sectors that a commit leaves after are free for the next: page, map and root change places.
 #[test]
 fn sectors_are_used_again(rt: HostRuntime) {

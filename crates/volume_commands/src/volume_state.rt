@@ -44,10 +44,10 @@ pub struct VolumeState {
     pub free: u32,
 }
 
-/// The marks of the two layouts.
-const TREES: [u8; 8] = *b"COBVOL01";
+/// The marks of the two layouts, each in the order of their introduction.
+const TREES: [[u8; 8]; 2] = [*b"COBVOL01", *b"COBVOL02"];
 
-const HALVES: [u8; 8] = *b"COBHALF1";
+const HALVES: [[u8; 8]; 1] = [*b"COBHALF1"];
 
 const SECTOR_BYTES: u64 = 4096;
 
@@ -90,7 +90,7 @@ fn read_trees<D: Device>(device: &mut D, free: u32) -> Result<VolumeState, Volum
         → IfErr result IsReadFailure }
     ensures cause { IfErr result IsReadError }
 {
-    let root = read_root(device, &[&[TREES], &[HALVES]])?;
+    let root = read_root(device, &[&TREES, &HALVES])?;
     Ok(VolumeState {
         layout: Layout::Trees,
         generation: root.generation,
@@ -110,7 +110,7 @@ fn read_halves<D: Device>(device: &mut D) -> Result<VolumeState, VolumeError>
         → IfErr result IsReadFailure }
     ensures cause { IfErr result IsReadError }
 {
-    let root = read_root(device, &[&[HALVES], &[TREES]])?;
+    let root = read_root(device, &[&HALVES, &TREES])?;
     Ok(VolumeState {
         layout: Layout::Halves,
         generation: root.generation,

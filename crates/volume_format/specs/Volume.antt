@@ -48,9 +48,11 @@ pub record IsIndex (file : File) (i : ℕ) (tree : TreeLevels) : Type 0 where
 -- the trees of the file are its rows and its pairs
 pub record IsKept (generation : ℕ) (kept : FileTrees) : Type 0 where
   pub layout : kept.prime.tree.layout ≡ layout_under kept.named.file.spec Prime
-  pub rows : entries_of kept.prime.tree.layout kept.prime.levels ≡ map (entry_under kept.named.file.spec Prime) kept.named.file.rows
+  pub rows : entries_of kept.prime.tree.layout kept.prime.levels
+      ≡ map (entry_under kept.named.file.spec Prime) kept.named.file.rows
   pub count : length kept.alternates ≡ length kept.named.file.spec.alternates
-  pub indexes : (i : ℕ) → i < length kept.named.file.spec.alternates → IsIndex kept.named.file i (slice_index_or kept.alternates i no_tree)
+  pub indexes : (i : ℕ) → i < length kept.named.file.spec.alternates
+      → IsIndex kept.named.file i (slice_index_or kept.alternates i no_tree)
   pub arrivals : kept.named.file.next_arrival ≤ generation
 
 -- the tree of the catalog
@@ -64,7 +66,9 @@ pub record HasCatalog (m : Map) (kept : List FileTrees) : Type 0 where
   pub listed : entries_of catalog_layout catalog ≡ map catalog_entry kept
   pub each : All (IsKept m.generation) kept
 
+-- A volume with the second mark holds no files.
 pub record MapHolds (m : Map) (files : Files) : Type 0 where
+  pub mark : m.mark ≡ 0
   pub kept : List FileTrees
   pub keeps : HasCatalog m kept
   pub named : map (λ (one : FileTrees). one.named) kept ≡ files
