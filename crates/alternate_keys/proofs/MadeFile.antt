@@ -19,7 +19,6 @@ use Rattle.alternate_keys.proofs.Still.{same_volume}
 -- the same files of the same map
 abbrev pub holds_at : (m n : Map) (files : Files) → n ≡ m → MapHolds m files → MapHolds n files
 holds_at m n files same holds = record {
-  mark = ap (λ (x : Map). x.mark) same ∙ holds.mark;
   kept = holds.kept;
   keeps = subst (λ (x : Map). HasCatalog x holds.kept) (sym same) holds.keeps;
   named = holds.named;

@@ -1,6 +1,6 @@
 -- A volume that was opened.
 use Rattle.std.proofs.Common.{◌≡◌, ◌⊎◌, inl, inr, List, refl, sym, ap, subst, ◌∙◌}
-use Rattle.std.specs.Prelude.{[], Result, Ok, Err, IfOk, IfErr, OnOk}
+use Rattle.std.specs.Prelude.{[]}
 use Rattle.station.specs.Disk.{Disk, Sector}
 use Rattle.pages.specs.Image.{Map, IsImageOf as HoldsMap, map_of}
 use Rattle.pages.specs.Errors.{RefusesImage}
@@ -52,18 +52,3 @@ pub tells_of : (error : PagesError) → (error ≡ pages.ForeignMark) ⊎ (error
     → (fault_of error ≡ Layout) ⊎ IsReadCause (fault_of error)
 tells_of error (inl is) = inl (ap fault_of is)
 tells_of error (inr is) = inr (cause_of error is)
-
--- what holds of a result, from what does
-pub if_ok : {T E : Type 0} {P Q : T → Type 0} (result : Result T E) → ((x : T) → P x → Q x) → IfOk result P
-    → IfOk result Q
-if_ok (Ok x) from so = from x so
-if_ok (Err e) from so = tt
-
-pub if_err : {T E : Type 0} {P Q : E → Type 0} (result : Result T E) → ((e : E) → P e → Q e) → IfErr result P
-    → IfErr result Q
-if_err (Ok x) from so = tt
-if_err (Err e) from so = from e so
-
-pub on_ok : {T E P : Type 0} (result : Result T E) → P → OnOk result P
-on_ok (Ok x) so = so
-on_ok (Err e) so = tt

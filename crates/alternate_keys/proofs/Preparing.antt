@@ -1,7 +1,7 @@
 -- A file of a map before and after a change of a row.
 use Rattle.std.proofs.Common.{◌≡◌, ◌<◌, ◌≤◌, ◌+◌, ◌^◌, ◌++◌, Bool, true, ℕ, List, [], length, sym, ap, subst, ◌∙◌}
 use Rattle.std.proofs.Common.{arith}
-use Rattle.std.specs.Prelude.{map, Option, Some, None, IsSome, is_some, if◌then◌else◌}
+use Rattle.std.specs.Prelude.{map, take, Option, Some, None, IsSome, is_some, if◌then◌else◌}
 use Rattle.std.specs.List.{AllByRecursion, flat_map}
 use Rattle.station.specs.Disk.{Sector}
 use Rattle.pages.specs.Image.{Map}
@@ -15,6 +15,7 @@ use Rattle.records.specs.Files.{File, Files, NamedFile, AreFiles, IsByte, file_a
 use Rattle.records.specs.Stores.{Has, spec_of, is_change, files_after, pair_of}
 use Rattle.records.proofs.Changed.{inserted_are_files, replaced_are_files, removed_are_files}
 use Rattle.file_bytes.specs.Description.{padded_name}
+use Rattle.volume_format.specs.Catalog.{catalog_value}
 use Rattle.volume_format.specs.Forest.{TreeLevels}
 use Rattle.volume_format.specs.Grows.{IsTreeAmong}
 use Rattle.volume_format.specs.Volume.{MapHolds, trees_of, catalog_entry}
@@ -24,6 +25,7 @@ use Rattle.alternate_keys.specs.Listed.{catalog_at}
 use Rattle.alternate_keys.specs.Moved.{IsAsked, changed_by, named_after}
 use Rattle.alternate_keys.specs.Placed.{HasFileTrees, HasTrees}
 use Rattle.alternate_keys.proofs.Placing.{found_in, left_of, right_of, entry_of_name, trees_in, catalog_among}
+use Rattle.alternate_keys.proofs.Placing.{listing_read}
 use Rattle.alternate_keys.proofs.Placing.{holds_then}
 use Rattle.alternate_keys.proofs.Splits.{Found}
 
@@ -77,25 +79,26 @@ module _ (m : Map) (files : Files) (holds : MapHolds m files) (name : List ℕ) 
   abbrev pub named_here : NamedFile
   named_here = record { name = name; file = held }
 
-  module _ (answer : Option Entry) (told : answer ≡ entry_with (map catalog_entry holds.kept) (padded_name name)) where
-    entry_is : answer ≡ Some (catalog_entry own.one)
+  module _ (answer : Option Entry)
+      (told : answer ≡ entry_with (map (catalog_entry m.mark) holds.kept) (padded_name name)) where
+    entry_is : answer ≡ Some (catalog_entry m.mark own.one)
     entry_is = told ∙ entry_of_name m files holds name held own named
 
     -- it is listed
     pub never_none : answer ≡ None → ⊥
-    never_none none = some_clash answer (catalog_entry own.one) entry_is none
+    never_none none = some_clash answer (catalog_entry m.mark own.one) entry_is none
 
     pub trees_at : (spec : Spec) (listing : List ℕ) (entry : Entry) → held.spec ≡ spec → m.generation < 2 ^ 63
-        → length m.pages ≤ 921600 → answer ≡ Some entry → listing ≡ entry.value →
+        → length m.pages ≤ 921600 → answer ≡ Some entry → listing ≡ take 83 entry.value →
         HasTrees spec named_here m.generation m.pages (left_of m files holds name held own)
         (right_of m files holds name held own) listing
     trees_at spec listing entry spec_is few small some value =
-        let joined : Some entry ≡ Some (catalog_entry own.one) = sym some ∙ entry_is in
-        let same : entry ≡ catalog_entry own.one = cc in
+        let joined : Some entry ≡ Some (catalog_entry m.mark own.one) = sym some ∙ entry_is in
+        let same : entry ≡ catalog_entry m.mark own.one = cc in
         trees_in m files holds name held spec listing own spec_is few (omega (arith, small))
-        (value ∙ ap (λ (e : Entry). e.value) same)
+        (value ∙ ap (λ (e : Entry). take 83 e.value) same ∙ listing_read m files holds name held own)
 
-  pub some_entry : IsSome (entry_with (map catalog_entry holds.kept) (padded_name name))
+  pub some_entry : IsSome (entry_with (map (catalog_entry m.mark) holds.kept) (padded_name name))
   some_entry = ap (λ (o : Option Entry). is_some o) (entry_of_name m files holds name held own named)
 
   module _ (changed : FileChange) (between : List (Option Sector)) (listing : List ℕ)
@@ -105,21 +108,25 @@ module _ (m : Map) (files : Files) (holds : MapHolds m files) (name : List ℕ) 
     around = flat_map trees_of own.split.before ++ (trees_of placed.kept ++ flat_map trees_of own.split.after)
 
     pub catalog_stands : (catalog : ℕ) → catalog ≡ m.catalog
-        → IsTreeAmong between [] around (catalog_at catalog) (map catalog_entry holds.kept)
+        → IsTreeAmong between [] around (catalog_at m.mark catalog) (map (catalog_entry m.mark) holds.kept)
     catalog_stands catalog same =
-        subst (λ (n : ℕ). IsTreeAmong between [] around (catalog_at n) (map catalog_entry holds.kept)) (sym same)
+        subst (λ (n : ℕ). IsTreeAmong between [] around (catalog_at m.mark n) (map (catalog_entry m.mark) holds.kept))
+        (sym same)
         (catalog_among m files holds name held own (named_after named_here changed) (m.generation + 1) between listing
         placed)
 
-    pub holds_after : (pages : List (Option Sector)) (catalog : ℕ) → IsTreeAmong pages [] around (catalog_at catalog)
-        (with_value (map catalog_entry holds.kept) (record { key = padded_name name; value = listing })) →
+    pub holds_after : (pages : List (Option Sector)) (catalog : ℕ) (value : List ℕ)
+        → value ≡ catalog_value m.mark listing (length changed.file.rows)
+        → IsTreeAmong pages [] around (catalog_at m.mark catalog)
+        (with_value (map (catalog_entry m.mark) holds.kept) (record { key = padded_name name; value = value })) →
         is_change changed.outcome ≡ true → AreFiles (files_after name files changed)
         → MapHolds (map_with m.mark (m.generation + 1) catalog pages) (files_after name files changed)
-    holds_after pages catalog stands change are =
+    holds_after pages catalog value valued stands change are =
         let after : files_after name files changed ≡ with_file name changed.file files =
         ap (λ (b : Bool). if b then with_file name changed.file files else files) change in
         subst (λ (l : Files). MapHolds (map_with m.mark (m.generation + 1) catalog pages) l) (sym after)
-        (holds_then m files holds name held own changed.file between pages catalog listing placed stands named
+        (holds_then m files holds name held own changed.file between pages catalog listing value placed stands valued
+        named
         (subst AreFiles after are))
 
   pub will_hold : (p q : PageMap) (image : List Sector) (changed : FileChange)

@@ -9,7 +9,7 @@ ghost use Rattle.records.specs.Stores.{spec_of};
 ghost use Rattle.volume_format.specs.Volume.{MapHolds};
 ghost use Rattle.alternate_keys.specs.Faults.{IsReadFault};
 
-use crate::listing::find_listing;
+use crate::listing::{find_listing, listing_part};
 use file_bytes::{DESCRIPTION_BYTES, spell_description};
 use pages::PageMap;
 use records::{FileSpec, Presence, StoreFault};
@@ -45,7 +45,7 @@ pub(crate) fn find_in<D: Device>(
         None => return Ok(Presence::Absent),
     };
     let spec = spell_description(alloc, file)?;
-    if says(entry.value(), &spec) {
+    if says(listing_part(&entry), &spec) {
         Ok(Presence::Present)
     } else {
         Ok(Presence::Different)

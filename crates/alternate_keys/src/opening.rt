@@ -1,11 +1,11 @@
 //! A volume is made, and opened.
-ghost use Rattle.std.specs.Prelude.{◌≡◌, ◌≢◌, ◌⊎◌, ◌≤◌, ◌↔◌, false, Err, [], IfOk, IfErr, OnOk, OnErr};
+ghost use Rattle.std.specs.Prelude.{◌≡◌, ◌⊎◌, ◌≤◌, ◌↔◌, false, Err, [], IfOk, IfErr, OnOk, OnErr};
 ghost use Rattle.station.specs.State.{state_after_sync, SameConsole};
 ghost use Rattle.station.specs.History.{Through, EachImage};
 ghost use Rattle.station.specs.Failures.{Blames, CountsFailure};
 ghost use Rattle.station.specs.Opening.{IsOpening};
 ghost use Rattle.pages.specs.Layout.{IsForeign};
-ghost use Rattle.pages.specs.Pages.{sectors_of, committed_of, mark_of, is_spent, IsOpen};
+ghost use Rattle.pages.specs.Pages.{sectors_of, committed_of};
 ghost use Rattle.pages.specs.Use.{free_count};
 ghost use Rattle.records.specs.Files.{Files};
 ghost use Rattle.volume_format.specs.Volume.{Holds};
@@ -33,23 +33,6 @@ pub fn format<D: Device>(device: &mut D) -> Result<(), DeviceError>
 {
     empty_holds();
     pages::format(device)
-}
-
-/// The store of the pages of a volume with the first mark. A volume with the second holds no files.
-fn store_of(alloc: Global, pages: PageMap) -> Result<PagedStore, StoreFault>
-    requires open { IsOpen pages }
-    requires unspent { is_spent pages ≡ false }
-    ensures store { IfOk result (λ store. (store.pages ≡ pages) × (store.spent ≡ false)) }
-    ensures refused { IfErr result (λ fault. (fault ≡ StoreFault.Damaged) × (mark_of pages ≢ 0)) }
-{
-    if pages.mark() != 0 {
-        return Err(StoreFault::Damaged);
-    }
-    Ok(PagedStore {
-        alloc,
-        pages,
-        spent: false,
-    })
 }
 
 impl PagedStore {
@@ -95,7 +78,11 @@ impl PagedStore {
             → FailsWith StoreFault.Layout result }
     {
         match PageMap::open(alloc, device, capacity) {
-            Ok(pages) => store_of(alloc, pages),
+            Ok(pages) => Ok(PagedStore {
+                alloc,
+                pages,
+                spent: false,
+            }),
             Err(error) => Err(to_fault(error)),
         }
     }

@@ -11,7 +11,7 @@ ghost use Rattle.volume_format.specs.Volume.{MapHolds};
 ghost use Rattle.alternate_keys.specs.Faults.{IsReadFault};
 
 use crate::file_tree::file_tree;
-use crate::listing::find_listing;
+use crate::listing::{find_listing, listing_part};
 use crate::search_keys::{key_for, search_start_for};
 use crate::seek::seek_row;
 use pages::{PageMap, map_bounds};
@@ -64,8 +64,8 @@ pub(crate) fn seek_in<D: Device>(
         Some(entry) => entry,
         None => return Ok(None),
     };
-    let prime = file_tree(alloc, file, KeyOfReference::Prime, entry.value());
-    let under = file_tree(alloc, file, key, entry.value());
+    let prime = file_tree(alloc, file, KeyOfReference::Prime, listing_part(&entry));
+    let under = file_tree(alloc, file, key, listing_part(&entry));
     let at = key_for(alloc, file, key, side, value, number)?;
     let aim = search_start_for(file, key, side, value, number);
     match seek_row(&prime, &under, pages, device, file, key, aim, &at, bytes) {

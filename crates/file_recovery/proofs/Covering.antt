@@ -103,9 +103,9 @@ none_held m old many none never files holds =
     (catalog_tree m holds.keeps.catalog ∷ flat_map trees_of holds.kept) many none holds.keeps.forest)
 
 -- a catalog whose pages are all that is used is held
-pub catalog_held : (m : Map) (files : Files) (old new : List Bool) → m.mark ≡ 0 → NoneMarked old
+pub catalog_held : (m : Map) (files : Files) (old new : List Bool) → NoneMarked old
     → FindsCatalog m m.generation files old new → IsCovered m.pages new → MapHolds m files
-catalog_held m files old new mark none found covered =
+catalog_held m files old new none found covered =
     let is = found.is in
     let trees : List TreeLevels = catalog_tree m found.catalog ∷ flat_map trees_of found.kept in
     let up : Ascend (keys_listed (entries_of catalog_layout found.catalog)) =
@@ -117,7 +117,6 @@ catalog_held m files old new mark none found covered =
     let same : length (map (λ (one : FileTrees). one.named) found.kept) ≡ length files =
     ap (λ (l : Files). length l) found.are in
     record {
-      mark = mark;
       kept = found.kept;
       keeps = record {
         catalog = found.catalog;

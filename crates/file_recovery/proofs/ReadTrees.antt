@@ -30,10 +30,10 @@ none_marked (suc n) (suc page) = none_marked n page
 -- what was read, of the map before
 module _ (m after : Map) (same : after ≡ m) (generation : ℕ) (is : m.generation ≡ generation) (old : List Bool)
     (none : NoneMarked old) where
-  pub catalog_is_held : m.mark ≡ 0 → (files : Files) (new : List Bool) → FindsCatalog m generation files old new
+  pub catalog_is_held : (files : Files) (new : List Bool) → FindsCatalog m generation files old new
       → IsCovered after.pages new → MapHolds m files
-  catalog_is_held mark files new found covered =
-      catalog_held m files old new mark none (subst (λ (n : ℕ). FindsCatalog m n files old new) (sym is) found)
+  catalog_is_held files new found covered =
+      catalog_held m files old new none (subst (λ (n : ℕ). FindsCatalog m n files old new) (sym is) found)
       (subst (λ (x : Map). IsCovered x.pages new) same covered)
 
   pub none_is_held : length old ≡ length m.pages → NoCatalog m generation old → (files : Files) → MapHolds m files → ⊥

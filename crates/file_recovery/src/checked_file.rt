@@ -1,6 +1,6 @@
 //! A file with its trees, by its entry in the catalog.
-ghost use Rattle.std.specs.Prelude.{◌≡◌, ◌≤◌, ◌<◌, ◌^◌, true, false, Err, IfOk, IfErr};
-ghost use Rattle.pages.specs.Pages.{is_spent, sectors_of, IsOpen};
+ghost use Rattle.std.specs.Prelude.{◌≡◌, ◌≤◌, ◌<◌, ◌^◌, ◌≢◌, ◌⊎◌, true, false, Err, IfOk, IfErr};
+ghost use Rattle.pages.specs.Pages.{mark_of, is_spent, sectors_of, IsOpen};
 ghost use Rattle.btree.specs.Calls.{OnPages};
 ghost use Rattle.btree.specs.Entries.{HasLengths};
 ghost use Rattle.volume_format.specs.Catalog.{catalog_layout};
@@ -18,7 +18,7 @@ use pages::{PageMap, map_bounds};
 use records::{KeyOfReference, StoreFault};
 use station::Device;
 use std::alloc::Global;
-use volume_format::{next_arrival, prime_root, tree_layout};
+use volume_format::{LISTING_BYTES, next_arrival, prime_root, stored_rows, tree_layout};
 
 /// The file of an entry of the catalog, with its rows. The pages of its trees are marked. `Damaged` tells that there is no file with
 /// trees that can be marked of which the entry tells.
@@ -34,17 +34,21 @@ pub(crate) fn check_file<D: Device>(
     requires unspent { is_spent pages.old ≡ false }
     requires sectors { sectors_of pages.old ≤ D.sectors device.old }
     requires generation { generation < 2 ^ 63 }
-    requires lengths { HasLengths catalog_layout entry.now }
+    requires lengths { HasLengths (catalog_layout (mark_of pages.old)) entry.now }
     ensures looks { LooksAt D.Device (result ≡ Err StoreFault.Device) pages.old device.old pages.new
         device.new }
     ensures file { OnPages D.Device pages.old device.old (λ before. IfOk result
-        (λ file. FindsFile before generation entry.now (named_of file) seen.old seen.new)) }
+        (λ file. FindsFile (mark_of pages.old) before generation entry.now (named_of file) seen.old
+        seen.new)) }
     ensures damaged { OnPages D.Device pages.old device.old
-        (λ before. result ≡ Err StoreFault.Damaged → NoFile before generation entry.now seen.old) }
+        (λ before. result ≡ Err StoreFault.Damaged
+        → NoFile (mark_of pages.old) before generation entry.now seen.old) }
     ensures cause { IfErr result IsReadFault }
 {
     map_bounds();
-    let value = entry.value();
+    let mark = pages.mark();
+    let count = stored_rows(mark, entry.value());
+    let value = &entry.value()[..LISTING_BYTES];
     let Some(file) = read_listing(alloc, entry.key(), value)? else {
         return Err(StoreFault::Damaged);
     };
@@ -56,6 +60,9 @@ pub(crate) fn check_file<D: Device>(
     let tree = Tree::new(alloc, layout, prime_root(value));
     check_pages(alloc, &tree, pages, device, seen)?;
     let rows = read_rows(alloc, &file, next, &tree, pages, device)?;
+    if !is_counted(mark, count, rows.len()) {
+        return Err(StoreFault::Damaged);
+    }
     check_alternates(alloc, &file, value, &rows, pages, device, seen)?;
     Ok(StoredFile {
         spec: file,
@@ -70,4 +77,12 @@ fn is_next(next: u64, generation: u64) -> bool
     ensures no { result ≡ false → 1 ≤ next → next ≤ generation → ⊥ }
 {
     1 <= next && next <= generation
+}
+
+/// Whether a number of rows in the catalog, which only a volume with the second mark has, is the number of the rows that were read.
+fn is_counted(mark: usize, count: u64, rows: usize) -> bool
+    ensures yes { result ≡ true → (mark ≡ 0) ⊎ (count ≡ rows) }
+    ensures no { result ≡ false → (0 < mark) × (count ≢ rows) }
+{
+    mark == 0 || count == rows as u64
 }

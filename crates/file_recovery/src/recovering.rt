@@ -73,9 +73,6 @@ fn read_volume<D: Device>(
         → ⊥) }
     ensures cause { IfErr result IsReadFault }
 {
-    if pages.mark() != 0 {
-        return Err(StoreFault::Damaged);
-    }
     let mut seen = vec![in alloc; false; pages.page_count()]?;
     let files = read_catalog(alloc, pages.generation(), pages, device, &mut seen)?;
     if !are_covered(pages, &seen) {

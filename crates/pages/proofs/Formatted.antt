@@ -106,7 +106,7 @@ module _ (base : List Sector) (sectors : ℕ) (bytes : Sector) (all : length bas
   empty_holds = (
     empty_volume sectors,
     empty_reads,
-    ap (λ (pages : List (Option Sector)). record { mark = 0; generation = 0; catalog = 0; pages = pages })
+    ap (λ (pages : List (Option Sector)). record { mark = 1; generation = 0; catalog = 0; pages = pages })
         (no_pages image (1024 * map_count sectors)),
   )
 

@@ -12,6 +12,9 @@ use roots::{PAYLOAD_AT, put_head};
 /// The marks of a volume of pages, in the order of their introduction.
 pub(crate) const FAMILY: [[u8; 8]; 2] = [*b"COBVOL01", *b"COBVOL02"];
 
+/// The index of the mark of a new volume.
+pub(crate) const NEW_MARK: usize = 1;
+
 /// The marks of the other format.
 pub(crate) const FOREIGN_FAMILY: [[u8; 8]; 1] = [*b"COBHALF1"];
 

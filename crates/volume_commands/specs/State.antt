@@ -19,9 +19,10 @@ pub record IsNewest (known : List Family) (image : List Sector) (root : Root) : 
   pub reads : roots_in known image ≡ Ok roots
   pub newest : roots.newest ≡ root
 
--- the generation and the sectors are those of the newest root
+-- the mark, the generation and the sectors are those of the newest root
 pub record HasRoot (known : List Family) (image : List Sector) (state : VolumeState) (root : Root) : Type 0 where
   pub is : IsNewest known image root
+  pub version : state.version ≡ root.mark.version
   pub generation : state.generation ≡ root.generation
   pub sectors : state.sectors ≡ root.sectors
 

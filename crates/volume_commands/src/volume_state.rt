@@ -36,6 +36,8 @@ pub enum Layout {
 #[derive(Clone, Copy, PartialEq, Eq)]
 pub struct VolumeState {
     pub layout: Layout,
+    /// Which of the layout's marks the newest root has, counted from 0.
+    pub version: usize,
     /// How many commits there were.
     pub generation: u64,
     pub sectors: u32,
@@ -93,6 +95,7 @@ fn read_trees<D: Device>(device: &mut D, free: u32) -> Result<VolumeState, Volum
     let root = read_root(device, &[&TREES, &HALVES])?;
     Ok(VolumeState {
         layout: Layout::Trees,
+        version: root.mark.version,
         generation: root.generation,
         sectors: root.sectors,
         free,
@@ -113,6 +116,7 @@ fn read_halves<D: Device>(device: &mut D) -> Result<VolumeState, VolumeError>
     let root = read_root(device, &[&HALVES, &TREES])?;
     Ok(VolumeState {
         layout: Layout::Halves,
+        version: root.mark.version,
         generation: root.generation,
         sectors: root.sectors,
         free: free_in_half(&root),

@@ -23,7 +23,6 @@ no_files = record { ascend = tt; each = tt; count = omega arith }
 
 pub empty_holds : (sectors : ℕ) → MapHolds (empty_map sectors) []
 empty_holds sectors = record {
-  mark = refl;
   kept = [];
   keeps = record {
     catalog = [];
@@ -51,7 +50,6 @@ next_kept m kept is = record {
 
 pub next_holds : (m : Map) (files : Files) → MapHolds m files → MapHolds (next_generation m) files
 next_holds m files holds = record {
-  mark = holds.mark;
   kept = holds.kept;
   keeps = record {
     catalog = holds.keeps.catalog;

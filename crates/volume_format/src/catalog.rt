@@ -2,20 +2,20 @@
 ghost use Rattle.std.specs.Prelude.{◌≡◌};
 ghost use Rattle.volume_format.specs.Catalog.{catalog_layout};
 
-use crate::listing::LISTING_BYTES;
+use crate::listing::value_bytes;
 use btree::Tree;
 use btree_pages::RowLayout;
 use file_bytes::NAME_BYTES;
 use std::alloc::Global;
 
-/// The tree of the catalog with this root.
-pub fn catalog_tree(alloc: Global, root: u32) -> Tree
-    ensures layout { result.layout ≡ catalog_layout }
+/// The tree of the catalog with this root, on a volume with this mark.
+pub fn catalog_tree(alloc: Global, mark: usize, root: u32) -> Tree
+    ensures layout { result.layout ≡ catalog_layout mark }
     ensures root { result.root ≡ root }
 {
     let layout = RowLayout {
         key_length: NAME_BYTES,
-        value_length: LISTING_BYTES,
+        value_length: value_bytes(mark),
     };
     Tree::new(alloc, layout, root)
 }

@@ -64,12 +64,7 @@ returns-clause-holds g c = λ honest agrees.
     with_items_is c.in_ok-seen.seen new (c.read_catalog.auto.seen ∙ c.deref_mut.ensures.len) in
     let marked : c.deref.result.now ≡ new = c.deref.ensures.value ∙ kept in
     catalog_is_held m after (c.read_catalog.ensures.looks.unchanged.map image)
-    c.generation.result (c.generation.ensures.is image) old none
-    (sym c.mark.ensures.is ∙ c.if-mark-ne0.false) (files_of c.in_ok-files.files.items) new
+    c.generation.result (c.generation.ensures.is image) old none (files_of c.in_ok-files.files.items) new
     (c.in_ok-files.ensures.files honest agrees)
     (subst (λ (l : List Bool). IsCovered after.pages l) marked
     (c.are_covered.ensures.yes c.if-not-are_covered.false image))
-
-pub returns-then-mark-ne0-clause-damaged : goal.returns-then-mark-ne0-clause-damaged
-returns-then-mark-ne0-clause-damaged g c = λ honest agrees told files holds.
-    c.if-mark-ne0.true (c.mark.ensures.is ∙ holds.mark)

@@ -11,7 +11,7 @@ returns c =
     = ap (λ (n : ℕ). take n blanks) c.map_count_of.ensures
     ∙ take-replicate {X = ℕ} (map_count c.args.sectors) 900 0 (omega (arith, c.requires.most)) in
     subst (λ (l : List ℕ). SpellsRoot (record {
-      mark = 0;
+      mark = 1;
       generation = 0;
       sectors = c.args.sectors;
       catalog = 0;
