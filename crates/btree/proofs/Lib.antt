@@ -48,4 +48,6 @@ pub mod Stays
 pub mod There
 pub mod Stepping
 pub mod Passing
+pub mod Building
+pub mod Counting
 mod Examples
