@@ -386,7 +386,8 @@ module _ (items : List LocatedItem) (tables : DataTables) (order : IsTables tabl
 module _ (items : List LocatedItem) (tables : DataTables) (order : IsTables tables) where
   -- INSPECT, with counters, texts and lengths
   abbrev ends : layout.Inspection → ItemPlace → Scratch → List ItemPlace → List ℕ → List TextLength → Step
-  ends how subject s counters texts found = step_with (inspect_at (with_lengths found how) texts counters subject s.storage)
+  ends how subject s counters texts found =
+      step_with (inspect_at (with_lengths found how) texts counters subject s.storage)
       (λ after. Continues (record s { storage = after; line = [] }))
 
   -- with the counters' places on the stack, above the subject's
@@ -445,7 +446,8 @@ module _ (items : List LocatedItem) (tables : DataTables) (order : IsTables tabl
       ∙ ap (λ o. step_at o (λ (x : Inspection).
       at_numbers (suc n) (λ ns v. inspected_with tables (measured_inspection ns x) v) t)) has.entry
       ∙ at_lengths found s.numbers (suc n) (λ ns v. inspected_with tables (measured_inspection ns has.one) v) u so_many
-      ∙ inspected_works now (with_lengths found how) size p subject (measured_is found has.one how has.is) has.size_is at ps
+      ∙ inspected_works now (with_lengths found how) size p subject (measured_is found has.one how has.is) has.size_is
+      at ps
       rs are many line s
 
   -- with nothing in the line
@@ -547,7 +549,8 @@ module _ (items : List LocatedItem) (tables : DataTables) (order : IsTables tabl
       at_numbers (suc n) (λ ns v. at_place tables (converted_at (measured_inspection ns x)) v) t)) has.entry
       ∙ at_lengths found s.numbers (suc n) (λ ns v. at_place tables (converted_at (measured_inspection ns has.one)) v) u
       so
-      ∙ converted_works now (with_lengths found how) size p subject (measured_is found has.one how has.is) has.size_is at
+      ∙ converted_works now (with_lengths found how) size p subject (measured_is found has.one how has.is) has.size_is
+      at
       line
       s
 

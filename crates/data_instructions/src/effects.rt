@@ -8,7 +8,7 @@ ghost use Rattle.data_instructions.specs.Shapes as spec;
 
 use crate::calculation::Calculation;
 use crate::gather::Gather;
-use crate::index::{InspectionIndex, ItemIndex, TextIndex};
+use crate::index::{InspectionIndex, ItemIndex, NumberIndex, TextIndex};
 use crate::instruction::DataInstruction;
 use crate::part::Part;
 use crate::shape::{PlaceShape, Shape, Stacks};
@@ -174,6 +174,21 @@ fn and_one(stacks: Stacks) -> Result<Option<Stacks>, AllocError>
     ensures { IfOk result (λ after. after ≡ spec.and_one stacks) }
 {
     and_more(1, stacks)
+}
+
+/// One number more, if the literal is there.
+fn and_literal(
+    tables: &DataTables,
+    index: NumberIndex,
+    stacks: Stacks,
+) -> Result<Option<Stacks>, AllocError>
+    ensures { IfOk result (λ after. after
+        ≡ spec.and_then (slice_get tables.now.numbers index.number) (λ x. spec.and_one stacks)) }
+{
+    match tables.numbers.get(index.number as usize) {
+        Some(_) => and_one(stacks),
+        None => Ok(None),
+    }
 }
 
 /// A new place.
@@ -521,10 +536,7 @@ fn stacks_after(
             None => Ok(None),
         },
         DataInstruction::Push => and_one_of(without_place(stacks)),
-        DataInstruction::Literal { number } => match tables.numbers.get(number.number as usize) {
-            Some(_) => and_one(stacks),
-            None => Ok(None),
-        },
+        DataInstruction::Literal { number } => and_literal(tables, number, stacks),
         DataInstruction::Calculate(calculation) => calculating(calculation, stacks),
         DataInstruction::Store { .. } => Ok(storing(stacks)),
         DataInstruction::Test(test) => Ok(stacks_tested(test, stacks)),

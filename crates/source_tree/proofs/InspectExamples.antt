@@ -14,6 +14,7 @@ use Rattle.source_tree.specs.declared.inspect_statement.Tallying.{Tallying}
 use Rattle.source_tree.specs.declared.inspect_statement.Replacing.{Replacing}
 use Rattle.source_tree.specs.declared.inspect_statement.Replacing.TheVariants as replacing
 use Rattle.source_tree.specs.declared.inspect_statement.InspectStatement.{InspectStatement}
+use Rattle.source_tree.specs.declared.inspect_statement.Converting.{Converting}
 use Rattle.source_tree.specs.Broken.{RuleBreach}
 use Rattle.source_tree.specs.Places.{items_of}
 use Rattle.source_tree.specs.Storage.{Storage}
@@ -21,6 +22,7 @@ use Rattle.source_tree.specs.Evaluated as fault
 use Rattle.source_tree.specs.Evaluated.{Evaluation}
 use Rattle.source_tree.specs.Inspecting.{inspect}
 use Rattle.source_tree.specs.InspectRules.{inspect_rules}
+use Rattle.source_tree.specs.Converting.{convert, convert_rules}
 use Rattle.source_tree.proofs.Samples.{group, item, occurring, binary, packed, entries, number, text, constant}
 use Rattle.source_tree.proofs.Samples.{reference, plain, by_item, the_item, the_literal}
 unfoldable use Rattle.source_tree.proofs.Computing.{computing}
@@ -327,3 +329,42 @@ characters_broken : (one_for_each (the_literal (text (codes "A"))) anywhere ≡ 
     ≡ 40 ∷ 64 ∷ [])
 unfolding computing
 characters_broken = (refl, refl, refl, refl, refl, refl, refl)
+
+-- ---- CONVERTING
+
+abbrev conversion_of : List ℕ → Operand → Operand → Limits → Converting
+conversion_of subject from by limits =
+    record { subject = plain subject; texts = record { text = from; by = by; limits = limits } }
+
+abbrev seven : List Entry
+seven = entries (item (codes "77") (codes "T") (codes "X(7)") ∷ [])
+
+abbrev converted : List ℕ → Operand → Operand → Limits → Evaluation Storage
+converted subject from by limits = convert (items_of seven) (conversion_of (codes "T") from by limits) (subject ∷ [])
+
+-- "ABC" TO "123", the same AFTER INITIAL "A", the same BEFORE INITIAL "G"; "AA" TO "12"; "AB" TO SPACE
+conversions :
+    (converted (codes "CABBAGE") (the_literal (text (codes "ABC"))) (the_literal (text (codes "123"))) anywhere
+    ≡ Ok (codes "31221GE" ∷ []))
+    × (converted (codes "CABBAGE") (the_literal (text (codes "ABC"))) (the_literal (text (codes "123")))
+    (after_text (codes "A")) ≡ Ok (codes "CA221GE" ∷ []))
+    × (converted (codes "CABBAGE") (the_literal (text (codes "EG"))) (the_literal (text (codes "12")))
+    (before_text (codes "G")) ≡ Ok (codes "CABBAGE" ∷ []))
+    × (converted (codes "CABBAGE") (the_literal (text (codes "AA"))) (the_literal (text (codes "12"))) anywhere
+    ≡ Ok (codes "C1BB1GE" ∷ []))
+    × (converted (codes "CABBAGE") (the_literal (text (codes "AB"))) (the_literal (constant figurative.Space)) anywhere
+    ≡ Ok (codes "C    GE" ∷ []))
+unfolding computing replaced_subject walk
+conversions = (refl, refl, refl, refl, refl)
+
+abbrev conversion_rules : List ℕ → Operand → Operand → List ℕ
+conversion_rules subject from by = rules (convert_rules (items_of operands) (conversion_of subject from by anywhere))
+
+conversions_broken :
+    (conversion_rules (codes "X") (the_literal (text (codes "AB"))) (the_literal (text (codes "CD"))) ≡ [])
+    × (conversion_rules (codes "X") (the_item (codes "Y")) (the_literal (constant figurative.Zero)) ≡ [])
+    × (conversion_rules (codes "X") (the_literal (text (codes "AB"))) (the_literal (text (codes "C"))) ≡ 64 ∷ [])
+    × (conversion_rules (codes "S") (the_literal (text (codes "AB"))) (the_literal (text (codes "CD"))) ≡ 64 ∷ [])
+    × (conversion_rules (codes "Q") (the_literal (text (codes "AB"))) (the_literal (text (codes "CD"))) ≡ 40 ∷ [])
+unfolding computing
+conversions_broken = (refl, refl, refl, refl, refl)

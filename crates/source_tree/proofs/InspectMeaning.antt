@@ -625,7 +625,8 @@ module _ (items : List LocatedItem) (one : InspectStatement) (storage : Storage)
       let put = λ (x y : List Entry) (t : List ℕ) (p : List ItemPlace).
       inspect_at (record how { tallying = x; replacing = y }) t p subject storage in
       ap
-      (λ (l : List TextLength). inspect_at (with_lengths l how) (a.texts ++ bytes_of b) (a.counters ++ []) subject storage)
+      (λ (l : List TextLength).
+      inspect_at (with_lengths l how) (a.texts ++ bytes_of b) (a.counters ++ []) subject storage)
       lengths
       ∙ ap (λ l. put l (map (measured_entry (length_at (lengths_from 0 cells))) how.replacing)
       (a.texts ++ bytes_of b) (a.counters ++ []))
