@@ -1,5 +1,5 @@
 -- The turn of an alternate key, while the pairs of a row move.
-use Rattle.std.proofs.Common.{◌≡◌, ◌<◌, ◌+◌, ◌++◌, ℕ, List, [], ◌∷◌, length, drop, sym, ap, subst, ◌∙◌}
+use Rattle.std.proofs.Common.{◌≡◌, ◌<◌, ◌+◌, ◌++◌, ℕ, List, [], ◌∷◌, length, drop, subst, ◌∙◌}
 use Rattle.std.specs.Prelude.{Option, slice_index_or}
 use Rattle.station.specs.Disk.{Sector}
 use Rattle.btree.specs.Rooted.{RootedTree}

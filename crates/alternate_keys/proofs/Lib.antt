@@ -42,7 +42,6 @@ pub mod Committing
 pub mod WriteCalls
 pub mod Heads
 pub mod Empties
-pub mod Counted
 pub mod Added
 pub mod MadeFile
 pub mod Making

@@ -11,7 +11,7 @@ use Rattle.records.specs.declared.key.KeyOfReference.TheVariants.{Prime, Alterna
 use Rattle.records.specs.Spec.{Spec, is_spec}
 use Rattle.records.specs.Rows.{Row, Pair}
 use Rattle.records.specs.Changes as rows
-use Rattle.records.specs.Changes.{FileChange, row_at, removal, removed_row, without_change}
+use Rattle.records.specs.Changes.{row_at, removal, removed_row, without_change}
 use Rattle.records.specs.Files.{File, NamedFile}
 use Rattle.records.specs.Laws.{RowsAscend}
 use Rattle.volume_format.specs.Trees.{entry_under, key_under, layout_under, AreOf}

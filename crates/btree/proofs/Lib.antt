@@ -48,4 +48,5 @@ pub mod Stays
 pub mod There
 pub mod Stepping
 pub mod Passing
+pub mod Ascending
 mod Examples

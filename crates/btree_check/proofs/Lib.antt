@@ -1,3 +1,3 @@
-mod Marking
+pub mod Marking
 mod Walking
 mod Checking

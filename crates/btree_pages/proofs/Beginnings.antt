@@ -15,14 +15,14 @@ zeros_by Less x r is rest = let low : x < 0 = ranked x 0 Less is in absurd (omeg
 zeros_by Equal x r is rest = rest
 zeros_by Greater x r is rest = refl
 
-zeros_least : (count : ℕ) (key : List ℕ) → length key ≡ count → is_lt (key_cmp key (replicate count 0)) ≡ false
+pub zeros_least : (count : ℕ) (key : List ℕ) → length key ≡ count → is_lt (key_cmp key (replicate count 0)) ≡ false
 zeros_least zero [] is = refl
 zeros_least zero (x ∷ key) is = absurd (omega (arith, is))
 zeros_least (suc n) [] is = absurd (omega (arith, is))
 zeros_least (suc n) (x ∷ key) is =
     zeros_by (nat_cmp x 0) x (key_cmp key (replicate n 0)) refl (zeros_least n key (omega (arith, is)))
 
-then_same_lt : (o r s : Ordering) → is_lt r ≡ is_lt s → is_lt (ordering_then o r) ≡ is_lt (ordering_then o s)
+pub then_same_lt : (o r s : Ordering) → is_lt r ≡ is_lt s → is_lt (ordering_then o r) ≡ is_lt (ordering_then o s)
 then_same_lt Less r s same = refl
 then_same_lt Equal r s same = same
 then_same_lt Greater r s same = refl

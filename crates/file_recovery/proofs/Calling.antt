@@ -1,13 +1,11 @@
 -- Calls on pages, one after the other.
 use Rattle.std.proofs.Common.{◌≡◌, ◌≤◌, ◌⊎◌, false, ◌∙◌, ap, arith}
-use Rattle.station.specs.Calls.{OnlyReads}
 use Rattle.station.specs.declared.device.Device.{Ghosts as Devices}
-use Rattle.station.proofs.Calls.{reads_nothing, reads_then}
-use Rattle.pages.specs.Pages.{sectors_of, is_spent, IsOpen}
+use Rattle.pages.specs.Pages.{sectors_of, is_spent}
 use Rattle.pages.specs.declared.page_map.PageMap.{PageMap}
 use Rattle.pages.specs.declared.volume.VolumeMap.{VolumeMap}
 use Rattle.btree.specs.Calls.{pages_on}
-use Rattle.btree.proofs.Frames.{unchanged_still, unchanged_on, same_pages}
+use Rattle.btree.proofs.Frames.{same_pages}
 use Rattle.volume_format.specs.Calls.{LooksAt}
 
 module _ {D : Type 0} (d : Devices D) where

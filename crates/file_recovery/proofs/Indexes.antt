@@ -13,7 +13,7 @@ use Rattle.records.specs.Rows.{Row}
 use Rattle.volume_format.specs.Forest.{TreeLevels, IsTreeIn, pages_under, pages_within}
 use Rattle.volume_format.specs.Volume.{no_tree}
 use Rattle.file_recovery.specs.Found.{root_at, HasIndex, AreIndexes, FindsIndexes, FindsIndex, NoIndex}
-use Rattle.file_recovery.proofs.Marking.{marks_none, marks_append, can_left, can_after}
+use Rattle.btree_check.proofs.Marking.{marks_none, marks_append, can_left, can_after}
 use Rattle.file_recovery.proofs.OneKept.{one_planted}
 
 module _ (pages : List (Option Sector)) (spec : Spec) (rows : List Row) (value : List ℕ) where

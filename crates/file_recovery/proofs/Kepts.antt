@@ -29,7 +29,7 @@ use Rattle.file_recovery.specs.Kept.{IsCatalogFile, FindsFile}
 use Rattle.file_recovery.specs.Read.{roots_in, listing_in}
 use Rattle.file_recovery.specs.Rows.{IsSized}
 use Rattle.file_recovery.proofs.Headings.{IsHeading}
-use Rattle.file_recovery.proofs.Marking.{marks_append}
+use Rattle.btree_check.proofs.Marking.{marks_append}
 use Rattle.file_recovery.proofs.OneKept.{one_planted}
 
 -- the rows of a file have the lengths that its spec tells

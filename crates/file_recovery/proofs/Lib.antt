@@ -1,5 +1,5 @@
 pub mod ReadBack
-pub mod Walks
+pub mod Passed
 pub mod Calling
 pub mod Faults
 pub mod Entered
@@ -8,7 +8,6 @@ pub mod Halving
 pub mod PairsOf
 pub mod Placed
 pub mod Strays
-pub mod Marking
 pub mod OneKept
 pub mod Indexes
 pub mod Ascents

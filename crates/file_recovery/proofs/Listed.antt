@@ -19,9 +19,10 @@ use Rattle.volume_format.proofs.Forests.{all_left, all_right}
 use Rattle.file_recovery.specs.Kept.{IsCatalogFile, FindsFile, NoFile, IsCatalog, FindsCatalog}
 use Rattle.file_recovery.specs.Listed.{AreFound, FindsFiles, NoFiles, pages_of_files}
 use Rattle.file_recovery.proofs.Entered.{all_behind}
-use Rattle.file_recovery.proofs.Marking.{marks_none, marks_append, can_left, can_after}
+use Rattle.btree_check.proofs.Marking.{marks_none, marks_append, can_left, can_after}
 use Rattle.file_recovery.proofs.OneFound.{one_list_of_trees}
-use Rattle.file_recovery.proofs.Walks.{entry_at, taken_more, some_at}
+use Rattle.btree.proofs.Ascending.{entry_at, some_at}
+use Rattle.file_recovery.proofs.Passed.{taken_more}
 
 -- the item that an entry is of, and those after it
 record Splits {X : Type 0} (f : X → Entry) (P : X → Type 0) (n : ℕ) (entry : Entry) (items : List X) : Type 0 where

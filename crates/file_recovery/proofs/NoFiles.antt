@@ -24,7 +24,7 @@ use Rattle.file_recovery.specs.Rows.{NoRows}
 use Rattle.file_recovery.proofs.Headings.{IsHeading}
 use Rattle.file_recovery.proofs.Kepts.{own_root, own_entries, own_rows, own_indexes, prime_layout_is, same_prime}
 use Rattle.file_recovery.proofs.Kepts.{same_rows}
-use Rattle.file_recovery.proofs.Marking.{can_left, can_after}
+use Rattle.btree_check.proofs.Marking.{can_left, can_after}
 
 -- The entry spells a file, and this tree has the layout and the root of its rows.
 module _ (pages : List (Option Sector)) (generation : ℕ)

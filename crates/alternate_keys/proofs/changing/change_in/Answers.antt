@@ -1,4 +1,4 @@
-use Rattle.std.proofs.Common.{◌≡◌, inr, Bool, true, false, Err, List, ℕ, length, sym, ap, subst, ◌∙◌, arith}
+use Rattle.std.proofs.Common.{◌≡◌, inr, Bool, false, Err, List, ℕ, length, sym, ap, subst, ◌∙◌, arith}
 use Rattle.std.specs.Prelude.{if◌then◌else◌, IfErr}
 use Rattle.station.specs.State.{State}
 use Rattle.station.proofs.Calls.{reads_writes, blamed_where, writes_then}

@@ -4,7 +4,7 @@ use Rattle.std.specs.Prelude.{Option, slice_index_or}
 use Rattle.station.specs.Disk.{Sector}
 use Rattle.station.specs.State.{State}
 use Rattle.pages.specs.Pages.{map_now}
-use Rattle.records.specs.declared.fault.StoreFault.TheVariants.{Device, Damaged}
+use Rattle.records.specs.declared.fault.StoreFault.TheVariants.{Device}
 use Rattle.volume_format.specs.Catalog.{Listing}
 use Rattle.volume_format.specs.Forest.{TreeLevels, IsForest}
 use Rattle.volume_format.specs.Volume.{listing_of, no_tree}

@@ -1,9 +1,8 @@
-use Rattle.std.proofs.Common.{◌≡◌, ◌++◌, Err, List, sym, ap, subst, ◌∙◌, arith}
+use Rattle.std.proofs.Common.{◌≡◌, ◌++◌, List, sym, subst, ◌∙◌, arith}
 use Rattle.std.specs.Prelude.{Option, OnOk, IfErr}
 use Rattle.station.specs.Disk.{Sector}
 use Rattle.station.specs.State.{State}
 use Rattle.pages.specs.Pages.{map_now}
-use Rattle.records.specs.declared.fault.StoreFault.TheVariants.{Damaged}
 use Rattle.volume_format.specs.Forest.{IsForest}
 use Rattle.volume_format.specs.Volume.{FileTrees, listing_of}
 use Rattle.alternate_keys.proofs.FileTrees.{prime_told, good_spec, all_stored}

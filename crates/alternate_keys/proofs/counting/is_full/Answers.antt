@@ -12,12 +12,12 @@ use Rattle.btree.specs.Laws.{keys_listed}
 use Rattle.btree.specs.Tree.{IsTreeOrEmpty}
 use Rattle.btree.proofs.Frames.{same_pages}
 use Rattle.btree.proofs.There.{tree_ascends}
-use Rattle.records.specs.declared.fault.StoreFault.TheVariants.{Device, Damaged}
+use Rattle.records.specs.declared.fault.StoreFault.TheVariants.{Device}
 use Rattle.records.specs.Files.{Files}
 use Rattle.volume_format.specs.Volume.{FileTrees, catalog_entry}
 use Rattle.volume_format.proofs.Looks.{looks_blamed, looks_then}
 use Rattle.alternate_keys.proofs.Catalogs.{catalog_holds}
-use Rattle.alternate_keys.proofs.Counted.{entry_at, first_at, next_at, none_at, some_at}
+use Rattle.btree.proofs.Ascending.{entry_at, first_at, next_at, none_at, some_at}
 use Rattle.alternate_keys.proofs.Faults.{refused_by_call}
 use Rattle.alternate_keys.proofs.counting.is_full.Goals as goal
 

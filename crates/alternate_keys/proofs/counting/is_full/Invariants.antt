@@ -3,7 +3,7 @@ use Rattle.std.specs.Prelude.{map}
 use Rattle.volume_format.specs.Volume.{catalog_entry}
 use Rattle.volume_format.specs.Calls.{LooksAt}
 use Rattle.alternate_keys.specs.Created.{OnFiles}
-use Rattle.alternate_keys.proofs.Counted.{entry_at}
+use Rattle.btree.proofs.Ascending.{entry_at}
 use Rattle.alternate_keys.proofs.counting.is_full.Given as goal
 
 abbrev pub invariant-loop-turn : goal.invariant-loop-turn

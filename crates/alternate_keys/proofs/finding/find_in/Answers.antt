@@ -1,9 +1,7 @@
-use Rattle.std.proofs.Common.{◌≡◌, List, ℕ, Err, true, false, sym, ap, subst, ◌∙◌}
+use Rattle.std.proofs.Common.{◌≡◌, List, ℕ, true, false, sym, ap, subst, ◌∙◌}
 use Rattle.std.specs.Prelude.{take, IfErr}
-use Rattle.std.proofs.lemmas.Result.{err_from_is_err_and}
 use Rattle.pages.specs.Image.{Map}
 use Rattle.pages.specs.Pages.{map_now}
-use Rattle.records.specs.declared.fault.StoreFault.TheVariants.{Damaged}
 use Rattle.records.specs.Spec.{Spec}
 use Rattle.records.specs.Rows.{same_bytes}
 use Rattle.records.specs.Files.{file_at}

@@ -1,6 +1,4 @@
-use Rattle.std.proofs.Common.{◌≡◌, Err}
-use Rattle.std.proofs.lemmas.Result.{err_from_is_err_and}
-use Rattle.pages.specs.declared.error.PagesError.TheVariants.{Damaged}
+use Rattle.std.proofs.Common.{◌≡◌}
 use Rattle.alternate_keys.proofs.Faults.{refused_by_call}
 use Rattle.alternate_keys.proofs.found_rows.is_repeated.Goals as goal
 

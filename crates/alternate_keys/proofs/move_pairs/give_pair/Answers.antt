@@ -1,10 +1,10 @@
-use Rattle.std.proofs.Common.{◌≡◌, ◌++◌, true, false, Ok, Err, ℕ, List, sym, ap, subst, ◌∙◌, refl}
+use Rattle.std.proofs.Common.{◌≡◌, ◌++◌, true, false, Ok, ℕ, List, sym, ap, subst, ◌∙◌, refl}
 use Rattle.std.specs.Prelude.{Option, is_some, IfErr}
 use Rattle.station.specs.Disk.{Sector}
 use Rattle.byteorder.specs.Endian.{big_bytes}
 use Rattle.pages.specs.Pages.{map_now}
 use Rattle.btree.specs.Entries.{Entry, entry_with, with_new_entry}
-use Rattle.records.specs.declared.fault.StoreFault.TheVariants.{Full, Damaged}
+use Rattle.records.specs.declared.fault.StoreFault.TheVariants.{Damaged}
 use Rattle.records.specs.declared.file_spec.KeyPlace.{KeyPlace}
 use Rattle.records.specs.Rows.{part}
 use Rattle.records.specs.Stores.{spec_of}

@@ -1,4 +1,4 @@
-use Rattle.std.proofs.Common.{◌≡◌, Bool, true, Err, ℕ, List, sym, ap, subst, ◌∙◌, arith}
+use Rattle.std.proofs.Common.{◌≡◌, Bool, true, ℕ, List, sym, ap, subst, ◌∙◌, arith}
 use Rattle.std.specs.Prelude.{Option, if◌then◌else◌}
 use Rattle.station.specs.Disk.{Sector}
 use Rattle.station.specs.State.{State}
@@ -6,7 +6,6 @@ use Rattle.pages.specs.Use.{free_count}
 use Rattle.pages.specs.Pages.{map_now}
 use Rattle.btree.specs.Entries.{Entry, with_new_entry, without_entry}
 use Rattle.btree.specs.Rooted.{RootedTree}
-use Rattle.records.specs.declared.fault.StoreFault.TheVariants.{Full, Damaged}
 use Rattle.records.specs.Spec.{Spec}
 use Rattle.records.specs.Stores.{spec_of}
 use Rattle.volume_format.specs.Grows.{IsTreeAmong}

@@ -1,6 +1,5 @@
 use Rattle.std.proofs.Common.{◌≡◌, ◌≤◌, List, Err, sym, ap, subst, ◌∙◌, arith}
 use Rattle.std.specs.Prelude.{Option}
-use Rattle.std.proofs.lemmas.Result.{err_from_is_err_and}
 use Rattle.station.specs.Disk.{Sector}
 use Rattle.pages.specs.Pages.{map_now}
 use Rattle.pages.specs.declared.error.PagesError.TheVariants as pages

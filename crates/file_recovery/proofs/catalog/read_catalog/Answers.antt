@@ -18,7 +18,7 @@ use Rattle.file_bytes.specs.Stored.{named_of, files_of}
 use Rattle.volume_format.proofs.Looks.{looks_then}
 use Rattle.file_recovery.proofs.Calling.{pages_kept}
 use Rattle.file_recovery.proofs.Listed.{finds_catalog, catalog_grows, catalog_found}
-use Rattle.file_recovery.proofs.Marking.{can_left, can_after}
+use Rattle.btree_check.proofs.Marking.{can_left, can_after}
 use Rattle.file_recovery.proofs.catalog.read_catalog.Goals as goal
 
 both_if_ok : {T E : Type 0} (r : Result T E) (P Q R : T → Type 0) → ((x : T) → P x → Q x → R x) → IfOk r P → IfOk r Q

@@ -15,7 +15,8 @@ use Rattle.file_bytes.specs.Stored.{files_of}
 use Rattle.volume_format.proofs.Looks.{looks_blamed, looks_then}
 use Rattle.file_recovery.proofs.Calling.{pages_kept}
 use Rattle.file_recovery.proofs.Listed.{no_files, one_more_file, at_first, goes_on, none_here, too_many}
-use Rattle.file_recovery.proofs.Walks.{entry_at, first_at, next_at, taken_all}
+use Rattle.btree.proofs.Ascending.{entry_at, first_at, next_at}
+use Rattle.file_recovery.proofs.Passed.{taken_all}
 use Rattle.file_recovery.proofs.catalog.read_files.Goals as goal
 
 pub loop-turn-init : goal.loop-turn-init

@@ -6,7 +6,7 @@ use Rattle.volume_format.specs.Calls.{LooksAt}
 use Rattle.file_recovery.specs.Listed.{FindsFiles}
 use Rattle.file_bytes.specs.Stored.{files_of}
 use Rattle.file_recovery.proofs.Listed.{CanGoOn}
-use Rattle.file_recovery.proofs.Walks.{entry_at}
+use Rattle.btree.proofs.Ascending.{entry_at}
 use Rattle.file_recovery.proofs.catalog.read_files.Given as goal
 
 abbrev pub invariant-loop-turn : goal.invariant-loop-turn

@@ -15,8 +15,9 @@ use Rattle.volume_format.proofs.Looks.{looks_blamed, looks_then}
 use Rattle.file_recovery.proofs.Calling.{pages_kept}
 use Rattle.file_recovery.proofs.Matching.{are_pairs, as_many}
 use Rattle.file_recovery.proofs.PairsOf.{primes_ascend}
-use Rattle.file_recovery.proofs.Walks.{entry_at, entry_in, first_at, next_at, none_at, some_at, none_passed, one_passed}
-use Rattle.file_recovery.proofs.Walks.{each_passed, taken_all}
+use Rattle.btree.proofs.Ascending.{entry_at, first_at, next_at, none_at, some_at}
+use Rattle.file_recovery.proofs.Passed.{entry_in, none_passed, one_passed}
+use Rattle.file_recovery.proofs.Passed.{each_passed, taken_all}
 use Rattle.file_recovery.proofs.pairs.check_index.Goals as goal
 
 pub loop-turn-init : goal.loop-turn-init

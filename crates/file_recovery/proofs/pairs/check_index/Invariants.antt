@@ -6,7 +6,7 @@ use Rattle.records.specs.Stores.{spec_of}
 use Rattle.volume_format.specs.Calls.{LooksAt}
 use Rattle.file_recovery.specs.Rows.{IsPairOf}
 use Rattle.file_bytes.specs.Stored.{rows_of}
-use Rattle.file_recovery.proofs.Walks.{entry_at}
+use Rattle.btree.proofs.Ascending.{entry_at}
 use Rattle.file_recovery.proofs.pairs.check_index.Given as goal
 
 abbrev pub invariant-loop-turn : goal.invariant-loop-turn

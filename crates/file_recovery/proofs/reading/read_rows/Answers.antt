@@ -18,7 +18,8 @@ use Rattle.file_bytes.specs.Stored.{rows_of}
 use Rattle.volume_format.proofs.Looks.{looks_blamed, looks_then}
 use Rattle.file_recovery.proofs.Calling.{pages_kept}
 use Rattle.file_recovery.proofs.Entered.{all_behind}
-use Rattle.file_recovery.proofs.Walks.{entry_at, first_at, next_at, taken_more, taken_all, item_at}
+use Rattle.btree.proofs.Ascending.{entry_at, first_at, next_at}
+use Rattle.file_recovery.proofs.Passed.{taken_more, taken_all, item_at}
 use Rattle.file_recovery.proofs.reading.read_rows.Goals as goal
 
 pub loop-turn-init : goal.loop-turn-init

@@ -9,7 +9,7 @@ use Rattle.records.specs.Stores.{spec_of}
 use Rattle.volume_format.specs.Trees.{entry_under}
 use Rattle.volume_format.specs.Calls.{LooksAt}
 use Rattle.file_bytes.specs.Stored.{rows_of}
-use Rattle.file_recovery.proofs.Walks.{entry_at}
+use Rattle.btree.proofs.Ascending.{entry_at}
 use Rattle.file_recovery.proofs.reading.read_rows.Given as goal
 
 abbrev pub invariant-loop-turn : goal.invariant-loop-turn

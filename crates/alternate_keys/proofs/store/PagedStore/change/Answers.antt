@@ -1,4 +1,4 @@
-use Rattle.std.proofs.Common.{inl, false, refl, sym, subst}
+use Rattle.std.proofs.Common.{inl, refl, sym, subst}
 use Rattle.station.proofs.Spans.{stays}
 use Rattle.records.specs.Files.{Files}
 use Rattle.records.specs.Stores.{files_after}

@@ -1,4 +1,4 @@
-use Rattle.std.proofs.Common.{inl, true, refl, sym, subst}
+use Rattle.std.proofs.Common.{inl, refl, sym, subst}
 use Rattle.station.proofs.Spans.{stays}
 use Rattle.records.specs.Files.{Files, empty_file, with_file}
 use Rattle.records.specs.Stores.{spec_of}
