@@ -24,3 +24,4 @@ pub mod Conversions
 pub mod Inspects
 pub mod HeldIntegers
 pub mod ShortNumbers
+pub mod PlainDigits

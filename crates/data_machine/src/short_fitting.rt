@@ -1,7 +1,9 @@
 //! What receivers keep of numbers of 64 bits that fit, and the bytes in which they hold them.
 
-ghost use Rattle.std.specs.Prelude.{◌≡◌, ◌+◌, ◌<◌, ◌≤◌, ◌^◌, length, unsigned_abs, IfSome, Ok, Some};
+ghost use Rattle.std.specs.Prelude.{◌≡◌, ◌+◌, ◌<◌, ◌≤◌, ◌^◌, length, pos, unsigned_abs, IfSome, Ok, Some};
 ghost use Rattle.decimal18.specs.Receiver.{fitted_decimal};
+ghost use Rattle.items.specs.declared.usage.Usage.TheVariants as usage;
+ghost use Rattle.items.specs.declared.usage.OperationalSign.TheVariants as sign;
 ghost use Rattle.items.specs.Items.{IsItem};
 ghost use Rattle.items.specs.Numbers.{IsNumeric, length_of};
 ghost use Rattle.items.specs.Values.{value_of, bytes_of};
@@ -14,13 +16,76 @@ use crate::fitting::rounding;
 use crate::short::{Short, short_coefficient};
 use crate::short_arithmetic::short_result;
 use data_instructions::DataItem;
-use decimal18::{Dec, put_digits, short_power};
+use decimal18::{Dec, number_after, put_digits, short_power};
 use items::{Kind, Numeric, OperationalSign, Usage, number, store};
 use source_tree::Operator;
 
-/// The number in the bytes of a numeric item, if they hold one.
+/// The number in the bytes of a numeric item, if they hold one; at once where digits alone are one.
 #[inline(always)]
 pub(crate) fn short_number(item: Numeric, bytes: &[u8]) -> Option<Short>
+    requires item { IsNumeric item }
+    requires length { length bytes.now ≡ length_of item }
+    ensures { result ≡ value_of item bytes.now }
+{
+    if let Usage::Display(sign) = item.usage {
+        if let OperationalSign::Unsigned = sign {
+            return unsigned_number(item, bytes);
+        }
+        if let OperationalSign::Trailing = sign {
+            return trailing_number(item, bytes);
+        }
+    }
+    match number(item, bytes) {
+        Some(x) => Some(Short::held(item, x)),
+        None => None,
+    }
+}
+
+/// The number in the bytes of an unsigned item in DISPLAY usage, if they are digits.
+#[inline(always)]
+fn unsigned_number(item: Numeric, bytes: &[u8]) -> Option<Short>
+    requires item { IsNumeric item }
+    requires unsigned { item.usage ≡ usage.Display sign.Unsigned }
+    requires length { length bytes.now ≡ length_of item }
+    ensures { result ≡ value_of item bytes.now }
+{
+    match number_after(0, bytes) {
+        Some(digits) => Some(whole_number(digits, item.scale)),
+        None => None,
+    }
+}
+
+/// The number in the bytes of an item in DISPLAY usage whose sign is with its last digit, if they hold one.
+#[inline(always)]
+fn trailing_number(item: Numeric, bytes: &[u8]) -> Option<Short>
+    requires item { IsNumeric item }
+    requires trailing { item.usage ≡ usage.Display sign.Trailing }
+    requires length { length bytes.now ≡ length_of item }
+    ensures { result ≡ value_of item bytes.now }
+{
+    match positive_number(item, bytes) {
+        Some(x) => Some(x),
+        None => marked_number(item, bytes),
+    }
+}
+
+/// The same number, if no digit carries a minus.
+#[inline(always)]
+fn positive_number(item: Numeric, bytes: &[u8]) -> Option<Short>
+    requires item { IsNumeric item }
+    requires trailing { item.usage ≡ usage.Display sign.Trailing }
+    requires length { length bytes.now ≡ length_of item }
+    ensures { IfSome result (λ x. Some x ≡ value_of item bytes.now) }
+{
+    match number_after(0, bytes) {
+        Some(digits) => Some(whole_number(digits, item.scale)),
+        None => None,
+    }
+}
+
+/// The same number, with whatever sign.
+#[inline(never)]
+fn marked_number(item: Numeric, bytes: &[u8]) -> Option<Short>
     requires item { IsNumeric item }
     requires length { length bytes.now ≡ length_of item }
     ensures { result ≡ value_of item bytes.now }
@@ -29,6 +94,25 @@ pub(crate) fn short_number(item: Numeric, bytes: &[u8]) -> Option<Short>
         Some(x) => Some(Short::held(item, x)),
         None => None,
     }
+}
+
+/// The number with these digits, so many of them decimals.
+#[inline(always)]
+fn whole_number(digits: u64, scale: u8) -> Short
+    requires digits { digits < 10 ^ 18 }
+    requires scale { scale ≤ 18 }
+    ensures { result ≡ record { coefficient = pos digits; scale = scale } }
+{
+    Short::new(signed(digits), scale)
+}
+
+/// The same integer with a sign.
+#[inline(always)]
+fn signed(digits: u64) -> i64
+    requires { digits < 10 ^ 18 }
+    ensures { result ≡ pos digits }
+{
+    digits as i64
 }
 
 /// The coefficient that a receiver of so many digits, scale of them decimals, keeps of a number that fits.
