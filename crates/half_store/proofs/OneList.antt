@@ -8,7 +8,7 @@ use Rattle.roots.proofs.Within.{roots_stand}
 use Rattle.records.specs.Spec.{Spec}
 use Rattle.records.specs.Rows.{Row}
 use Rattle.records.specs.Files.{Files, NamedFile}
-use Rattle.half_store.specs.Half.{known_marks, half, named_bytes, Holds}
+use Rattle.half_store.specs.Half.{known_families, half, named_bytes, Holds}
 use Rattle.half_store.specs.Read.{row_size, rows_in}
 use Rattle.half_store.specs.Readable.{IsReadable}
 use Rattle.half_store.specs.Spelled.{file_bytes, files_bytes}
@@ -94,8 +94,8 @@ one_list image one other holds holds' =
     let h = holds.2 in
     let h' = holds'.2 in
     let roots : h.roots ≡ h'.roots = (let e = sym h.reads ∙ h'.reads in cc) in
-    let within = (roots_stand known_marks 1 image h.roots h.reads).within.newest in
-    let within' = (roots_stand known_marks 1 image h'.roots h'.reads).within.newest in
+    let within = (roots_stand known_families image h.roots h.reads).within.newest in
+    let within' = (roots_stand known_families image h'.roots h'.reads).within.newest in
     let g : holds.1 < 2 ^ 63 = omega (arith, within.generation, h.generation) in
     let g' : holds'.1 < 2 ^ 63 = omega (arith, within'.generation, h'.generation) in
     let few : length (files_bytes one) < 2 ^ 64 =

@@ -18,23 +18,23 @@ use Rattle.records.specs.declared.fault.StoreFault.TheVariants.{Device, Full, Da
 use Rattle.records.specs.Files.{Files, AreFiles}
 use Rattle.half_store.specs.Spelled.{files_bytes}
 use Rattle.file_bytes.specs.Stored.{files_of}
-use Rattle.half_store.specs.Half.{known_marks, named_length, named_bytes, IsHalfRoot, IsForeign, AreEarly, HoldsAt}
+use Rattle.half_store.specs.Half.{known_families, named_length, named_bytes, IsHalfRoot, IsForeign, AreEarly, HoldsAt}
 use Rattle.half_store.specs.Half.{Holds, Rests}
 use Rattle.half_store.specs.Opened.{HoldsNone, IsOpenRefusal, FailsWith, of_roots, IsReadCause}
 use Rattle.half_store.specs.Stands.{Represents}
 use Rattle.half_store.specs.declared.store.HalfStore.{HalfStore}
 
 module _ (image : List Sector) where
-  roots_same : (roots : Roots) (files : Files) → roots_in known_marks 1 image ≡ Ok roots → (holds : Holds image files)
+  roots_same : (roots : Roots) (files : Files) → roots_in known_families image ≡ Ok roots → (holds : Holds image files)
       → holds.2.roots ≡ roots
   roots_same roots files is holds = let e = sym holds.2.reads ∙ is in cc
 
-  pub no_half_roots : (roots : Roots) → roots_in known_marks 1 image ≡ Ok roots → (EachRoot IsHalfRoot roots → ⊥)
+  pub no_half_roots : (roots : Roots) → roots_in known_families image ≡ Ok roots → (EachRoot IsHalfRoot roots → ⊥)
       → HoldsNone image
   no_half_roots roots is never =
       λ files holds. never (subst (EachRoot IsHalfRoot) (roots_same roots files is holds) holds.2.halves)
 
-  pub no_spelled : (roots : Roots) (bytes : List ℕ) → roots_in known_marks 1 image ≡ Ok roots
+  pub no_spelled : (roots : Roots) (bytes : List ℕ) → roots_in known_families image ≡ Ok roots
       → bytes ≡ named_bytes image roots.newest
       → ((files : Files) → bytes ≡ files_bytes files → AreFiles files → AreEarly roots.newest.generation files → ⊥)
       → HoldsNone image
@@ -44,27 +44,27 @@ module _ (image : List Sector) where
       (subst (λ (n : ℕ). AreEarly n files) (sym holds.2.generation ∙ ap (λ (r : Roots). r.newest.generation) same)
       holds.2.early)
 
-  no_roots : (f : RootsFault) → roots_in known_marks 1 image ≡ Err f → HoldsNone image
+  no_roots : (f : RootsFault) → roots_in known_families image ≡ Err f → HoldsNone image
   no_roots f is = λ files holds. let e = sym holds.2.reads ∙ is in cc
 
-  pub roots_refused : (e : RootsError) → Gives (λ (r : Roots). r) fault_of (Err e) (roots_in known_marks 1 image)
+  pub roots_refused : (e : RootsError) → Gives (λ (r : Roots). r) fault_of (Err e) (roots_in known_families image)
       → IsOpenRefusal image (of_roots e)
   roots_refused error.Device gives = tt
   roots_refused (error.Roots fault.Damaged) gives = no_roots fault.Damaged gives
   roots_refused (error.Roots fault.ForeignMark) gives = gives
 
   pub roots_foreign : (T : Type 0) (e : RootsError)
-      → Gives (λ (r : Roots). r) fault_of (Err e) (roots_in known_marks 1 image) → IsForeign image
+      → Gives (λ (r : Roots). r) fault_of (Err e) (roots_in known_families image) → IsForeign image
       → FailsWith {T = T} Layout (Err (of_roots e))
   roots_foreign T error.Device gives is = inr (inl refl)
   roots_foreign T (error.Roots fault.Damaged) gives is = let e = sym gives ∙ is in cc
   roots_foreign T (error.Roots fault.ForeignMark) gives is = inl refl
 
   -- own roots aren't the other format's
-  pub not_foreign : (roots : Roots) → roots_in known_marks 1 image ≡ Ok roots → IsForeign image → ⊥
+  pub not_foreign : (roots : Roots) → roots_in known_families image ≡ Ok roots → IsForeign image → ⊥
   not_foreign roots reads is = let e = sym reads ∙ is in cc
 
-  pub holds_now : (roots : Roots) (bytes : List ℕ) (files : Files) → roots_in known_marks 1 image ≡ Ok roots
+  pub holds_now : (roots : Roots) (bytes : List ℕ) (files : Files) → roots_in known_families image ≡ Ok roots
       → EachRoot IsHalfRoot roots → bytes ≡ named_bytes image roots.newest → length bytes ≡ named_length roots.newest
       → (bytes ≡ files_bytes files) × AreFiles files × AreEarly roots.newest.generation files
       → HoldsAt roots.newest.sectors roots.newest.generation image files

@@ -6,15 +6,15 @@ use Rattle.std.proofs.lemmas.Bool.{and_from, lt-ltb, le-leb, eq-eqb}
 use Rattle.byteorder.specs.Endian.{big_number}
 use Rattle.station.specs.Disk.{Sector}
 use Rattle.roots.specs.declared.root.Root.{Root}
-use Rattle.roots.specs.Root.{root_bytes}
+use Rattle.roots.specs.Root.{own_mark, root_bytes}
 use Rattle.roots.proofs.Spelled.{reads_back}
-use Rattle.half_store.specs.Half.{known_marks}
+use Rattle.half_store.specs.Half.{known_families}
 use Rattle.half_store.specs.Write.{SpellsRoot}
 
 abbrev mark : List ℕ
 mark = 67 ∷ 79 ∷ 66 ∷ 72 ∷ 65 ∷ 76 ∷ 70 ∷ 49 ∷ []
 
-pub spells : (root : Root) (bytes : ℕ) (sector : Sector) → root.mark ≡ 0 → big_number 8 root.payload ≡ bytes
+pub spells : (root : Root) (bytes : ℕ) (sector : Sector) → root.mark ≡ own_mark 0 → big_number 8 root.payload ≡ bytes
     → list_all (λ byte. byte == 0) (drop 8 root.payload) ≡ true → root.generation < 2 ^ 63 → 1024 ≤ root.sectors
     → root.sectors ≤ 921600
     → sector ≡ root_bytes mark root → SpellsRoot root.sectors root.generation bytes sector
@@ -25,7 +25,8 @@ spells root bytes sector own counted zeros generation least most spelled = recor
   sectors = refl;
   counted = counted;
   zeros = zeros;
-  valid = λ n there. rw spelled (reads_back known_marks n (root.generation % 2) mark root refl refl (ap Some (sym own))
+  valid =
+      λ n there. rw spelled (reads_back known_families n (root.generation % 2) mark root refl refl (ap Some (sym own))
       (and_from (nat_lt root.generation (2 ^ 63) && (root.generation % 2 == root.generation % 2)
       && nat_le 1024 root.sectors && nat_le root.sectors 921600) (nat_le root.sectors n)
       (and_from (nat_lt root.generation (2 ^ 63) && (root.generation % 2 == root.generation % 2)

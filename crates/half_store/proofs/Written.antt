@@ -1,7 +1,7 @@
 -- The files before and after a write of the half that isn't active.
 use Rattle.std.proofs.Common.{◌≡◌, ◌⊎◌, inl, inr, ⊎_elim, ◌<◌, ◌≤◌, ◌+◌, ◌*◌, ◌%◌, ℕ, zero, suc, List, [], length, map}
 use Rattle.std.proofs.Common.{take, drop, set, refl, sym, ◌∙◌, ap, subst, arith, get_or-set_other}
-use Rattle.std.specs.Prelude.{Some, Ok, Contains}
+use Rattle.std.specs.Prelude.{Some, Ok, Contains, slice_index_or}
 use Rattle.std.proofs.lemmas.List.{take-take}
 use Rattle.std.proofs.lemmas.List.Elements.{All-contains, All-map, All-push, All-nil}
 use Rattle.station.specs.Disk.{Disk, Sector, sector_at, idle_disk, IsCrashImage}
@@ -14,13 +14,15 @@ use Rattle.roots.specs.Root.{root_in}
 use Rattle.roots.specs.Pair.{newest_root}
 use Rattle.roots.specs.Reading.{roots_in}
 use Rattle.roots.specs.Laws.{Follows}
+use Rattle.roots.specs.declared.root.Mark.{Mark}
 use Rattle.roots.specs.declared.root.Root.{Root}
 use Rattle.roots.proofs.Next.{newest_within, next_is_newest}
+use Rattle.roots.proofs.Within.{roots_stand}
 use Rattle.records.specs.Files.{Files, AreFiles}
 use Rattle.records.specs.Stores.{Either}
 use Rattle.half_store.specs.Spelled.{files_bytes}
 use Rattle.half_store.specs.Blocks.{block_at, blocks_to}
-use Rattle.half_store.specs.Half.{known_marks, half, start, count, bytes_of_sectors, named_length, named_bytes}
+use Rattle.half_store.specs.Half.{known_families, half, start, count, bytes_of_sectors, named_length, named_bytes}
 use Rattle.half_store.specs.Half.{AreEarly, HoldsAt, Holds, Rests}
 use Rattle.half_store.specs.Write.{SpellsRoot, IsDraft}
 use Rattle.half_store.proofs.Staged.{there, are_at, joined_parts, joined_same, enough, few, behind, within, apart}
@@ -49,14 +51,16 @@ is_in from to bytes k i le has = All-contains (IsIn from to) (map (λ (b : Block
 
 -- the roots stay where the first two sectors do
 roots_same : (one two : List Sector) → length one ≡ length two → sector_at one 0 ≡ sector_at two 0
-    → sector_at one 1 ≡ sector_at two 1 → roots_in known_marks 1 one ≡ roots_in known_marks 1 two
+    → sector_at one 1 ≡ sector_at two 1 → roots_in known_families one ≡ roots_in known_families two
 roots_same one two size first second =
     ap (λ (c : ℕ).
-    newest_root 1 (root_in known_marks c 0 (sector_at one 0)) (root_in known_marks c 1 (sector_at one 1))) size
+    newest_root (root_in known_families c 0 (sector_at one 0)) (root_in known_families c 1 (sector_at one 1))) size
     ∙ ap (λ (s : Sector).
-    newest_root 1 (root_in known_marks (length two) 0 s) (root_in known_marks (length two) 1 (sector_at one 1))) first
+    newest_root (root_in known_families (length two) 0 s) (root_in known_families (length two) 1 (sector_at one 1)))
+    first
     ∙ ap (λ (s : Sector).
-    newest_root 1 (root_in known_marks (length two) 0 (sector_at two 0)) (root_in known_marks (length two) 1 s)) second
+    newest_root (root_in known_families (length two) 0 (sector_at two 0)) (root_in known_families (length two) 1 s))
+    second
 
 module _ (n g : ℕ) (base : List Sector) (before after : Files) (long : List ℕ) (sector : Sector)
     (holds : HoldsAt n g base before) (least : 1024 ≤ n) (size : n ≤ length base)
@@ -83,7 +87,7 @@ module _ (n g : ℕ) (base : List Sector) (before after : Files) (long : List �
       (spares.each i (omega (arith, lt, size, spares.count)))
 
   roots_stay : (image : List Sector) → SameOutside base blocks image
-      → roots_in known_marks 1 image ≡ roots_in known_marks 1 base
+      → roots_in known_families image ≡ roots_in known_families base
   roots_stay image spares = roots_same image base spares.count
       (spared image spares 0 (omega (arith, least)) (inl (omega (arith, behind n (g + 1)))))
       (spared image spares 1 (omega (arith, least)) (inl (omega (arith, behind n (g + 1)))))
@@ -127,20 +131,26 @@ module _ (n g : ℕ) (base : List Sector) (before after : Files) (long : List �
   abbrev place : ℕ
   place = (g + 1) % 2
 
-  follows : Follows 1 holds.roots.newest spells.root
-  follows = let facts = newest_within known_marks 1 base holds.roots holds.reads in record {
+  -- there is one mark of a volume of halves
+  one_mark : holds.roots.newest.mark.version < 1
+  one_mark = let there = roots_stand known_families base holds.roots holds.reads in
+      subst (λ (family : ℕ). holds.roots.newest.mark.version < length (slice_index_or known_families family []))
+      there.own_family there.known_marks.newest.version
+
+  follows : Follows holds.roots.newest spells.root
+  follows = let facts = newest_within known_families base holds.roots holds.reads in record {
     generation = omega (arith, spells.generation, holds.generation);
     sectors = spells.sectors ∙ sym holds.sectors;
-    mark = omega (arith, facts.2, spells.mark);
-    own_mark = omega (arith, spells.mark);
+    family = ap (λ (m : Mark). m.family) spells.mark ∙ sym facts.2;
+    version = omega (arith, one_mark);
   }
 
-  new_reads : roots_in known_marks 1 (set staged place sector)
+  new_reads : roots_in known_families (set staged place sector)
       ≡ Ok (record { newest = spells.root; older = Some holds.roots.newest })
-  new_reads = ap (λ (p : ℕ). roots_in known_marks 1 (set staged (p % 2) sector)) (sym spells.generation)
-      ∙ next_is_newest known_marks 1 staged holds.roots spells.root sector
+  new_reads = ap (λ (p : ℕ). roots_in known_families (set staged (p % 2) sector)) (sym spells.generation)
+      ∙ next_is_newest known_families staged holds.roots spells.root sector
       (roots_stay staged (all_same_outside base blocks) ∙ holds.reads) follows
-      (ap (λ (p : ℕ). root_in known_marks (length staged) (p % 2) sector) spells.generation
+      (ap (λ (p : ℕ). root_in known_families (length staged) (p % 2) sector) spells.generation
       ∙ spells.valid (length staged) (omega (arith, size, with_all_count base blocks)))
 
   new_each : (j : ℕ) → j < count bytes

@@ -20,7 +20,8 @@ pub record Becomes (result : Result Outcome StoreFault) (changed : FileChange) (
   pub sound : result ≢ Err Damaged
 
 -- the same of the files, which differ in the one of this name
-pub record BecomesIn (result : Result Outcome StoreFault) (name : List ℕ) (changed : FileChange) (held : File) (old new : List StoredFile) : Type 0 where
+pub record BecomesIn (result : Result Outcome StoreFault) (name : List ℕ) (changed : FileChange) (held : File)
+    (old new : List StoredFile) : Type 0 where
   pub outcome : IfOk result (λ outcome. outcome ≡ changed.outcome)
   pub after : OnOk result (files_of new ≡ files_after name (files_of old) changed)
   pub full : result ≡ Err Full → 2 ^ 63 ≤ held.next_arrival + 1

@@ -1,19 +1,21 @@
 -- The two halves of a volume, of which the newest root names one (own choice).
-use Rattle.std.specs.Prelude.{◌≡◌, ◌≤◌, ◌+◌, ◌-◌, ◌*◌, ◌/◌, ◌%◌, ◌==◌, true, ℕ, zero, suc, List, [], ◌∷◌, ◌++◌, length, take, drop, codes, Ok, Err}
+use Rattle.std.specs.Prelude.{◌≡◌, ◌≤◌, ◌+◌, ◌-◌, ◌*◌, ◌/◌, ◌%◌, ◌==◌, true, ℕ, zero, suc, List, [], ◌∷◌, ◌++◌, length}
+use Rattle.std.specs.Prelude.{take, drop, codes, Ok, Err}
 use Rattle.std.specs.List.{AllByRecursion, list_all}
 use Rattle.byteorder.specs.Endian.{big_number}
 use Rattle.station.specs.Disk.{Disk, Sector, sector_at, IsSettled}
 use Rattle.roots.specs.declared.root.Root.{Root}
 use Rattle.roots.specs.declared.pair.Roots.{Roots}
 use Rattle.roots.specs.declared.pair.RootsFault.TheVariants.{ForeignMark}
+use Rattle.roots.specs.Root.{Family}
 use Rattle.roots.specs.Pair.{EachRoot}
 use Rattle.roots.specs.Reading.{roots_in}
 use Rattle.records.specs.Files.{Files, NamedFile, AreFiles}
 use Rattle.half_store.specs.Spelled.{files_bytes}
 
--- the mark of a volume of halves, and of the other format
-abbrev pub known_marks : List (List ℕ)
-known_marks = codes "COBHALF1" ∷ codes "COBVOL01" ∷ []
+-- the marks of a volume of halves, and those of the other format
+abbrev pub known_families : List Family
+known_families = (codes "COBHALF1" ∷ []) ∷ (codes "COBVOL01" ∷ codes "COBVOL02" ∷ []) ∷ []
 
 -- the sectors of a half of a volume of n sectors
 unfoldable pub half : ℕ → ℕ
@@ -37,7 +39,8 @@ abbrev pub named_length : Root → ℕ
 named_length root = big_number 8 root.payload
 
 abbrev pub named_bytes : List Sector → Root → List ℕ
-named_bytes image root = take (named_length root) (bytes_of_sectors image (start root.sectors root.generation) (count (named_length root)))
+named_bytes image root =
+    take (named_length root) (bytes_of_sectors image (start root.sectors root.generation) (count (named_length root)))
 
 -- a root names no more bytes than a half has, and its other bytes are zeros
 pub record IsHalfRoot (root : Root) : Type 0 where
@@ -51,7 +54,7 @@ AreEarly g files = AllByRecursion (λ (one : NamedFile). one.file.next_arrival �
 -- the volume of n sectors in an image is of generation g and holds these files
 pub record HoldsAt (n g : ℕ) (image : List Sector) (files : Files) : Type 0 where
   pub roots : Roots
-  pub reads : roots_in known_marks 1 image ≡ Ok roots
+  pub reads : roots_in known_families image ≡ Ok roots
   pub halves : EachRoot IsHalfRoot roots
   pub generation : roots.newest.generation ≡ g
   pub sectors : roots.newest.sectors ≡ n
@@ -70,4 +73,4 @@ pub record Rests (n g : ℕ) (disk : Disk) (files : Files) : Type 0 where
 
 -- the newest root of an image has the other format's mark
 abbrev pub IsForeign : List Sector → Type 0
-IsForeign image = roots_in known_marks 1 image ≡ Err ForeignMark
+IsForeign image = roots_in known_families image ≡ Err ForeignMark

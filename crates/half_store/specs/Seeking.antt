@@ -15,4 +15,5 @@ AreRecords size rows = AllByRecursion (λ (row : Row). length row.bytes ≡ size
 
 -- of the rows from k on, the best is at this place
 abbrev pub IsBest : Spec → KeyOfReference → RowBound → List StoredRow → ℕ → Option ℕ → Type 0
-IsBest spec key b rows k best = (d : StoredRow) → sought_row spec key b (map row_of (drop k rows)) ≡ option_map (λ i. row_of (get_or rows i d)) best
+IsBest spec key b rows k best =
+    (d : StoredRow) → sought_row spec key b (map row_of (drop k rows)) ≡ option_map (λ i. row_of (get_or rows i d)) best

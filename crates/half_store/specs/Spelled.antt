@@ -11,7 +11,8 @@ abbrev pub no_pages : List ℕ
 no_pages = replicate 32 0
 
 abbrev pub file_bytes : NamedFile → List ℕ
-file_bytes one = padded_name one.name ++ spec_bytes one.file.spec ++ no_pages ++ big_bytes 8 one.file.next_arrival ++ big_bytes 8 (length one.file.rows) ++ flat_map (row_bytes one.file.spec.organization) one.file.rows
+file_bytes one = padded_name one.name ++ spec_bytes one.file.spec ++ no_pages ++ big_bytes 8 one.file.next_arrival
+    ++ big_bytes 8 (length one.file.rows) ++ flat_map (row_bytes one.file.spec.organization) one.file.rows
 
 abbrev pub files_bytes : Files → List ℕ
 files_bytes files = flat_map file_bytes files

@@ -13,14 +13,14 @@ ghost use Rattle.records.specs.Files.{Files, AreFiles};
 ghost use Rattle.records.specs.Rows.{same_bytes};
 ghost use Rattle.half_store.specs.Spelled.{files_bytes};
 ghost use Rattle.file_bytes.specs.Stored.{files_of};
-ghost use Rattle.half_store.specs.Half.{known_marks, half, bytes_of_sectors, named_length, named_bytes, IsHalfRoot, AreEarly, HoldsAt, Holds, IsForeign};
+ghost use Rattle.half_store.specs.Half.{known_families, half, bytes_of_sectors, named_length, named_bytes, IsHalfRoot, AreEarly, HoldsAt, Holds, IsForeign};
 ghost use Rattle.half_store.specs.Opened.{HoldsNone, IsOpenRefusal, FailsWith, of_roots, IsReadCause};
 ghost use Rattle.half_store.specs.Stands.{Represents};
 
 use crate::checking::are_files;
 use crate::halves::{count_of, half_of, start_of};
 use crate::reading::read_files;
-use crate::root::{FOREIGN_MARK, MARK};
+use crate::root::{FOREIGN_FAMILY, MARK};
 use crate::spelling::spell;
 use crate::store::HalfStore;
 use byteorder::{BigEndian, ByteOrder};
@@ -209,14 +209,14 @@ fn spelled_files(
 fn own_roots<D: Device>(device: &mut D) -> Result<Roots, StoreFault>
     ensures only { OnlyReads D.Device (result ≡ Err StoreFault.Device) device.old device.new }
     ensures roots { D.is_honest device.old → IfOk result
-        (λ roots. roots_in known_marks 1 (D.state device.old).disk.present ≡ Ok roots) }
+        (λ roots. roots_in known_families (D.state device.old).disk.present ≡ Ok roots) }
     ensures within { IfOk result (λ roots. EachRoot (IsWithinVolume (D.sectors device.old)) roots) }
     ensures refused { D.is_honest device.old
         → IfErr result (λ fault. IsOpenRefusal (D.state device.old).disk.present fault) }
     ensures foreign { D.is_honest device.old → IsForeign (D.state device.old).disk.present
         → FailsWith StoreFault.Layout result }
 {
-    match read_roots(device, &[MARK, FOREIGN_MARK], 1) {
+    match read_roots(device, &[&[MARK], &FOREIGN_FAMILY]) {
         Ok(roots) => Ok(roots),
         Err(error) => Err(fault_of(error)),
     }

@@ -4,13 +4,13 @@ ghost use Rattle.std.specs.List.{list_all};
 ghost use Rattle.byteorder.specs.Endian.{big_number};
 ghost use Rattle.half_store.specs.Write.{SpellsRoot};
 
-use roots::{Root, root_sector};
+use roots::{Mark, Root, root_sector};
 
 /// The mark of a volume of halves.
 pub(crate) const MARK: [u8; 8] = *b"COBHALF1";
 
-/// The mark of the other format.
-pub(crate) const FOREIGN_MARK: [u8; 8] = *b"COBVOL01";
+/// The marks of the other format, in the order of their introduction.
+pub(crate) const FOREIGN_FAMILY: [[u8; 8]; 2] = [*b"COBVOL01", *b"COBVOL02"];
 
 /// The bytes of a root sector.
 pub(crate) fn root_bytes(sectors: u32, generation: u64, bytes: u64) -> [u8; 4096]
@@ -20,7 +20,10 @@ pub(crate) fn root_bytes(sectors: u32, generation: u64, bytes: u64) -> [u8; 4096
     ensures { SpellsRoot sectors generation bytes result }
 {
     let root = Root {
-        mark: 0,
+        mark: Mark {
+            family: 0,
+            version: 0,
+        },
         generation,
         sectors,
         payload: payload_of(bytes),

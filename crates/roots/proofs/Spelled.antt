@@ -8,7 +8,8 @@ use Rattle.byteorder.specs.Endian.{big_number, big_bytes}
 use Rattle.byteorder.specs.Numbers.{length-bytes_high_first, big_number-reads_back}
 use Rattle.roots.specs.declared.root.Root.{Root}
 use Rattle.roots.specs.declared.root.RootSector.TheVariants.{Blank, Broken, Valid}
-use Rattle.roots.specs.Root.{mark_index, root_with, is_valid, valid_at, root_with_mark, is_blank, root_in, root_bytes}
+use Rattle.roots.specs.Root.{Family, mark_in, root_with, is_valid, valid_at, root_with_mark, is_blank, root_in}
+use Rattle.roots.specs.Root.{root_bytes}
 use Rattle.roots.specs.Root.{put_at}
 
 -- bytes put after a front
@@ -112,14 +113,14 @@ module _ (mark : List ℕ) (root : Root) (eight : length mark ≡ 8) where
   reads_root low few = rw (reads_generation low) (rw (reads_sectors few) (rw reads_payload refl))
 
 -- what is written is read again
-pub reads_back : (known : List (List ℕ)) (count number : ℕ) (mark : List ℕ) (root : Root) → length mark ≡ 8
-    → is_blank (root_bytes mark root) ≡ false → mark_index known (root_bytes mark root) ≡ Some root.mark
+pub reads_back : (known : List Family) (count number : ℕ) (mark : List ℕ) (root : Root) → length mark ≡ 8
+    → is_blank (root_bytes mark root) ≡ false → mark_in known (root_bytes mark root) ≡ Some root.mark
     → is_valid count number root ≡ true
     → root_in known count number (root_bytes mark root) ≡ Valid root
 reads_back known count number mark root eight some at valid =
     let facts = validity count number root valid in
     cond-false (is_blank (root_bytes mark root)) Blank
-    (root_with_mark count number (root_bytes mark root) (mark_index known (root_bytes mark root))) some
+    (root_with_mark count number (root_bytes mark root) (mark_in known (root_bytes mark root))) some
     ∙ ap (root_with_mark count number (root_bytes mark root)) at
     ∙ ap (valid_at count number)
     (reads_root mark root eight (omega (arith, facts.generation)) (omega (arith, facts.most)))

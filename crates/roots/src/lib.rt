@@ -14,6 +14,6 @@ pub use laws::{next_is_newest, roots_stand};
 pub use pair::{Roots, RootsFault, newest_of};
 pub use reading::read_roots;
 pub use root::{
-    GENERATIONS, LEAST_SECTORS, MARK_BYTES, MOST_SECTORS, PAYLOAD_AT, PAYLOAD_BYTES, Root,
+    GENERATIONS, LEAST_SECTORS, MARK_BYTES, MOST_SECTORS, Mark, PAYLOAD_AT, PAYLOAD_BYTES, Root,
     RootSector, SECTOR_BYTES, put_head, read_root, root_sector,
 };

@@ -2,7 +2,7 @@
 ghost use Rattle.std.specs.Prelude.{◌≡◌, ◌+◌, ◌==◌};
 ghost use Rattle.roots.specs.Pair.{pair_of, both_of, may_follow, newest_root};
 
-use crate::root::{Root, RootSector};
+use crate::root::{Mark, Root, RootSector};
 
 /// The roots of a volume that isn't damaged.
 #[derive(Clone, Copy, PartialEq, Eq)]
@@ -22,10 +22,10 @@ pub enum RootsFault {
 }
 
 /// Whether a root of the one mark may come after one of the other.
-fn marks_agree(own: usize, older: usize, newer: usize) -> bool
-    ensures { result ≡ may_follow own older newer }
+fn marks_agree(older: Mark, newer: Mark) -> bool
+    ensures { result ≡ may_follow older newer }
 {
-    older == newer || older < newer && newer < own
+    older.family == newer.family && older.version <= newer.version
 }
 
 /// Whether a generation comes right after another.
@@ -36,12 +36,12 @@ fn is_next(older: u64, newer: u64) -> bool
 }
 
 /// Two roots, the older first, if they belong together.
-fn joined(own: usize, older: Root, newer: Root) -> Option<Roots>
-    ensures { result ≡ pair_of own older newer }
+fn joined(older: Root, newer: Root) -> Option<Roots>
+    ensures { result ≡ pair_of older newer }
 {
     if is_next(older.generation, newer.generation)
         && older.sectors == newer.sectors
-        && marks_agree(own, older.mark, newer.mark)
+        && marks_agree(older.mark, newer.mark)
     {
         Some(Roots {
             newest: newer,
@@ -53,20 +53,20 @@ fn joined(own: usize, older: Root, newer: Root) -> Option<Roots>
 }
 
 /// Two roots in either order.
-fn ordered(own: usize, first: Root, second: Root) -> Option<Roots>
-    ensures { result ≡ both_of own first second }
+fn ordered(first: Root, second: Root) -> Option<Roots>
+    ensures { result ≡ both_of first second }
 {
     if first.generation < second.generation {
-        joined(own, first, second)
+        joined(first, second)
     } else {
-        joined(own, second, first)
+        joined(second, first)
     }
 }
 
-/// The roots that two root sectors make. Of the marks that the reader knows the first `own` are those of its own format, in the
-/// order in which they came up: a root of a later one may follow one of an earlier. The others are of other formats.
-pub fn newest_of(own: usize, first: RootSector, second: RootSector) -> Result<Roots, RootsFault>
-    ensures { result ≡ newest_root own first second }
+/// The roots that two root sectors make. Both have marks of one family, and the newer root has no earlier mark than the older one. The
+/// reader's own family is the first; a newest root of another family is `ForeignMark`.
+pub fn newest_of(first: RootSector, second: RootSector) -> Result<Roots, RootsFault>
+    ensures { result ≡ newest_root first second }
 {
     let roots = match (first, second) {
         (RootSector::Blank, RootSector::Valid(root)) => Some(Roots {
@@ -77,11 +77,11 @@ pub fn newest_of(own: usize, first: RootSector, second: RootSector) -> Result<Ro
             newest: root,
             older: None,
         }),
-        (RootSector::Valid(first), RootSector::Valid(second)) => ordered(own, first, second),
+        (RootSector::Valid(first), RootSector::Valid(second)) => ordered(first, second),
         _ => None,
     };
     match roots {
-        Some(roots) if roots.newest.mark < own => Ok(roots),
+        Some(roots) if roots.newest.mark.family == 0 => Ok(roots),
         Some(_) => Err(RootsFault::ForeignMark),
         None => Err(RootsFault::Damaged),
     }

@@ -1,7 +1,7 @@
 //! A root sector. Numbers are big-endian; the layout is this project's own.
-ghost use Rattle.std.specs.Prelude.{◌≡◌, ◌≤◌, ◌+◌, ◌++◌, length, drop, Option};
+ghost use Rattle.std.specs.Prelude.{◌≡◌, ◌<◌, ◌≤◌, ◌+◌, ◌++◌, length, drop, map, position, is_some, Option, IfSome};
 ghost use Rattle.byteorder.specs.Endian.{big_bytes};
-ghost use Rattle.roots.specs.Root.{mark_index, root_in, root_with, is_blank, is_valid, put_at, root_bytes};
+ghost use Rattle.roots.specs.Root.{version_in, mark_in, root_in, root_with, is_blank, is_valid, put_at, root_bytes};
 
 use byteorder::{BigEndian, ByteOrder};
 
@@ -25,12 +25,20 @@ pub const LEAST_SECTORS: u32 = 1024;
 /// A volume has at most so many sectors.
 pub const MOST_SECTORS: u32 = 921_600;
 
+/// A mark, by its place among those that a reader knows.
+#[derive(Clone, Copy, Debug, PartialEq, Eq)]
+pub struct Mark {
+    /// The index of its family, from 0.
+    pub family: usize,
+    /// Its index in the family, from 0.
+    pub version: usize,
+}
+
 /// What a root sector tells: its mark in bytes 0 to 7, its generation in 8 to 15, the number of sectors in 16 to 19, and the
 /// payload.
 #[derive(Clone, Copy, PartialEq, Eq)]
 pub struct Root {
-    /// The index of its mark among those that the reader knows, from 0.
-    pub mark: usize,
+    pub mark: Mark,
     /// One more than that of the root before it.
     pub generation: u64,
     /// How many sectors the volume has.
@@ -49,15 +57,35 @@ pub enum RootSector {
     Valid(Root),
 }
 
-/// The index of the mark at the front of a sector.
-fn known_mark(known: &[[u8; 8]], bytes: &[u8; 4096]) -> Option<usize>
-    ensures { result ≡ mark_index known.now bytes.now }
+/// The index of the mark of a family at the front of a sector.
+fn version_of(family: &[[u8; 8]], bytes: &[u8; 4096]) -> Option<usize>
+    ensures { result ≡ version_in family.now bytes.now }
 {
-    known.iter().position(|mark| bytes.starts_with(mark))
+    family.iter().position(|mark| bytes.starts_with(mark))
+}
+
+/// The index of the first family with a mark at the front of a sector.
+fn family_of(known: &[&[[u8; 8]]], bytes: &[u8; 4096]) -> Option<usize>
+    ensures family { result
+        ≡ position (λ family. is_some (version_in family.now bytes.now)) known.now }
+    ensures bound { IfSome result (λ family. family < length known.now) }
+{
+    known
+        .iter()
+        .position(|family| version_of(family, bytes).is_some())
+}
+
+/// The mark at the front of a sector.
+fn known_mark(known: &[&[[u8; 8]]], bytes: &[u8; 4096]) -> Option<Mark>
+    ensures { result ≡ mark_in (map (λ family. family.now) known.now) bytes.now }
+{
+    let family = family_of(known, bytes)?;
+    let version = version_of(known[family], bytes)?;
+    Some(Mark { family, version })
 }
 
 /// The root in a sector whose mark is known.
-fn marked_root(mark: usize, bytes: &[u8; 4096]) -> Root
+fn marked_root(mark: Mark, bytes: &[u8; 4096]) -> Root
     ensures { result ≡ root_with bytes.now mark }
 {
     let mut payload = [0; 4076];
@@ -88,9 +116,10 @@ fn is_root_of(root: &Root, count: u32, number: u32) -> bool
         && root.sectors <= count
 }
 
-/// What the root sector of this number is, on a device of so many sectors, to a reader that knows these marks.
-pub fn read_root(known: &[[u8; 8]], count: u32, number: u32, bytes: &[u8; 4096]) -> RootSector
-    ensures { result ≡ root_in known.now count number bytes.now }
+/// What the root sector of this number is, on a device of so many sectors, to a reader that knows these families of marks. Each
+/// family has the marks of one format, in the order of their introduction.
+pub fn read_root(known: &[&[[u8; 8]]], count: u32, number: u32, bytes: &[u8; 4096]) -> RootSector
+    ensures { result ≡ root_in (map (λ family. family.now) known.now) count number bytes.now }
 {
     if is_all_zeros(bytes) {
         return RootSector::Blank;

@@ -8,7 +8,7 @@ use Rattle.roots.specs.declared.pair.Roots.{Roots}
 use Rattle.roots.specs.Reading.{roots_in}
 use Rattle.records.specs.Files.{Files}
 use Rattle.records.specs.Connector.{Entry}
-use Rattle.half_store.specs.Half.{known_marks as half_marks, Holds as HoldsHalf}
+use Rattle.half_store.specs.Half.{known_families as half_families, Holds as HoldsHalf}
 use Rattle.half_store.specs.Stands.{LacksRoom as LacksHalf}
 use Rattle.alternate_keys.specs.Opened.{HasMap}
 use Rattle.alternate_keys.specs.Stands.{LacksRoom as LacksTrees}
@@ -71,7 +71,7 @@ pub data RunsOnVolume (holds : List Sector → Files → Type 0) (no_room : Run 
 
 -- the newest root of an image is one of a volume of halves
 abbrev pub IsOfHalves : List Sector → Type 0
-IsOfHalves image = (roots : Roots) × (roots_in half_marks 1 image ≡ Ok roots)
+IsOfHalves image = (roots : Roots) × (roots_in half_families image ≡ Ok roots)
 
 -- A call that opens a volume of halves, and does a run over the files that it finds. Such a volume is read whole when it is
 -- opened. Either it isn't opened, or it held files, and the call is one with these. The program's files are these entries.

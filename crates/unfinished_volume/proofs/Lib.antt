@@ -2,3 +2,4 @@ pub mod Inversion
 pub mod Hiding
 pub mod RootMoments
 pub mod NoRoots
+mod Examples

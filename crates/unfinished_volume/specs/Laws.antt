@@ -3,14 +3,16 @@ use Rattle.std.specs.Prelude.{◌≡◌, ℕ, List, slice_index_or, Err}
 use Rattle.std.specs.List.{AllByRecursion}
 use Rattle.station.specs.Disk.{Sector}
 use Rattle.roots.specs.declared.pair.RootsFault.TheVariants.{Damaged}
+use Rattle.roots.specs.Root.{Family}
 use Rattle.roots.specs.Reading.{roots_in}
 use Rattle.unfinished_volume.specs.Hidden.{mark_letter, IsRootHidden}
 
--- each mark begins with that letter
-abbrev pub HaveMarkLetter : List (List ℕ) → Type 0
-HaveMarkLetter marks = AllByRecursion (λ (mark : List ℕ). slice_index_or mark 0 0 ≡ mark_letter) marks
+-- each mark of each family begins with that letter
+abbrev pub HaveMarkLetter : List Family → Type 0
+HaveMarkLetter known = AllByRecursion (λ (family : Family).
+    AllByRecursion (λ (mark : List ℕ). slice_index_or mark 0 0 ≡ mark_letter) family) known
 
--- No reader of these marks finds a root, whatever the other sectors are.
+-- No reader of these families finds a root, whatever the other sectors are.
 abbrev pub HiddenRootIsDamage : Type 0
-HiddenRootIsDamage = (marks : List (List ℕ)) (own : ℕ) (image : List Sector) → HaveMarkLetter marks
-    → IsRootHidden image → roots_in marks own image ≡ Err Damaged
+HiddenRootIsDamage = (known : List Family) (image : List Sector) → HaveMarkLetter known → IsRootHidden image
+    → roots_in known image ≡ Err Damaged

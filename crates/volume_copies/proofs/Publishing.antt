@@ -9,8 +9,8 @@ use Rattle.station.proofs.Crash.{settled_image}
 use Rattle.station.proofs.Spans.{goes, weakens}
 use Rattle.roots.specs.declared.pair.RootsFault.TheVariants as roots
 use Rattle.roots.specs.Reading.{roots_in}
-use Rattle.pages.specs.Layout.{root_of, known_marks as tree_marks}
-use Rattle.half_store.specs.Half.{known_marks as half_marks}
+use Rattle.pages.specs.Layout.{root_of, known_families as tree_families}
+use Rattle.half_store.specs.Half.{known_families as half_families}
 use Rattle.records.specs.Files.{Files}
 use Rattle.records.specs.declared.fault.StoreFault.{StoreFault}
 use Rattle.file_recovery.specs.Recovered.{HoldsFiles}
@@ -27,8 +27,8 @@ use Rattle.volume_copies.specs.declared.copied.VolumeCopy.TheVariants.{Done, Dif
 use Rattle.volume_copies.specs.declared.copy_error.CopyError.{CopyError}
 use Rattle.volume_copies.specs.Made.{IsNoneOrSame}
 
-no_files : (image : List Sector) (files : Files) → roots_in tree_marks 1 image ≡ Err roots.Damaged
-    → roots_in half_marks 1 image ≡ Err roots.Damaged → HoldsFiles image files → ⊥
+no_files : (image : List Sector) (files : Files) → roots_in tree_families image ≡ Err roots.Damaged
+    → roots_in half_families image ≡ Err roots.Damaged → HoldsFiles image files → ⊥
 no_files image files trees halves holds = ⊎_elim
     (λ tree. let clash : None ≡ Some tree.1.0.root = sym (ap root_of trees) ∙ tree.1.1.root in
     true≢false (sym (ap is_some clash)))
@@ -37,8 +37,10 @@ no_files image files trees halves holds = ⊎_elim
 -- without a root
 pub no_volume : HiddenRootIsDamage → (image : List Sector) → IsRootHidden image → IsNoVolume image
 no_volume law image hidden =
-    let trees : roots_in tree_marks 1 image ≡ Err roots.Damaged = law tree_marks 1 image (refl, (refl, tt)) hidden in
-    let halves : roots_in half_marks 1 image ≡ Err roots.Damaged = law half_marks 1 image (refl, (refl, tt)) hidden in
+    let trees : roots_in tree_families image ≡ Err roots.Damaged =
+    law tree_families image ((refl, (refl, tt)), ((refl, tt), tt)) hidden in
+    let halves : roots_in half_families image ≡ Err roots.Damaged =
+    law half_families image ((refl, tt), ((refl, (refl, tt)), tt)) hidden in
     record {
       trees = trees;
       halves = halves;

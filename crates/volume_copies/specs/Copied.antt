@@ -8,8 +8,8 @@ use Rattle.station.specs.State.{State, state_after_sync}
 use Rattle.station.specs.declared.device.Device.{Ghosts as Devices}
 use Rattle.roots.specs.declared.pair.RootsFault.TheVariants as roots
 use Rattle.roots.specs.Reading.{roots_in}
-use Rattle.pages.specs.Layout.{known_marks as tree_marks}
-use Rattle.half_store.specs.Half.{known_marks as half_marks}
+use Rattle.pages.specs.Layout.{known_families as tree_families}
+use Rattle.half_store.specs.Half.{known_families as half_families}
 use Rattle.records.specs.declared.fault.StoreFault.TheVariants.{Device}
 use Rattle.records.specs.Files.{Files}
 use Rattle.records.specs.Faults.{number_of as fault_number}
@@ -48,8 +48,8 @@ pub record HoldsCopy (old image : List Sector) : Type 0 where
 
 -- An image is no volume: neither a reader of trees nor one of halves finds a root, and it holds no files.
 pub record IsNoVolume (image : List Sector) : Type 0 where
-  pub trees : roots_in tree_marks 1 image ≡ Err roots.Damaged
-  pub halves : roots_in half_marks 1 image ≡ Err roots.Damaged
+  pub trees : roots_in tree_families image ≡ Err roots.Damaged
+  pub halves : roots_in half_families image ≡ Err roots.Damaged
   pub files : HoldsNone image
 
 -- While these files are copied to a device, a crash leaves what was possible before, no volume, or the same files.
