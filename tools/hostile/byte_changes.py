@@ -6,7 +6,7 @@ from power_cuts.volume import SECTOR, prime_length
 
 def entry_lengths(content):
     """How long entries of the volume's trees are, in leaves and in inner pages."""
-    lengths = {30 + 83, 30 + 4}
+    lengths = {30 + 83, 30 + 91, 30 + 4}
     for description in [file.description for file in content]:
         prime = prime_length(description)
         lengths |= {prime + description.length + 8 * len(description.alternates), prime + 4}

@@ -73,7 +73,7 @@ class FieldChange:
 
     def move_page(self):
         """A page is in another sector."""
-        if self.fields.root.mark != TREES or not self.fields.named.get("map: page"):
+        if self.fields.root.mark not in TREES or not self.fields.named.get("map: page"):
             return self.raise_generations()
         entry, sector = self.random.choice(self.fields.named["map: page"]), self.free_sector()
         old = self.volume.number(entry.at, 4)

@@ -4,7 +4,7 @@
 use. Each field has a name, its place in the volume and its length."""
 from collections import defaultdict, namedtuple
 
-from power_cuts.volume import (HALVES, SECTOR, TREES, Pages, half_of, map_count, number, prime_length, read_description, read_root)
+from power_cuts.volume import (HALVES, LISTING, SECTOR, TREES, Pages, half_of, map_count, number, prime_length, read_description, read_root)
 
 Field = namedtuple("Field", "at length")
 # A file: what it is, the places of its rows' keys and records, and of each alternate key the places of its entries' keys and values.
@@ -20,9 +20,9 @@ def description_parts(count):
     return DESCRIPTION + ALTERNATE * count + [("missing key", 5)] * (ALTERNATES - count)
 
 
-def catalog_parts(count):
+def catalog_parts(count, is_counted):
     roots = [("alternate root", 4)] * count + [("missing root", 4)] * (ALTERNATES - count)
-    return description_parts(count) + [("root of rows", 4)] + roots + [("next arrival", 8)]
+    return description_parts(count) + [("root of rows", 4)] + roots + [("next arrival", 8)] + [("rows", 8)] * is_counted
 
 
 class Fields:
@@ -33,9 +33,10 @@ class Fields:
         roots = {which: read_root(Sectors(volume), which) for which in (0, 1)}
         self.newest = max((which for which in roots if roots[which]), key=lambda which: roots[which].generation)
         self.root = roots[self.newest]
+        self.is_counted = self.root.mark in TREES[1:]
         for which, root in roots.items():
             self.add_root(which, root)
-        if self.root.mark == TREES:
+        if self.root.mark in TREES:
             self.add_trees()
         else:
             self.add_half()
@@ -56,7 +57,7 @@ class Fields:
     def add_root(self, which, root):
         prefix = "root: " if which == self.newest else "older root: "
         parts = [("mark", 8), ("generation", 8), ("sectors", 4)]
-        if root and root.mark == HALVES:
+        if root and root.mark in HALVES:
             parts.append(("bytes in use", 8))
         else:
             parts += [("catalog", 4), ("map sectors", 4)] + [("map sector", 4)] * map_count(self.root.sectors)
@@ -70,7 +71,7 @@ class Fields:
         self.maps = [number(self.root.payload, 8 + 4 * i, 4) for i in range(map_count(self.root.sectors))]
         self.add_map()
         catalog = number(self.root.payload, 0, 4)
-        for _, value in self.add_tree("catalog: ", catalog, CATALOG_KEY, catalog_parts(0)):
+        for _, value in self.add_tree("catalog: ", catalog, CATALOG_KEY, catalog_parts(0, self.is_counted)):
             self.add_file(value)
 
     def add_map(self):
@@ -81,10 +82,10 @@ class Fields:
 
     def add_file(self, at):
         """Adds the fields of a catalog entry whose value begins here, and of the file's trees."""
-        value = self.volume.read(at, 83)
+        value = self.volume.read(at, LISTING)
         description = read_description(value[:43])
         count = len(description.alternates)
-        self.add_parts("catalog: ", at, catalog_parts(count))
+        self.add_parts("catalog: ", at, catalog_parts(count, self.is_counted))
         key = [("key", prime_length(description))]
         rows = self.add_tree("rows: ", number(value, 43, 4), key, [("record", description.length)] + [("arrival", 8)] * count)
         alternates = []

@@ -221,7 +221,7 @@ class Cuts:
 def make_halves(volume, sectors):
     """Makes a new volume one of halves without files, which no command makes."""
     with open(volume, "r+b") as file:
-        file.write((HALVES + bytes(8) + sectors.to_bytes(4, "big")).ljust(SECTOR, b"\0"))
+        file.write((HALVES[0] + bytes(8) + sectors.to_bytes(4, "big")).ljust(SECTOR, b"\0"))
 
 
 def large_shape(random, name):

@@ -1,7 +1,7 @@
 """The files of a volume, read from the bytes by the description of the format alone.
 
 A volume is a row of sectors of 4,096 bytes; numbers are big-endian. Sectors 0 and 1 are roots, and the newest valid root says where
-everything is: in trees of pages (mark COBVOL01) or in one of two halves (mark COBHALF1). `read_files` follows every byte that the
+everything is: in trees of pages (marks COBVOL01 and COBVOL02) or in one of two halves (mark COBHALF1). `read_files` follows every byte that the
 roots lead to and checks every rule of the format. A volume that breaks a rule is `Damaged`."""
 import struct
 from dataclasses import dataclass
@@ -9,7 +9,10 @@ from functools import cached_property
 from typing import NamedTuple
 
 SECTOR = 4096
-TREES, HALVES = b"COBVOL01", b"COBHALF1"
+# The marks of each layout, in the order in which they came up.
+TREES, HALVES = [b"COBVOL01", b"COBVOL02"], [b"COBHALF1"]
+# How many bytes a value of the catalog has without the number of rows, which the second mark of trees adds.
+LISTING = 83
 KINDS = ["sequential", "relative", "indexed"]
 MOST_FILES = 255
 MOST_SECTORS = 921_600
@@ -85,7 +88,7 @@ def ascends(values):
 def read_files(volume):
     """The files in an open file, by ascending name. `volume` has `read_sector(n)` and `count`."""
     newest = newest_root(volume)
-    files = read_trees(volume, newest) if newest.mark == TREES else read_half(volume, newest)
+    files = read_trees(volume, newest) if newest.mark in TREES else read_half(volume, newest)
     need(len(files) <= MOST_FILES and ascends([file.name for file in files]))
     return files
 
@@ -97,15 +100,21 @@ def newest_root(volume):
     need(roots)
     if len(roots) == 2:
         need(abs(roots[0].generation - roots[1].generation) == 1)
-        need(roots[0].mark == roots[1].mark and roots[0].sectors == roots[1].sectors)
+        need(follows(*sorted(roots, key=lambda root: root.generation)))
     return max(roots, key=lambda root: root.generation)
+
+
+def follows(older, newer):
+    """Whether two roots have one number of sectors, and marks of one layout, of which the newer root's isn't the earlier one."""
+    marks = TREES if newer.mark in TREES else HALVES
+    return older.sectors == newer.sectors and older.mark in marks[:marks.index(newer.mark) + 1]
 
 
 def is_openable(volume):
     """Whether the roots and the map are sound, or all of a volume of halves."""
     try:
         root = newest_root(volume)
-        if root.mark == TREES:
+        if root.mark in TREES:
             Pages(volume, root)
         else:
             read_files(volume)
@@ -120,10 +129,10 @@ def read_root(volume, which):
     if not any(sector):
         return None
     root = Root(sector[:8], number(sector, 8, 8), number(sector, 16, 4), sector[20:])
-    need(root.mark in (TREES, HALVES))
+    need(root.mark in TREES + HALVES)
     need(root.generation < 2**63 and root.generation % 2 == which)
     need(1024 <= root.sectors <= min(MOST_SECTORS, volume.count))
-    if root.mark == TREES:
+    if root.mark in TREES:
         maps = number(root.payload, 4, 4)
         need(maps == map_count(root.sectors) and not any(root.payload[8 + 4 * maps:]))
     else:
@@ -165,8 +174,10 @@ class Pages:
 
 def read_trees(volume, root):
     pages = Pages(volume, root)
-    catalog = read_tree(pages, number(root.payload, 0, 4), 30, 83)
+    is_counted = root.mark != TREES[0]
+    catalog = read_tree(pages, number(root.payload, 0, 4), 30, LISTING + 8 * is_counted)
     files = [read_file(pages, root.generation, name, value) for name, value in catalog]
+    need(not is_counted or [number(value, LISTING, 8) for _, value in catalog] == [len(file.rows) for file in files])
     need(reaches_all(pages))
     return files
 
@@ -174,7 +185,7 @@ def read_trees(volume, root):
 def free_sectors(volume):
     """How many sectors of a volume of trees its newest root doesn't use: it names neither them nor a map that names them. None for halves."""
     root = newest_root(volume)
-    return root.sectors - 2 - len(Pages(volume, root).named) if root.mark == TREES else None
+    return root.sectors - 2 - len(Pages(volume, root).named) if root.mark in TREES else None
 
 
 def reaches_all(pages):

@@ -15,7 +15,7 @@ use Rattle.records.specs.Spec.{Spec, is_name}
 use Rattle.records.specs.Rows.{bytes_cmp}
 use Rattle.records.specs.Files.{File, Files, NamedFile, IsNamed, AreFiles, empty_file, file_at, with_file}
 use Rattle.file_bytes.specs.Description.{padded_name}
-use Rattle.volume_format.specs.Catalog.{listing_bytes}
+use Rattle.volume_format.specs.Catalog.{listing_bytes, catalog_value}
 use Rattle.volume_format.specs.Forest.{TreeLevels, IsForest}
 use Rattle.volume_format.specs.Grows.{IsTreeAmong}
 use Rattle.volume_format.specs.Volume.{FileTrees, IsKept, MapHolds, trees_of, catalog_entry, tree_levels}
@@ -89,25 +89,31 @@ order_at : (k new : FileTrees) (name : List ℕ) (o : Ordering) → is_name name
 order_at k new name o named is own at = ap (λ (n : List ℕ). key_cmp (padded_name k.named.name) (padded_name n)) is
     ∙ names_in_order k.named.name name own named ∙ at
 
-entry_first : (name : List ℕ) (new : FileTrees) (after : List FileTrees) → is_name name ≡ true → new.named.name ≡ name
+entry_first : (mark : ℕ) (name : List ℕ) (new : FileTrees) (after : List FileTrees) → is_name name ≡ true
+    → new.named.name ≡ name
     → AllByRecursion (λ (k : FileTrees). is_name k.named.name ≡ true) after → Above name after →
-    with_new_entry (map catalog_entry after) (catalog_entry new) ≡ catalog_entry new ∷ map catalog_entry after
-entry_first name new [] named is all above = refl
-entry_first name new (k ∷ more) named is all above =
-    ap (λ (o : Ordering). if is_lt o then catalog_entry k ∷ with_new_entry (map catalog_entry more) (catalog_entry new)
-    else catalog_entry new ∷ catalog_entry k ∷ map catalog_entry more)
+    with_new_entry (map (catalog_entry mark) after) (catalog_entry mark new)
+    ≡ catalog_entry mark new ∷ map (catalog_entry mark) after
+entry_first mark name new [] named is all above = refl
+entry_first mark name new (k ∷ more) named is all above =
+    ap (λ (o : Ordering). if is_lt o
+    then catalog_entry mark k ∷ with_new_entry (map (catalog_entry mark) more) (catalog_entry mark new)
+    else catalog_entry mark new ∷ catalog_entry mark k ∷ map (catalog_entry mark) more)
     (order_at k new name Greater named is all.0 above)
 
-entry_in : (name : List ℕ) (before : List FileTrees) (new : FileTrees) (after : List FileTrees) → is_name name ≡ true
+entry_in : (mark : ℕ) (name : List ℕ) (before : List FileTrees) (new : FileTrees) (after : List FileTrees)
+    → is_name name ≡ true
     → new.named.name ≡ name → AllByRecursion (λ (k : FileTrees). is_name k.named.name ≡ true) (before ++ after)
     → AllByRecursion (λ (k : FileTrees). bytes_cmp k.named.name name ≡ Less) before → Above name after →
-    with_new_entry (map catalog_entry (before ++ after)) (catalog_entry new) ≡ map catalog_entry (before ++ new ∷ after)
-entry_in name [] new after named is all lower above = entry_first name new after named is all above
-entry_in name (k ∷ before) new after named is all lower above =
-    let more : List Entry = map catalog_entry (before ++ after) in
-    ap (λ (o : Ordering). if is_lt o then catalog_entry k ∷ with_new_entry more (catalog_entry new)
-    else catalog_entry new ∷ catalog_entry k ∷ more) (order_at k new name Less named is all.0 lower.0)
-    ∙ ap (λ (es : List Entry). catalog_entry k ∷ es) (entry_in name before new after named is all.1 lower.1 above)
+    with_new_entry (map (catalog_entry mark) (before ++ after)) (catalog_entry mark new)
+    ≡ map (catalog_entry mark) (before ++ new ∷ after)
+entry_in mark name [] new after named is all lower above = entry_first mark name new after named is all above
+entry_in mark name (k ∷ before) new after named is all lower above =
+    let more : List Entry = map (catalog_entry mark) (before ++ after) in
+    ap (λ (o : Ordering). if is_lt o then catalog_entry mark k ∷ with_new_entry more (catalog_entry mark new)
+    else catalog_entry mark new ∷ catalog_entry mark k ∷ more) (order_at k new name Less named is all.0 lower.0)
+    ∙ ap (λ (es : List Entry). catalog_entry mark k ∷ es)
+    (entry_in mark name before new after named is all.1 lower.1 above)
 
 all_names : (kept : List FileTrees) → AllByRecursion IsNamed (named_of kept)
     → AllByRecursion (λ (k : FileTrees). is_name k.named.name ≡ true) kept
@@ -141,15 +147,16 @@ module _ (m : Map) (files : Files) (holds : MapHolds m files) (name : List ℕ) 
   new = empty_file_trees name spec
 
   pub holds_added : (pages : List (Option Sector)) (catalog : ℕ) (listing : List ℕ)
-      → IsTreeAmong pages [] (flat_map trees_of holds.kept) (catalog_at catalog)
-      (with_new_entry (map catalog_entry holds.kept) (entry_as (padded_name name) listing)) →
+      → IsTreeAmong pages [] (flat_map trees_of holds.kept) (catalog_at m.mark catalog)
+      (with_new_entry (map (catalog_entry m.mark) holds.kept)
+      (entry_as (padded_name name) (catalog_value m.mark listing 0))) →
       listing ≡ listing_bytes
       (record { spec = spec; prime = 0; alternates = replicate (length spec.alternates) 0; next_arrival = 1 })
       → AreFiles (with_file name (empty_file spec) files)
-      → MapHolds (map_with (m.generation + 1) catalog pages) (with_file name (empty_file spec) files)
+      → MapHolds (map_with m.mark (m.generation + 1) catalog pages) (with_file name (empty_file spec) files)
   holds_added pages catalog listing stands says are =
       let here = gap in
-      let root : TreeLevels = tree_levels (catalog_at catalog) stands.levels in
+      let root : TreeLevels = tree_levels (catalog_at m.mark catalog) stands.levels in
       let P : FileTrees → Type 0 = IsKept m.generation in
       let Q : FileTrees → Type 0 = IsKept (m.generation + 1) in
       let older : All Q (here.before ++ here.after) = All-weaker P Q next_kept (here.before ++ here.after)
@@ -166,16 +173,17 @@ module _ (m : Map) (files : Files) (holds : MapHolds m files) (name : List ℕ) 
       let names =
       all_names (here.before ++ here.after) (subst (λ (l : List FileTrees). AllByRecursion IsNamed (named_of l)) here.is
       (subst (λ (l : Files). AllByRecursion IsNamed l) (sym holds.named) holds.are.each)) in
-      let entry : entry_as (padded_name name) listing ≡ catalog_entry new =
-      ap (entry_as (padded_name name)) (empty_says spec name listing says) in
+      let entry : entry_as (padded_name name) (catalog_value m.mark listing 0) ≡ catalog_entry m.mark new =
+      ap (λ (l : List ℕ). entry_as (padded_name name) (catalog_value m.mark l 0)) (empty_says spec name listing says) in
       record {
         kept = here.before ++ new ∷ here.after;
         keeps = record {
           catalog = stands.levels;
           forest = subst (λ (ts : List TreeLevels). IsForest pages ts) joined grown;
-          listed = stands.listed ∙ ap (λ (e : Entry). with_new_entry (map catalog_entry holds.kept) e) entry
-              ∙ ap (λ (l : List FileTrees). with_new_entry (map catalog_entry l) (catalog_entry new)) here.is
-              ∙ entry_in name here.before new here.after named refl names here.lower here.above;
+          listed = stands.listed ∙ ap (λ (e : Entry). with_new_entry (map (catalog_entry m.mark) holds.kept) e) entry
+              ∙ ap (λ (l : List FileTrees). with_new_entry (map (catalog_entry m.mark) l) (catalog_entry m.mark new))
+              here.is
+              ∙ entry_in m.mark name here.before new here.after named refl names here.lower here.above;
           each = All-append Q here.before (new ∷ here.after) (all_left Q here.before here.after older)
               (All-cons Q new here.after (empty_is spec m.generation name) (all_right Q here.before here.after older));
         };

@@ -42,6 +42,7 @@ module _ {D : Type 0} (d : Devices D) where
     only = reads_then d A B C a b c which first.only second.only;
     committed = record {
       volume = second.committed.volume ∙ first.committed.volume;
+      mark = second.committed.mark ∙ first.committed.mark;
       spent = second.committed.spent ∙ first.committed.spent;
     };
     catalog = second.catalog ∙ first.catalog;
@@ -72,6 +73,7 @@ module _ {D : Type 0} (d : Devices D) where
     only = reads_then d A B C a b c (λ is. inr (from is)) first.only second.only;
     committed = record {
       volume = second.committed.volume ∙ first.committed.volume;
+      mark = second.committed.mark ∙ first.committed.mark;
       spent = second.committed.spent ∙ first.committed.spent;
     };
     agrees = λ honest agrees. second.agrees (first.only.honest.0 honest) (first.agrees honest agrees);
@@ -82,7 +84,11 @@ module _ {D : Type 0} (d : Devices D) where
       → ((disk : Disk) → Agrees q disk → Agrees r disk) → IsOpen r → Prepares d B p a r b
   prepares_set A B p q r a b from edits same agrees is_open = record {
     only = reads_blamed d A B a b from edits.only;
-    committed = record { volume = same.volume ∙ edits.committed.volume; spent = same.spent ∙ edits.committed.spent };
+    committed = record {
+      volume = same.volume ∙ edits.committed.volume;
+      mark = same.mark ∙ edits.committed.mark;
+      spent = same.spent ∙ edits.committed.spent;
+    };
     agrees = λ honest was. agrees (d.state b).disk (edits.agrees honest was);
     is_open = is_open;
   }

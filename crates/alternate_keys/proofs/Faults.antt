@@ -33,6 +33,10 @@ pub never_full_memory : {T : Type 0} (result : Result T StoreFault) → IsOkUnle
     → ⊥
 never_full_memory result only is = let clash : Full ≡ Memory = subst (λ r. IfErr r (λ x. x ≡ Memory)) is only in cc
 
+pub never_damaged : {T : Type 0} (result : Result T StoreFault) → IsOkUnless result Memory → result ≡ Err Damaged
+    → ⊥
+never_damaged result only is = let clash : Damaged ≡ Memory = subst (λ r. IfErr r (λ x. x ≡ Memory)) is only in cc
+
 -- a call that only reads is never refused for want of room
 pub never_full : {T : Type 0} (result : Result T StoreFault) → IfErr result IsReadFault → result ≡ Err Full → ⊥
 never_full result cause is = subst (λ r. IfErr r IsReadFault) is cause

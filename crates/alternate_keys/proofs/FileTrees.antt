@@ -44,7 +44,7 @@ module _ (spec : Spec) (named : NamedFile) (generation : ℕ) (pages : List (Opt
   spec_here = ap (λ (f : File). f.spec) file_is ∙ has.spec_is
 
   abbrev the_map : Map
-  the_map = record { generation = generation; catalog = 0; pages = pages }
+  the_map = record { mark = 0; generation = generation; catalog = 0; pages = pages }
 
   grown : All (IsTreeIn pages) (trees_of kept_in)
   grown = all_left (IsTreeIn pages) (trees_of kept_in) right
@@ -79,7 +79,7 @@ module _ (spec : Spec) (named : NamedFile) (generation : ℕ) (pages : List (Opt
   prime_same : (prime : RootedTree) → prime.layout ≡ layout_under spec Prime → prime.root ≡ root_in Prime listing
       → prime ≡ kept_in.prime.tree
   prime_same prime layout root = tree_is the_map (Some kept_in.named.file) kept_in spec Prime
-      (record { key = []; value = listing }) prime found has.small spec_here (omega arith) has.placed.says layout root
+      listing prime found has.small spec_here (omega arith) has.placed.says layout root
 
   pub prime_stands : (prime : RootedTree) → prime.layout ≡ layout_under spec Prime → prime.root ≡ root_in Prime listing
       → IsTreeAmong pages left (kept_in.alternates ++ right) prime (map (entry_under spec Prime) named.file.rows)
@@ -113,7 +113,7 @@ module _ (spec : Spec) (named : NamedFile) (generation : ℕ) (pages : List (Opt
       subst (λ (s : Spec).
       HasPairs s (Alternate i) pages kept_in.named.file.rows (tree_under (Alternate i) kept_in).tree) spec_here own in
       let same =
-      tree_is the_map (Some kept_in.named.file) kept_in spec (Alternate i) (record { key = []; value = listing })
+      tree_is the_map (Some kept_in.named.file) kept_in spec (Alternate i) listing
       (listed_tree spec i listing) found has.small spec_here (omega (arith, low)) has.placed.says refl refl in
       subst (λ (t : RootedTree). HasPairs spec (Alternate i) pages named.file.rows t) (sym same) (subst
       (λ (f : File). HasPairs spec (Alternate i) pages f.rows (tree_under (Alternate i) kept_in).tree) file_is here)
@@ -163,7 +163,7 @@ module _ (spec : Spec) (named : NamedFile) (generation : ℕ) (pages : List (Opt
   told_tree key within =
       let own : RootedTree = record { layout = layout_under kept_in.named.file.spec key; root = root_in key listing } in
       sym (tree_is the_map (Some kept_in.named.file) kept_in kept_in.named.file.spec key
-      (record { key = []; value = listing }) own found has.small refl within has.placed.says refl refl)
+      listing own found has.small refl within has.placed.says refl refl)
 
   pub prime_told : kept_in.prime.tree
       ≡ record { layout = layout_under kept_in.named.file.spec Prime; root = root_in Prime listing }

@@ -1,6 +1,6 @@
 -- The trees in which a row of a file that was found is sought.
 use Rattle.std.proofs.Common.{◌≡◌, ◌≤◌, ◌<◌, ◌^◌, ℕ, true, List, length, refl, sym, ap, subst, ◌∙◌, arith}
-use Rattle.std.specs.Prelude.{Option, Some, None}
+use Rattle.std.specs.Prelude.{take, Option, Some, None}
 use Rattle.std.proofs.lemmas.Bool.{eqb-true}
 use Rattle.station.specs.Disk.{Sector}
 use Rattle.pages.specs.Image.{Map}
@@ -25,7 +25,7 @@ use Rattle.alternate_keys.specs.declared.search_start.SearchStart.{SearchStart}
 use Rattle.alternate_keys.specs.Aims.{IsBound, aim_of, aim_key}
 use Rattle.alternate_keys.specs.Listed.{IsFoundFile, IsListed, root_in}
 use Rattle.alternate_keys.specs.Seen.{HasRows, HasPairs, IsSought}
-use Rattle.alternate_keys.proofs.Keeping.{rows_seen, pairs_seen, tree_is, tree_under}
+use Rattle.alternate_keys.proofs.Keeping.{rows_seen, pairs_seen, tree_is, tree_under, listing_kept}
 
 -- only an indexed file has alternate keys
 indexed_by : (n : ℕ) (o : Organization) (keys : List AlternateKey) (i : ℕ) → are_keys n o keys ≡ true → i < length keys
@@ -97,9 +97,9 @@ pub record Knows (m : Map) (found : Option File) (held : File) (spec : Spec) (ke
   pub good : is_spec spec ≡ true
   pub key_is : IsKey spec key
   pub prime_layout : prime.layout ≡ layout_under spec Prime
-  pub prime_root : prime.root ≡ root_in Prime entry.value
+  pub prime_root : prime.root ≡ root_in Prime (take 83 entry.value)
   pub under_layout : under.layout ≡ layout_under spec key
-  pub under_root : under.root ≡ root_in key entry.value
+  pub under_root : under.root ≡ root_in key (take 83 entry.value)
 
 pub sought_in : (m : Map) (found : Option File) (held : File) (spec : Spec) (key : KeyOfReference) (bound : RowBound)
     (listed : Option Entry) (entry : Entry) (prime under : RootedTree) (way : SearchStart) (at : List ℕ) →
@@ -114,12 +114,14 @@ sought_in m found held spec key bound listed entry prime under way at knows boun
     let spec_is : kept.named.file.spec ≡ spec = ap (λ (f : File). f.spec) same ∙ knows.spec_is in
     let low = knows.small in
     let small : length m.pages ≤ 2 ^ 20 = omega (arith, low) in
-    let value = ap (λ (e : Entry). e.value) there.2 in
+    let value = ap (λ (e : Entry). take 83 e.value) there.2 ∙ listing_kept m found kept is in
     let own : IsKey kept.named.file.spec key = subst (λ (s : Spec). IsKey s key) (sym spec_is) knows.key_is in
-    let prime_is = tree_is m found kept spec Prime entry prime is small spec_is (omega arith) value knows.prime_layout
+    let prime_is =
+    tree_is m found kept spec Prime (take 83 entry.value) prime is small spec_is (omega arith) value knows.prime_layout
     knows.prime_root in
     let under_is =
-    tree_is m found kept spec key entry under is small spec_is knows.key_is value knows.under_layout knows.under_root in
+    tree_is m found kept spec key (take 83 entry.value) under is small spec_is knows.key_is value knows.under_layout
+    knows.under_root in
     record {
       there = rows_as m.pages kept.named.file held spec kept.prime.tree prime same knows.spec_is prime_is
           (rows_seen m found kept is knows.few);

@@ -1,7 +1,7 @@
 -- The trees of a file that was found have its rows and pairs.
 use Rattle.std.proofs.Common.{◌≡◌, ⊎_elim, ◌<◌, ◌≤◌, ◌^◌, ℕ, zero, suc, List, [], ◌∷◌, length, refl, sym, ap, subst}
 use Rattle.std.proofs.Common.{◌∙◌, arith}
-use Rattle.std.specs.Prelude.{map, slice_index_or, Contains, Option}
+use Rattle.std.specs.Prelude.{map, take, slice_index_or, Contains, Option}
 use Rattle.std.specs.List.{All}
 use Rattle.std.proofs.lemmas.List.{length-map}
 use Rattle.std.proofs.lemmas.List.Elements.{All-head, All-tail, All-cons, All-nil, All-from_recursion}
@@ -17,11 +17,12 @@ use Rattle.records.specs.Files.{File, IsRow}
 use Rattle.volume_format.specs.Catalog.{listing_bytes}
 use Rattle.volume_format.specs.Trees.{entry_under, layout_under}
 use Rattle.volume_format.specs.Forest.{TreeLevels, IsTreeIn}
-use Rattle.volume_format.specs.Volume.{FileTrees, listing_of, no_tree}
+use Rattle.volume_format.specs.Volume.{FileTrees, catalog_entry, listing_of, no_tree}
 use Rattle.volume_format.proofs.Comes.{in_cons}
 use Rattle.volume_format.proofs.Keeping.{rows_fit}
-use Rattle.volume_format.proofs.Listings.{prime_read, root_read}
+use Rattle.volume_format.proofs.Listings.{prime_read, root_read, long}
 use Rattle.volume_format.proofs.Roots.{root_small}
+use Rattle.volume_format.proofs.Values.{reads_back}
 use Rattle.btree.proofs.Runs.{in_head, in_tail, in_none}
 use Rattle.alternate_keys.specs.Listed.{IsFoundFile, root_in}
 use Rattle.alternate_keys.specs.Seen.{HasRows, HasPairs}
@@ -129,12 +130,20 @@ layout_is : (m : Map) (found : Option File) (kept : FileTrees) (key : KeyOfRefer
 layout_is m found kept Prime is within = is.is.layout
 layout_is m found kept (Alternate i) is within = (is.is.indexes i within).layout
 
-pub tree_is : (m : Map) (found : Option File) (kept : FileTrees) (spec : Spec) (key : KeyOfReference) (entry : Entry)
-    (tree : RootedTree) → IsFoundFile m found kept → length m.pages ≤ 2 ^ 20 → kept.named.file.spec ≡ spec
+-- the listing in its entry
+pub listing_kept : (m : Map) (found : Option File) (kept : FileTrees) → IsFoundFile m found kept
+    → take 83 (catalog_entry m.mark kept).value ≡ listing_bytes (listing_of kept)
+listing_kept m found kept is = (reads_back m.mark (listing_bytes (listing_of kept)) (length kept.named.file.rows)
+    (long (listing_of kept) is.named.file.spec (length-map kept.alternates (λ (tree : TreeLevels). tree.tree.root)
+    ∙ is.is.count))).head
+
+pub tree_is : (m : Map) (found : Option File) (kept : FileTrees) (spec : Spec) (key : KeyOfReference)
+    (listing : List ℕ) (tree : RootedTree) → IsFoundFile m found kept → length m.pages ≤ 2 ^ 20
+    → kept.named.file.spec ≡ spec
     → IsKey spec key →
-    entry.value ≡ listing_bytes (listing_of kept) → tree.layout ≡ layout_under spec key
-    → tree.root ≡ root_in key entry.value → tree ≡ (tree_under key kept).tree
-tree_is m found kept spec key entry tree is small same within value layout root =
+    listing ≡ listing_bytes (listing_of kept) → tree.layout ≡ layout_under spec key
+    → tree.root ≡ root_in key listing → tree ≡ (tree_under key kept).tree
+tree_is m found kept spec key listing tree is small same within value layout root =
     let own : IsKey kept.named.file.spec key = subst (λ (s : Spec). IsKey s key) (sym same) within in
     same_tree tree (tree_under key kept).tree (layout ∙ ap (λ (s : Spec). layout_under s key) (sym same)
     ∙ sym (layout_is m found kept key is own)) (root ∙ ap (root_in key) value ∙ root_is m found kept key is small own)

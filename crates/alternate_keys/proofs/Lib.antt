@@ -49,4 +49,5 @@ pub mod HeldTrees
 pub mod Moving
 pub mod MovingRows
 pub mod ListedFile
+pub mod RowCounts
 mod TakenRow

@@ -46,10 +46,14 @@ kept_count name kept held file found =
     ∙ sym (ap (λ (l : List FileTrees). length (named_of l)) found.split.is)
 
 -- the map of the next generation
-pub next_with : (p q : PageMap) (image : List Sector) → SameCommitted p q → map_with ((map_now p image).generation + 1)
-    (catalog_of q) (map_now q image).pages ≡ next_generation (map_now q image)
+pub next_with : (p q : PageMap) (image : List Sector) → SameCommitted p q
+    → map_with (map_now p image).mark ((map_now p image).generation + 1) (catalog_of q) (map_now q image).pages
+    ≡ next_generation (map_now q image)
 next_with p q image same =
-    ap (λ v. map_with (v.generation + 1) (catalog_of q) (map_now q image).pages) (sym same.volume)
+    ap (λ v. map_with (map_now p image).mark (v.generation + 1) (catalog_of q) (map_now q image).pages)
+    (sym same.volume)
+    ∙ ap (λ (n : ℕ). map_with n ((map_now q image).generation + 1) (catalog_of q) (map_now q image).pages)
+    (sym same.mark)
 
 -- where room is wanting
 pub lacks_filled : (p q : PageMap) (name : List ℕ) (after : Files) → SameCommitted p q → filled_of q ≤ 1

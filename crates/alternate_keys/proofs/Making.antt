@@ -1,14 +1,15 @@
 -- A file that is made, in place of another or under a new name.
 use Rattle.std.proofs.Common.{◌≡◌, ◌⊎◌, inl, inr, ◌<◌, ◌≤◌, ◌+◌, ◌^◌, true, ℕ, List, [], length, refl, sym, ap}
 use Rattle.std.proofs.Common.{subst, ◌∙◌, arith}
-use Rattle.std.specs.Prelude.{map, replicate, Option, Some, None}
+use Rattle.std.specs.Prelude.{map, take, replicate, Option, Some, None}
 use Rattle.std.specs.List.{flat_map}
 use Rattle.station.specs.Disk.{Sector}
 use Rattle.station.specs.State.{State}
 use Rattle.station.specs.declared.device.Device.{Ghosts as Devices}
 use Rattle.pages.specs.Image.{Map}
 use Rattle.pages.specs.Use.{free_count}
-use Rattle.pages.specs.Pages.{map_now, catalog_of, committed_of, changed_pages_of, next_generation, IsUnchanged}
+use Rattle.pages.specs.Pages.{map_now, catalog_of, mark_of, committed_of, changed_pages_of, next_generation}
+use Rattle.pages.specs.Pages.{IsUnchanged}
 use Rattle.pages.specs.Pages.{SameCommitted}
 use Rattle.pages.specs.declared.page_map.PageMap.{PageMap}
 use Rattle.btree.specs.Calls.{pages_on}
@@ -22,7 +23,7 @@ use Rattle.records.specs.Spec.{Spec, is_name, is_spec}
 use Rattle.records.proofs.Changed.{created_are_files}
 use Rattle.file_bytes.specs.Description.{padded_name}
 use Rattle.volume_format.specs.Calls.{LooksAt}
-use Rattle.volume_format.specs.Catalog.{catalog_layout, listing_bytes}
+use Rattle.volume_format.specs.Catalog.{catalog_layout, catalog_value, listing_bytes}
 use Rattle.volume_format.specs.Forest.{TreeLevels}
 use Rattle.volume_format.specs.Grows.{IsTreeAmong}
 use Rattle.volume_format.specs.Volume.{MapHolds, trees_of, catalog_entry}
@@ -40,50 +41,57 @@ module _ {D : Type 0} (d : Devices D) where
   -- the catalog stands among the trees of its files, after a call that only reads
   pub catalog_here : (A : Type 0) (p q : PageMap) (a b : D) (files : Files)
       (holds : MapHolds (map_now p (d.state a).disk.present) files) (tree : RootedTree) → d.is_honest a
-      → LooksAt d A p a q b → tree.layout ≡ catalog_layout → tree.root ≡ catalog_of q →
-      IsTreeAmong (pages_on d q b) [] (flat_map trees_of holds.kept) tree (map catalog_entry holds.kept)
+      → LooksAt d A p a q b → tree.layout ≡ catalog_layout (mark_of q) → tree.root ≡ catalog_of q →
+      IsTreeAmong (pages_on d q b) [] (flat_map trees_of holds.kept) tree
+      (map (catalog_entry (mark_of p)) holds.kept)
   catalog_here A p q a b files holds tree honest looks layout root =
       let m : Map = map_now p (d.state a).disk.present in
       let same = same_pages p q (d.state a) (d.state b) looks.unchanged (looks.only.state honest) in
-      let own_tree : tree ≡ catalog_at m.catalog = same_tree tree (catalog_at m.catalog) layout
+      let own_tree : tree ≡ catalog_at m.mark m.catalog = same_tree tree (catalog_at m.mark m.catalog)
+      (layout ∙ ap catalog_layout (ap (λ (x : Map). x.mark) (looks.unchanged.map [])))
       (root ∙ ap (λ (x : Map). x.catalog) (looks.unchanged.map [])) in
-      let first : IsTreeAmong m.pages [] (flat_map trees_of holds.kept) (catalog_at m.catalog)
-      (map catalog_entry holds.kept) =
+      let first : IsTreeAmong m.pages [] (flat_map trees_of holds.kept) (catalog_at m.mark m.catalog)
+      (map (catalog_entry m.mark) holds.kept) =
       record { levels = holds.keeps.catalog; forest = holds.keeps.forest; listed = holds.keeps.listed } in
       subst (λ (p : List (Option Sector)). IsTreeAmong p [] (flat_map trees_of holds.kept) tree
-      (map catalog_entry holds.kept)) (sym same) (subst (λ (t : RootedTree). IsTreeAmong m.pages []
-      (flat_map trees_of holds.kept) t (map catalog_entry holds.kept)) (sym own_tree) first)
+      (map (catalog_entry m.mark) holds.kept)) (sym same) (subst (λ (t : RootedTree). IsTreeAmong m.pages []
+      (flat_map trees_of holds.kept) t (map (catalog_entry m.mark) holds.kept)) (sym own_tree) first)
 
   -- it has another root and other entries, by other words for its device, its root and a name
-  pub catalog_after : (r s : PageMap) (a b : D) (trees : List TreeLevels) (new : RootedTree)
-      (later : List ℕ → List Entry) (key name : List ℕ) → d.state b ≡ d.state a → new.layout ≡ catalog_layout
+  pub catalog_after : (mark : ℕ) (r s : PageMap) (a b : D) (trees : List TreeLevels) (new : RootedTree)
+      (later : List ℕ → List Entry) (key name : List ℕ) → d.state b ≡ d.state a → new.layout ≡ catalog_layout mark
       → new.root ≡ catalog_of s → key ≡ name
       → ((image : List Sector) → (map_now s image).pages ≡ (map_now r image).pages)
       → IsTreeAmong (pages_on d r b) [] trees new (later key) →
-      IsTreeAmong (pages_on d s a) [] trees (catalog_at (catalog_of s)) (later name)
-  catalog_after r s a b trees new later key name still layout root same pages put =
+      IsTreeAmong (pages_on d s a) [] trees (catalog_at mark (catalog_of s)) (later name)
+  catalog_after mark r s a b trees new later key name still layout root same pages put =
       let named = subst (λ (k : List ℕ). IsTreeAmong (pages_on d r b) [] trees new (later k)) same put in
       let back = subst (λ (x : State). IsTreeAmong (map_now r x.disk.present).pages [] trees new (later name)) still
       named in
       let rooted = subst (λ (t : RootedTree). IsTreeAmong (pages_on d r a) [] trees t (later name))
-      (same_tree new (catalog_at (catalog_of s)) layout root) back in
-      subst (λ (p : List (Option Sector)). IsTreeAmong p [] trees (catalog_at (catalog_of s)) (later name))
+      (same_tree new (catalog_at mark (catalog_of s)) layout root) back in
+      subst (λ (p : List (Option Sector)). IsTreeAmong p [] trees (catalog_at mark (catalog_of s)) (later name))
       (sym (pages (d.state a).disk.present)) rooted
 
-  pub catalog_put : (r : PageMap) (a b : D) (trees : List TreeLevels) (catalog root : ℕ)
-      (later : List ℕ → List ℕ → List Entry) (key name value listing : List ℕ) → d.state b ≡ d.state a
-      → catalog ≡ root → key ≡ name → value ≡ listing
-      → IsTreeAmong (pages_on d r b) [] trees (catalog_at catalog) (later key value) →
-      IsTreeAmong (pages_on d r a) [] trees (catalog_at root) (later name listing)
-  catalog_put r a b trees catalog root later key name value listing still rooted named listed put =
-      let at_name = subst (λ (k : List ℕ). IsTreeAmong (pages_on d r b) [] trees (catalog_at catalog) (later k value))
-      named put in
-      let at_value = subst (λ (v : List ℕ). IsTreeAmong (pages_on d r b) [] trees (catalog_at catalog) (later name v))
+  pub catalog_put : (mark : ℕ) (r : PageMap) (a b : D) (trees : List TreeLevels) (before catalog root : ℕ)
+      (later : ℕ → List ℕ → List ℕ → List Entry) (key name value listing : List ℕ) → d.state b ≡ d.state a
+      → before ≡ mark → catalog ≡ root → key ≡ name → value ≡ listing
+      → IsTreeAmong (pages_on d r b) [] trees (catalog_at before catalog) (later before key value) →
+      IsTreeAmong (pages_on d r a) [] trees (catalog_at mark root) (later mark name listing)
+  catalog_put mark r a b trees before catalog root later key name value listing still marked rooted named listed put =
+      let at_mark =
+      subst (λ (m : ℕ). IsTreeAmong (pages_on d r b) [] trees (catalog_at m catalog) (later m key value)) marked put in
+      let at_name =
+      subst (λ (k : List ℕ). IsTreeAmong (pages_on d r b) [] trees (catalog_at mark catalog) (later mark k value))
+      named at_mark in
+      let at_value =
+      subst (λ (v : List ℕ). IsTreeAmong (pages_on d r b) [] trees (catalog_at mark catalog) (later mark name v))
       listed at_name in
-      let at_root = subst (λ (n : ℕ). IsTreeAmong (pages_on d r b) [] trees (catalog_at n) (later name listing))
+      let at_root =
+      subst (λ (n : ℕ). IsTreeAmong (pages_on d r b) [] trees (catalog_at mark n) (later mark name listing))
       rooted at_value in
-      subst (λ (x : State). IsTreeAmong (map_now r x.disk.present).pages [] trees (catalog_at root)
-      (later name listing)) still at_root
+      subst (λ (x : State). IsTreeAmong (map_now r x.disk.present).pages [] trees (catalog_at mark root)
+      (later mark name listing)) still at_root
 
 -- the map after a call that only reads
 pub map_still : (p q : PageMap) (before after : State) → IsUnchanged p q → after ≡ before
@@ -102,8 +110,10 @@ pub record IsThere (m : Map) (files : Files) (holds : MapHolds m files) (name : 
 
 pub is_there : (m : Map) (files : Files) (holds : MapHolds m files) (name : List ℕ) (named : is_name name ≡ true)
     (pages : List (Option Sector)) (value : List ℕ) (answer : Option Entry) (entry : Entry)
-    → answer ≡ entry_with (map catalog_entry holds.kept) (padded_name name) → IsListed m (file_at name files) answer
-    → answer ≡ Some entry → value ≡ entry.value → m.generation < 2 ^ 63 → length m.pages ≤ 921600 → pages ≡ m.pages →
+    → answer ≡ entry_with (map (catalog_entry m.mark) holds.kept) (padded_name name)
+    → IsListed m (file_at name files) answer
+    → answer ≡ Some entry → value ≡ take 83 entry.value → m.generation < 2 ^ 63 → length m.pages ≤ 921600
+    → pages ≡ m.pages →
     IsThere m files holds name named pages value
 is_there m files holds name named pages value answer entry told listed some is few small same =
     let here = subst (IsListed m (file_at name files)) some listed in
@@ -142,18 +152,21 @@ module _ {m : Map} {files : Files} {holds : MapHolds m files} {name : List ℕ} 
       around m files holds name here.held named here.there (emptied spec) between listing placed
 
   pub stands_emptied : (spec : Spec) (between : List (Option Sector)) (listing : List ℕ)
-      → (placed : IsEmptied spec between listing) → (catalog : ℕ) → catalog ≡ m.catalog →
-      IsTreeAmong between [] (all_around spec between listing placed) (catalog_at catalog)
-      (map catalog_entry holds.kept)
-  stands_emptied spec between listing placed catalog same = catalog_stands m files holds name here.held named here.there
-      (emptied spec) between listing placed catalog same
+      → (placed : IsEmptied spec between listing) → (mark catalog : ℕ) → mark ≡ m.mark → catalog ≡ m.catalog →
+      IsTreeAmong between [] (all_around spec between listing placed) (catalog_at mark catalog)
+      (map (catalog_entry m.mark) holds.kept)
+  stands_emptied spec between listing placed mark catalog marked same =
+      subst (λ (n : ℕ). IsTreeAmong between [] (all_around spec between listing placed) (catalog_at n catalog)
+      (map (catalog_entry m.mark) holds.kept)) (sym marked) (catalog_stands m files holds name here.held named here.there
+      (emptied spec) between listing placed catalog same)
 
   -- and the catalog says so
   pub made_there : (spec : Spec) (between : List (Option Sector)) (listing : List ℕ)
       → (placed : IsEmptied spec between listing) → is_spec spec ≡ true → (p q : PageMap) (image : List Sector)
       → map_now p image ≡ m → SameCommitted p q → catalog_of q ≡ catalog_of p →
-      IsTreeAmong (map_now q image).pages [] (all_around spec between listing placed) (catalog_at m.catalog)
-      (with_value (map catalog_entry holds.kept) (entry_as (padded_name name) listing))
+      IsTreeAmong (map_now q image).pages [] (all_around spec between listing placed) (catalog_at m.mark m.catalog)
+      (with_value (map (catalog_entry m.mark) holds.kept)
+      (entry_as (padded_name name) (catalog_value m.mark listing 0)))
       → MapHolds (next_generation (map_now q image)) (with_file name (empty_file spec) files)
   made_there spec between listing placed sound p q image is same catalog put =
       let long : length (with_file name (empty_file spec) files) ≡ length files =
@@ -165,15 +178,17 @@ module _ {m : Map} {files : Files} {holds : MapHolds m files} {name : List ℕ} 
       created_are_files name spec files holds.are named sound (omega (arith, long, count)) in
       will_hold m files holds name here.held named here.there p q image (emptied spec) is same catalog
       (holds_after m files holds name here.held named here.there (emptied spec) between listing placed
-      (map_now q image).pages m.catalog put refl are)
+      (map_now q image).pages m.catalog (catalog_value m.mark listing 0) refl put refl are)
 
 -- Under a new name.
 pub made_new : (p q : PageMap) (image : List Sector) (files : Files) (holds : MapHolds (map_now p image) files)
     (name : List ℕ) (spec : Spec) → is_name name ≡ true → is_spec spec ≡ true → file_at name files ≡ None
     → SameCommitted p q → length files < 255 → (listing : List ℕ) → listing ≡ listing_bytes
     (record { spec = spec; prime = 0; alternates = replicate (length spec.alternates) 0; next_arrival = 1 }) →
-    IsTreeAmong (map_now q image).pages [] (flat_map trees_of holds.kept) (catalog_at (catalog_of q))
-    (with_new_entry (map catalog_entry holds.kept) (entry_as (padded_name name) listing))
+    IsTreeAmong (map_now q image).pages [] (flat_map trees_of holds.kept)
+    (catalog_at (map_now p image).mark (catalog_of q))
+    (with_new_entry (map (catalog_entry (map_now p image).mark) holds.kept)
+    (entry_as (padded_name name) (catalog_value (map_now p image).mark listing 0)))
     → MapHolds (next_generation (map_now q image)) (with_file name (empty_file spec) files)
 made_new p q image files holds name spec named sound none same few listing says put =
     let long = added_count name (empty_file spec) files none in

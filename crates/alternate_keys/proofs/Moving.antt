@@ -71,6 +71,7 @@ module _ {D : Type 0} (d : Devices D) where
             still = moving.still ∙ looks.only.state honest;
             committed = record {
               volume = moving.committed.volume ∙ before.volume;
+              mark = moving.committed.mark ∙ before.mark;
               spent = moving.committed.spent ∙ before.spent;
             };
             few = omega (arith, few, same);

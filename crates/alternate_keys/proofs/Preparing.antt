@@ -1,8 +1,9 @@
 -- A file of a map before and after a change of a row.
-use Rattle.std.proofs.Common.{◌≡◌, ◌<◌, ◌≤◌, ◌+◌, ◌^◌, ◌++◌, Bool, true, ℕ, List, [], length, sym, ap, subst, ◌∙◌}
-use Rattle.std.proofs.Common.{arith}
-use Rattle.std.specs.Prelude.{map, Option, Some, None, IsSome, is_some, if◌then◌else◌}
+use Rattle.std.proofs.Common.{◌≡◌, ◌<◌, ◌≤◌, ◌+◌, ◌%◌, ◌^◌, ◌++◌, Bool, true, ℕ, List, [], length, sym, ap, subst}
+use Rattle.std.proofs.Common.{◌∙◌, arith}
+use Rattle.std.specs.Prelude.{map, take, drop, Option, Some, None, IsSome, is_some, if◌then◌else◌}
 use Rattle.std.specs.List.{AllByRecursion, flat_map}
+use Rattle.byteorder.specs.Endian.{big_number}
 use Rattle.station.specs.Disk.{Sector}
 use Rattle.pages.specs.Image.{Map}
 use Rattle.pages.specs.Pages.{map_now, catalog_of, next_generation, SameCommitted}
@@ -15,6 +16,7 @@ use Rattle.records.specs.Files.{File, Files, NamedFile, AreFiles, IsByte, file_a
 use Rattle.records.specs.Stores.{Has, spec_of, is_change, files_after, pair_of}
 use Rattle.records.proofs.Changed.{inserted_are_files, replaced_are_files, removed_are_files}
 use Rattle.file_bytes.specs.Description.{padded_name}
+use Rattle.volume_format.specs.Catalog.{catalog_value}
 use Rattle.volume_format.specs.Forest.{TreeLevels}
 use Rattle.volume_format.specs.Grows.{IsTreeAmong}
 use Rattle.volume_format.specs.Volume.{MapHolds, trees_of, catalog_entry}
@@ -24,7 +26,7 @@ use Rattle.alternate_keys.specs.Listed.{catalog_at}
 use Rattle.alternate_keys.specs.Moved.{IsAsked, changed_by, named_after}
 use Rattle.alternate_keys.specs.Placed.{HasFileTrees, HasTrees}
 use Rattle.alternate_keys.proofs.Placing.{found_in, left_of, right_of, entry_of_name, trees_in, catalog_among}
-use Rattle.alternate_keys.proofs.Placing.{holds_then}
+use Rattle.alternate_keys.proofs.Placing.{listing_read, rows_read, holds_then}
 use Rattle.alternate_keys.proofs.Splits.{Found}
 
 -- the files after a change are files
@@ -54,15 +56,20 @@ some_clash : (x : Option Entry) (e : Entry) → x ≡ Some e → x ≡ None → 
 some_clash x e some none = cc
 
 -- the map after it, in the next generation
-abbrev pub map_with : ℕ → ℕ → List (Option Sector) → Map
-map_with generation catalog pages = record { generation = generation; catalog = catalog; pages = pages }
+abbrev pub map_with : ℕ → ℕ → ℕ → List (Option Sector) → Map
+map_with mark generation catalog pages =
+    record { mark = mark; generation = generation; catalog = catalog; pages = pages }
 
 next_map : (p q : PageMap) (image : List Sector) → SameCommitted p q → catalog_of q ≡ catalog_of p
-    → map_with ((map_now p image).generation + 1) (map_now p image).catalog (map_now q image).pages ≡ next_generation
-    (map_now q image)
+    → map_with (map_now p image).mark ((map_now p image).generation + 1) (map_now p image).catalog
+    (map_now q image).pages ≡ next_generation (map_now q image)
 next_map p q image same catalog =
-    ap (λ v. map_with (v.generation + 1) (map_now p image).catalog (map_now q image).pages) (sym same.volume)
-    ∙ ap (λ (n : ℕ). map_with ((map_now q image).generation + 1) n (map_now q image).pages) (sym catalog)
+    ap (λ v. map_with (map_now p image).mark (v.generation + 1) (map_now p image).catalog (map_now q image).pages)
+    (sym same.volume)
+    ∙ ap (λ (n : ℕ). map_with n ((map_now q image).generation + 1) (map_now p image).catalog (map_now q image).pages)
+    (sym same.mark)
+    ∙ ap (λ (n : ℕ). map_with (map_now q image).mark ((map_now q image).generation + 1) n (map_now q image).pages)
+    (sym catalog)
 
 module _ (m : Map) (files : Files) (holds : MapHolds m files) (name : List ℕ) (held : File)
     (named : is_name name ≡ true) (there : file_at name files ≡ Some held) where
@@ -72,25 +79,33 @@ module _ (m : Map) (files : Files) (holds : MapHolds m files) (name : List ℕ) 
   abbrev pub named_here : NamedFile
   named_here = record { name = name; file = held }
 
-  module _ (answer : Option Entry) (told : answer ≡ entry_with (map catalog_entry holds.kept) (padded_name name)) where
-    entry_is : answer ≡ Some (catalog_entry own.one)
+  module _ (answer : Option Entry)
+      (told : answer ≡ entry_with (map (catalog_entry m.mark) holds.kept) (padded_name name)) where
+    entry_is : answer ≡ Some (catalog_entry m.mark own.one)
     entry_is = told ∙ entry_of_name m files holds name held own named
 
     -- it is listed
     pub never_none : answer ≡ None → ⊥
-    never_none none = some_clash answer (catalog_entry own.one) entry_is none
+    never_none none = some_clash answer (catalog_entry m.mark own.one) entry_is none
+
+    own_entry : (entry : Entry) → answer ≡ Some entry → entry ≡ catalog_entry m.mark own.one
+    own_entry entry some = let joined : Some entry ≡ Some (catalog_entry m.mark own.one) = sym some ∙ entry_is in cc
 
     pub trees_at : (spec : Spec) (listing : List ℕ) (entry : Entry) → held.spec ≡ spec → m.generation < 2 ^ 63
-        → length m.pages ≤ 921600 → answer ≡ Some entry → listing ≡ entry.value →
+        → length m.pages ≤ 921600 → answer ≡ Some entry → listing ≡ take 83 entry.value →
         HasTrees spec named_here m.generation m.pages (left_of m files holds name held own)
         (right_of m files holds name held own) listing
     trees_at spec listing entry spec_is few small some value =
-        let joined : Some entry ≡ Some (catalog_entry own.one) = sym some ∙ entry_is in
-        let same : entry ≡ catalog_entry own.one = cc in
         trees_in m files holds name held spec listing own spec_is few (omega (arith, small))
-        (value ∙ ap (λ (e : Entry). e.value) same)
+        (value ∙ ap (λ (e : Entry). take 83 e.value) (own_entry entry some) ∙ listing_read m files holds name held own)
 
-  pub some_entry : IsSome (entry_with (map catalog_entry holds.kept) (padded_name name))
+    -- on a volume with the second mark it has the number of rows
+    pub rows_at : (entry : Entry) → answer ≡ Some entry → 0 < m.mark
+        → big_number 8 (drop 83 entry.value) ≡ length held.rows % 2 ^ 64
+    rows_at entry some second = ap (λ (e : Entry). big_number 8 (drop 83 e.value)) (own_entry entry some)
+        ∙ rows_read m files holds name held own second
+
+  pub some_entry : IsSome (entry_with (map (catalog_entry m.mark) holds.kept) (padded_name name))
   some_entry = ap (λ (o : Option Entry). is_some o) (entry_of_name m files holds name held own named)
 
   module _ (changed : FileChange) (between : List (Option Sector)) (listing : List ℕ)
@@ -100,28 +115,33 @@ module _ (m : Map) (files : Files) (holds : MapHolds m files) (name : List ℕ) 
     around = flat_map trees_of own.split.before ++ (trees_of placed.kept ++ flat_map trees_of own.split.after)
 
     pub catalog_stands : (catalog : ℕ) → catalog ≡ m.catalog
-        → IsTreeAmong between [] around (catalog_at catalog) (map catalog_entry holds.kept)
+        → IsTreeAmong between [] around (catalog_at m.mark catalog) (map (catalog_entry m.mark) holds.kept)
     catalog_stands catalog same =
-        subst (λ (n : ℕ). IsTreeAmong between [] around (catalog_at n) (map catalog_entry holds.kept)) (sym same)
+        subst (λ (n : ℕ). IsTreeAmong between [] around (catalog_at m.mark n) (map (catalog_entry m.mark) holds.kept))
+        (sym same)
         (catalog_among m files holds name held own (named_after named_here changed) (m.generation + 1) between listing
         placed)
 
-    pub holds_after : (pages : List (Option Sector)) (catalog : ℕ) → IsTreeAmong pages [] around (catalog_at catalog)
-        (with_value (map catalog_entry holds.kept) (record { key = padded_name name; value = listing })) →
+    pub holds_after : (pages : List (Option Sector)) (catalog : ℕ) (value : List ℕ)
+        → value ≡ catalog_value m.mark listing (length changed.file.rows)
+        → IsTreeAmong pages [] around (catalog_at m.mark catalog)
+        (with_value (map (catalog_entry m.mark) holds.kept) (record { key = padded_name name; value = value })) →
         is_change changed.outcome ≡ true → AreFiles (files_after name files changed)
-        → MapHolds (map_with (m.generation + 1) catalog pages) (files_after name files changed)
-    holds_after pages catalog stands change are =
+        → MapHolds (map_with m.mark (m.generation + 1) catalog pages) (files_after name files changed)
+    holds_after pages catalog value valued stands change are =
         let after : files_after name files changed ≡ with_file name changed.file files =
         ap (λ (b : Bool). if b then with_file name changed.file files else files) change in
-        subst (λ (l : Files). MapHolds (map_with (m.generation + 1) catalog pages) l) (sym after)
-        (holds_then m files holds name held own changed.file between pages catalog listing placed stands named
+        subst (λ (l : Files). MapHolds (map_with m.mark (m.generation + 1) catalog pages) l) (sym after)
+        (holds_then m files holds name held own changed.file between pages catalog listing value placed stands valued
+        named
         (subst AreFiles after are))
 
   pub will_hold : (p q : PageMap) (image : List Sector) (changed : FileChange)
       → map_now p image ≡ m → SameCommitted p q → catalog_of q ≡ catalog_of p
-      → MapHolds (map_with (m.generation + 1) m.catalog (map_now q image).pages) (files_after name files changed) →
+      → MapHolds (map_with m.mark (m.generation + 1) m.catalog (map_now q image).pages) (files_after name files changed)
+      →
       MapHolds (next_generation (map_now q image)) (files_after name files changed)
   will_hold p q image changed is same catalog holds_now =
       subst (λ (n : Map). MapHolds n (files_after name files changed)) (next_map p q image same catalog)
-      (subst (λ (n : Map). MapHolds (map_with (n.generation + 1) n.catalog (map_now q image).pages)
+      (subst (λ (n : Map). MapHolds (map_with n.mark (n.generation + 1) n.catalog (map_now q image).pages)
       (files_after name files changed)) (sym is) holds_now)

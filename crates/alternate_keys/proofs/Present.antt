@@ -18,6 +18,7 @@ use Rattle.volume_format.specs.Volume.{FileTrees, listing_of}
 use Rattle.volume_format.proofs.Listings.{spec_read}
 use Rattle.file_bytes.proofs.Descriptions.{one_spec}
 use Rattle.alternate_keys.specs.Listed.{IsListed}
+use Rattle.alternate_keys.proofs.Keeping.{listing_kept}
 
 number_by : (b : Bool) (n : ℕ) → (n == n) ≡ b → b ≡ true
 number_by true n is = refl
@@ -76,7 +77,8 @@ by false s spec good is test = other (same_spec s spec) s spec refl test
 
 -- by the bytes that say what a file is
 pub present_by : (b : Bool) (m : Map) (found : Option File) (entry : Option Entry) (e : Entry) (spec : Spec)
-    → is_spec spec ≡ true → IsListed m found entry → entry ≡ Some e → same_bytes (take 43 e.value) (spec_bytes spec) ≡ b
+    → is_spec spec ≡ true → IsListed m found entry → entry ≡ Some e
+    → same_bytes (take 43 (take 83 e.value)) (spec_bytes spec) ≡ b
     →
     (if b then Present else Different) ≡ presence found spec
 present_by b m found entry e spec is listed some told =
@@ -84,8 +86,9 @@ present_by b m found entry e spec is listed some told =
     let kept : FileTrees = there.0 in
     let s : Spec = kept.named.file.spec in
     let good = there.1.named.file.spec in
-    let bytes : take 43 e.value ≡ spec_bytes s =
-    ap (λ (x : Entry). take 43 x.value) there.2 ∙ spec_read (listing_of kept) good in
+    let bytes : take 43 (take 83 e.value) ≡ spec_bytes s =
+    ap (λ (x : Entry). take 43 (take 83 x.value)) there.2 ∙ ap (take 43) (listing_kept m found kept there.1)
+    ∙ spec_read (listing_of kept) good in
     let test : same_bytes (spec_bytes s) (spec_bytes spec) ≡ b =
     ap (λ (l : List ℕ). same_bytes l (spec_bytes spec)) (sym bytes) ∙ told in
     by b s spec good is test ∙ sym (ap (λ (f : Option File). presence f spec) there.1.there)

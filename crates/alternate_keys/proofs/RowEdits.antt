@@ -49,11 +49,11 @@ module _ (o : Organization) (pair : Pair) where
       none_later all
       (subst (λ (p : Pair). AllByRecursion (λ (r : Row). pair_cmp p (prime_pair o r) ≡ Less) all) same later)
 
-  later : (row : Row) (all : List Row) → RowsAscend o (row ∷ all) → RowsAscend o all
+  pub later : (row : Row) (all : List Row) → RowsAscend o (row ∷ all) → RowsAscend o all
   later row all up = sorted_tail pair_cmp (prime_pair o row) (map (prime_pair o) all) up
 
   -- where no row is at it, none leaves
-  all_stay : (all : List Row) → AllByRecursion (λ (r : Row). is_at o pair r ≡ false) all
+  pub all_stay : (all : List Row) → AllByRecursion (λ (r : Row). is_at o pair r ≡ false) all
       → rows.without_pair o pair all ≡ all
   all_stay [] none = refl
   all_stay (row ∷ all) none =

@@ -11,7 +11,8 @@ use Rattle.station.specs.Blocks.{CrashLeaves}
 use Rattle.station.proofs.Spans.{weakens}
 use Rattle.pages.specs.Image.{Map, map_of}
 use Rattle.pages.specs.Changes.{BeforeOrAfter}
-use Rattle.pages.specs.Pages.{map_now, catalog_of, committed_of, changed_pages_of, next_generation, HasChanges, Agrees}
+use Rattle.pages.specs.Pages.{map_now, catalog_of, mark_of, committed_of, changed_pages_of, next_generation, HasChanges}
+use Rattle.pages.specs.Pages.{Agrees}
 use Rattle.pages.specs.declared.page_map.PageMap.{PageMap}
 use Rattle.records.specs.Files.{Files}
 use Rattle.records.specs.Stores.{Either}
@@ -50,19 +51,28 @@ stands_then p disk m files agrees committed rested is holds = record {
 }
 
 -- whether something was changed
+abbrev pub IsSame : PageMap → Type 0
+IsSame p = (changed_pages_of p ≡ []) × (catalog_of p ≡ (committed_of p).root.catalog)
+    × (mark_of p ≡ (committed_of p).root.mark)
+
+by_mark : (b : Bool) (p : PageMap) → changed_pages_of p ≡ [] → catalog_of p ≡ (committed_of p).root.catalog
+    → eqb (mark_of p) (committed_of p).root.mark ≡ b → HasChanges p ⊎ IsSame p
+by_mark true p none catalog is = inr (none, catalog, eqb-true (mark_of p) (committed_of p).root.mark is)
+by_mark false p none catalog is =
+    inl (λ same. let clash : true ≡ false = sym (eq-eqb (mark_of p) (committed_of p).root.mark same.2) ∙ is in cc)
+
 by_catalog : (b : Bool) (p : PageMap) → changed_pages_of p ≡ [] → eqb (catalog_of p) (committed_of p).root.catalog ≡ b
-    → HasChanges p ⊎ ((changed_pages_of p ≡ []) × (catalog_of p ≡ (committed_of p).root.catalog))
-by_catalog true p none is = inr (none, eqb-true (catalog_of p) (committed_of p).root.catalog is)
+    → HasChanges p ⊎ IsSame p
+by_catalog true p none is = by_mark (eqb (mark_of p) (committed_of p).root.mark) p none
+    (eqb-true (catalog_of p) (committed_of p).root.catalog is) refl
 by_catalog false p none is =
     inl (λ same. let clash : true ≡ false = sym (eq-eqb (catalog_of p) (committed_of p).root.catalog same.1) ∙ is in cc)
 
-by_pages : (pages : List ℕ) (p : PageMap) → changed_pages_of p ≡ pages
-    → HasChanges p ⊎ ((changed_pages_of p ≡ []) × (catalog_of p ≡ (committed_of p).root.catalog))
+by_pages : (pages : List ℕ) (p : PageMap) → changed_pages_of p ≡ pages → HasChanges p ⊎ IsSame p
 by_pages [] p is = by_catalog (eqb (catalog_of p) (committed_of p).root.catalog) p is refl
 by_pages (page ∷ pages) p is = inl (λ same. let clash : page ∷ pages ≡ [] = sym is ∙ same.0 in cc)
 
-pub changed_or_not : (p : PageMap)
-    → HasChanges p ⊎ ((changed_pages_of p ≡ []) × (catalog_of p ≡ (committed_of p).root.catalog))
+pub changed_or_not : (p : PageMap) → HasChanges p ⊎ IsSame p
 changed_or_not p = by_pages (changed_pages_of p) p refl
 
 -- Where nothing was changed, the files before are those after, and stay.

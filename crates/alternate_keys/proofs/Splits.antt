@@ -111,29 +111,33 @@ put_at name kept one new split is =
     ∙ put_in name split.before one new split.after split.same is split.lower
 
 -- and in the catalog
-value_in : (name : List ℕ) (before : List FileTrees) (one new : FileTrees) (after : List FileTrees)
+value_in : (mark : ℕ) (name : List ℕ) (before : List FileTrees) (one new : FileTrees) (after : List FileTrees)
     → is_name name ≡ true → one.named.name ≡ name → new.named.name ≡ name
     → AllByRecursion (λ (k : FileTrees). bytes_cmp k.named.name name ≡ Less) before →
     AllByRecursion (λ (k : FileTrees). is_name k.named.name ≡ true) before → with_value
-    (map catalog_entry (before ++ one ∷ after)) (catalog_entry new) ≡ map catalog_entry (before ++ new ∷ after)
-value_in name [] one new after named same is lower all =
+    (map (catalog_entry mark) (before ++ one ∷ after)) (catalog_entry mark new)
+    ≡ map (catalog_entry mark) (before ++ new ∷ after)
+value_in mark name [] one new after named same is lower all =
     let equal : is_eq (key_cmp (padded_name one.named.name) (padded_name new.named.name)) ≡ true =
     ap (λ (n : List ℕ). is_eq (key_cmp (padded_name n) (padded_name new.named.name))) same
     ∙ ap (λ (n : List ℕ). is_eq (key_cmp (padded_name name) (padded_name n))) is ∙ same_itself (padded_name name) in
-    ap (λ (b : Bool). if b then catalog_entry new ∷ map catalog_entry after
-    else catalog_entry one ∷ with_value (map catalog_entry after) (catalog_entry new)) equal
-value_in name (k ∷ before) one new after named same is lower all =
-    let more : List Entry = map catalog_entry (before ++ one ∷ after) in
+    ap (λ (b : Bool). if b then catalog_entry mark new ∷ map (catalog_entry mark) after
+    else catalog_entry mark one ∷ with_value (map (catalog_entry mark) after) (catalog_entry mark new)) equal
+value_in mark name (k ∷ before) one new after named same is lower all =
+    let more : List Entry = map (catalog_entry mark) (before ++ one ∷ after) in
     let less : key_cmp (padded_name k.named.name) (padded_name new.named.name) ≡ Less =
     ap (λ (n : List ℕ). key_cmp (padded_name k.named.name) (padded_name n)) is
     ∙ names_in_order k.named.name name all.0 named ∙ lower.0 in
-    ap (λ (o : Ordering). if is_eq o then catalog_entry new ∷ more
-    else catalog_entry k ∷ with_value more (catalog_entry new)) less
-    ∙ ap (λ (es : List Entry). catalog_entry k ∷ es) (value_in name before one new after named same is lower.1 all.1)
+    ap (λ (o : Ordering). if is_eq o then catalog_entry mark new ∷ more
+    else catalog_entry mark k ∷ with_value more (catalog_entry mark new)) less
+    ∙ ap (λ (es : List Entry). catalog_entry mark k ∷ es)
+    (value_in mark name before one new after named same is lower.1 all.1)
 
-pub value_at : (name : List ℕ) (kept : List FileTrees) (one new : FileTrees) → (split : Split name kept one) → is_name
+pub value_at : (mark : ℕ) (name : List ℕ) (kept : List FileTrees) (one new : FileTrees) → (split : Split name kept one)
+    → is_name
     name ≡ true → new.named.name ≡ name → AllByRecursion (λ (k : FileTrees). is_name k.named.name ≡ true) split.before →
-    with_value (map catalog_entry kept) (catalog_entry new) ≡ map catalog_entry (split.before ++ new ∷ split.after)
-value_at name kept one new split named is all =
-    ap (λ (l : List FileTrees). with_value (map catalog_entry l) (catalog_entry new)) split.is
-    ∙ value_in name split.before one new split.after named split.same is split.lower all
+    with_value (map (catalog_entry mark) kept) (catalog_entry mark new)
+    ≡ map (catalog_entry mark) (split.before ++ new ∷ split.after)
+value_at mark name kept one new split named is all =
+    ap (λ (l : List FileTrees). with_value (map (catalog_entry mark) l) (catalog_entry mark new)) split.is
+    ∙ value_in mark name split.before one new split.after named split.same is split.lower all

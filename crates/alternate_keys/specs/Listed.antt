@@ -22,13 +22,13 @@ pub record IsFoundFile (m : Map) (found : Option File) (kept : FileTrees) : Type
 -- what the catalog says of a name under which this file was found, or none
 abbrev pub IsListed : Map → Option File → Option Entry → Type 0
 IsListed m found None = found ≡ None
-IsListed m found (Some entry) = (kept : FileTrees) × IsFoundFile m found kept × (entry ≡ catalog_entry kept)
+IsListed m found (Some entry) = (kept : FileTrees) × IsFoundFile m found kept × (entry ≡ catalog_entry m.mark kept)
 
 -- the page of the root of a key's tree, by a value of the catalog
 abbrev pub root_in : KeyOfReference → List ℕ → ℕ
 root_in Prime value = big_number 4 (drop 43 value)
 root_in (Alternate i) value = big_number 4 (drop (47 + 4 * i) value)
 
--- the tree of the catalog
-abbrev pub catalog_at : ℕ → RootedTree
-catalog_at root = record { layout = catalog_layout; root = root }
+-- the tree of the catalog, on a volume with this mark
+abbrev pub catalog_at : ℕ → ℕ → RootedTree
+catalog_at mark root = record { layout = catalog_layout mark; root = root }

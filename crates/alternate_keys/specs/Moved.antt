@@ -1,5 +1,5 @@
 -- What a change of a row does to its file, and to the tree of an alternate key.
-use Rattle.std.specs.Prelude.{◌≡◌, ◌<◌, ◌≤◌, ◌+◌, ◌*◌, ◌^◌, ◌++◌, Bool, true, false, nat_le, ℕ, List, [], ◌∷◌, map, length, take, drop, slice_index_or, Option, None, IsSome, if◌then◌else◌}
+use Rattle.std.specs.Prelude.{◌≡◌, ◌<◌, ◌≤◌, ◌+◌, ◌*◌, ◌%◌, ◌^◌, ◌++◌, Bool, true, false, nat_le, ℕ, List, [], ◌∷◌, map, length, take, drop, slice_index_or, Option, None, IsSome, if◌then◌else◌}
 use Rattle.std.specs.List.{All}
 use Rattle.byteorder.specs.Endian.{big_bytes, big_number}
 use Rattle.station.specs.Disk.{Sector}
@@ -30,6 +30,12 @@ abbrev pub changed_by : RowVerb → Organization → ℕ → List ℕ → File �
 changed_by Insert organization number bytes file = insertion number bytes file
 changed_by Replace organization number bytes file = replacement number bytes file
 changed_by Remove organization number bytes file = removal (pair_of organization bytes number) file
+
+-- the number of rows after it, by the number before, of each as much as eight bytes have
+abbrev pub IsCountAfter : RowVerb → ℕ → ℕ → Type 0
+IsCountAfter Insert rows new = new ≡ (rows + 1) % 2 ^ 64
+IsCountAfter Replace rows new = new ≡ rows
+IsCountAfter Remove rows new = (new + 1) % 2 ^ 64 ≡ rows
 
 -- a file of that name after a change
 abbrev pub named_after : NamedFile → FileChange → NamedFile

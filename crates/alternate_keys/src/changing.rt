@@ -9,7 +9,7 @@ ghost use Rattle.records.specs.Stores.{spec_of, Has, is_change, files_after};
 ghost use Rattle.volume_format.specs.Volume.{MapHolds};
 ghost use Rattle.alternate_keys.specs.Calls.{Edits};
 ghost use Rattle.alternate_keys.specs.Faults.{IsWriteFault};
-ghost use Rattle.alternate_keys.specs.Moved.{changed_by, IsAsked};
+ghost use Rattle.alternate_keys.specs.Moved.{changed_by, IsAsked, IsCountAfter};
 ghost use Rattle.alternate_keys.specs.Stands.{Represents};
 ghost use Rattle.alternate_keys.specs.Turned.{OnFile, HasChangedFiles};
 
@@ -21,6 +21,7 @@ use pages::{PageMap, few_needed, map_bounds};
 use records::{FileSpec, Outcome, StoreFault};
 use station::Device;
 use std::alloc::Global;
+use volume_format::{listing_part, stored_rows};
 
 /// Changes a row of a file, and puts the file on the disk.
 pub(crate) fn change_in<D: Device>(
@@ -110,12 +111,13 @@ fn prepare<D: Device>(
         Some(entry) => entry,
         None => return Ok(Outcome::Missing),
     };
+    let rows = rows_after(verb, stored_rows(pages.mark(), entry.value()));
     let turn = change_trees(
         alloc,
         pages,
         device,
         file,
-        entry.value(),
+        listing_part(&entry),
         verb,
         number,
         bytes,
@@ -124,6 +126,17 @@ fn prepare<D: Device>(
     if !is_done(outcome) {
         return Ok(outcome);
     }
-    replace_listing(alloc, pages, device, &file.name, &turn.listing)?;
+    replace_listing(alloc, pages, device, &file.name, &turn.listing, rows)?;
     Ok(outcome)
+}
+
+/// The number of rows of a file after a change that was made, by the number before. It is computed in eight bytes, as it is stored.
+fn rows_after(verb: RowVerb, rows: u64) -> u64
+    ensures { IsCountAfter verb rows result }
+{
+    match verb {
+        RowVerb::Insert => rows.wrapping_add(1),
+        RowVerb::Replace => rows,
+        RowVerb::Remove => rows.wrapping_sub(1),
+    }
 }

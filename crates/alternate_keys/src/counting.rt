@@ -37,7 +37,7 @@ pub(crate) fn is_full<D: Device>(
     ensures spent { result ≡ Err StoreFault.Spent → is_spent pages.old ≡ true }
     ensures cause { IfErr result IsReadFault }
 {
-    let catalog = catalog_tree(alloc, pages.catalog());
+    let catalog = catalog_tree(alloc, pages.mark(), pages.catalog());
     let mut next = first_in(&catalog, pages, device)?;
     for turn in 0..MOST_FILES {
         match next {

@@ -2,7 +2,7 @@
 ghost use Rattle.std.specs.Prelude.{◌≡◌, ◌⊎◌, ◌≤◌, ◌<◌, ◌+◌, true, false, [], Err, None, length, map, replicate, OnOk, IfOk, IfErr, IsOkUnless};
 ghost use Rattle.std.specs.List.{flat_map};
 ghost use Rattle.station.specs.Calls.{OnlyWrites};
-ghost use Rattle.pages.specs.Pages.{map_now, is_spent, catalog_of, committed_of, sectors_of, changed_pages_of, filled_of, next_generation, IsFull, IsOpen};
+ghost use Rattle.pages.specs.Pages.{map_now, is_spent, catalog_of, mark_of, committed_of, sectors_of, changed_pages_of, filled_of, next_generation, IsFull, IsOpen};
 ghost use Rattle.pages.specs.Use.{free_count};
 ghost use Rattle.btree.specs.Calls.{pages_on};
 ghost use Rattle.btree.specs.Entries.{entry_with, with_new_entry};
@@ -11,7 +11,7 @@ ghost use Rattle.records.specs.Files.{Files, empty_file, with_file};
 ghost use Rattle.records.specs.Spec.{is_name};
 ghost use Rattle.records.specs.Stores.{spec_of};
 ghost use Rattle.file_bytes.specs.Description.{padded_name};
-ghost use Rattle.volume_format.specs.Catalog.{listing_bytes};
+ghost use Rattle.volume_format.specs.Catalog.{listing_bytes, catalog_value};
 ghost use Rattle.volume_format.specs.Grows.{IsTreeAmong};
 ghost use Rattle.volume_format.specs.Volume.{MapHolds, trees_of, catalog_entry};
 ghost use Rattle.alternate_keys.specs.Created.{OnFiles, Prepares};
@@ -30,7 +30,7 @@ use pages::{PageMap, few_needed, map_bounds, needed_by};
 use records::{FileSpec, StoreFault};
 use station::Device;
 use std::alloc::Global;
-use volume_format::{catalog_tree, spell_listing};
+use volume_format::{catalog_tree, listing_part, spell_listing, spell_value};
 
 /// Makes a file without rows, in place of one of that name, and puts it on the disk.
 pub(crate) fn create_in<D: Device>(
@@ -77,7 +77,7 @@ fn empty_listing(alloc: Global, file: &FileSpec) -> Result<Vec<u8>, StoreFault>
     Ok(listing)
 }
 
-/// Puts a new name into the catalog.
+/// Puts a new name into the catalog, with a listing and no rows.
 fn add_listing<D: Device>(
     alloc: Global,
     pages: &mut PageMap,
@@ -93,8 +93,12 @@ fn add_listing<D: Device>(
         pages.new device.new }
     ensures added { OnFiles D.Device pages.old device.old (λ files holds. OnOk result
         (IsTreeAmong (pages_on D.Device pages.new device.old) [] (flat_map trees_of holds.kept)
-        (catalog_at (catalog_of pages.new)) (with_new_entry (map catalog_entry holds.kept)
-        (record { key = padded_name name.now; value = listing.now })))) }
+        (catalog_at (mark_of pages.old) (catalog_of pages.new))
+        (with_new_entry (map (catalog_entry (mark_of pages.old)) holds.kept)
+        (record {
+          key = padded_name name.now;
+          value = catalog_value (mark_of pages.old) listing.now 0;
+        })))) }
     ensures few_files { OnFiles D.Device pages.old device.old
         (λ files holds. OnOk result (length files < 255)) }
     ensures few { OnFiles D.Device pages.old device.old
@@ -104,7 +108,8 @@ fn add_listing<D: Device>(
         (free_count (committed_of pages.old) < length (changed_pages_of pages.old) + 42)
         ⊎ (255 ≤ length files)) }
     ensures damaged { OnFiles D.Device pages.old device.old
-        (λ files holds. entry_with (map catalog_entry holds.kept) (padded_name name.now) ≡ None
+        (λ files holds. entry_with (map (catalog_entry (mark_of pages.old)) holds.kept)
+        (padded_name name.now) ≡ None
         → result ≡ Err StoreFault.Damaged → ⊥) }
     ensures spent { result ≡ Err StoreFault.Spent → is_spent pages.old ≡ true }
     ensures cause { IfErr result IsWriteFault }
@@ -112,8 +117,10 @@ fn add_listing<D: Device>(
     if is_full(alloc, pages, device)? {
         return Err(StoreFault::Full);
     }
-    let mut catalog = catalog_tree(alloc, pages.catalog());
-    if !insert_among(&mut catalog, pages, device, &pad_name(name), listing)? {
+    let mark = pages.mark();
+    let value = spell_value(alloc, mark, listing, 0)?;
+    let mut catalog = catalog_tree(alloc, mark, pages.catalog());
+    if !insert_among(&mut catalog, pages, device, &pad_name(name), &value)? {
         return Err(StoreFault::Damaged);
     }
     pages.set_catalog(catalog.root());
@@ -155,8 +162,8 @@ fn prepare_file<D: Device>(
     let listing = empty_listing(alloc, file)?;
     match find_listing(alloc, pages, device, &file.name)? {
         Some(entry) => {
-            clear_trees(alloc, pages, device, entry.value())?;
-            replace_listing(alloc, pages, device, &file.name, &listing)?;
+            clear_trees(alloc, pages, device, listing_part(&entry))?;
+            replace_listing(alloc, pages, device, &file.name, &listing, 0)?;
             Ok(())
         }
         None => {

@@ -15,6 +15,7 @@ use pages::PageMap;
 use records::{FileSpec, Presence, StoreFault};
 use station::Device;
 use std::alloc::Global;
+use volume_format::listing_part;
 
 /// Tells whether a file is there, and whether it is as the program says.
 pub(crate) fn find_in<D: Device>(
@@ -45,7 +46,7 @@ pub(crate) fn find_in<D: Device>(
         None => return Ok(Presence::Absent),
     };
     let spec = spell_description(alloc, file)?;
-    if says(entry.value(), &spec) {
+    if says(listing_part(&entry), &spec) {
         Ok(Presence::Present)
     } else {
         Ok(Presence::Different)

@@ -18,7 +18,7 @@ use pages::{PageMap, map_bounds};
 use records::{FileSpec, Found, KeyOfReference, Side, StoreFault};
 use station::Device;
 use std::alloc::Global;
-use volume_format::to_fault;
+use volume_format::{listing_part, to_fault};
 
 /// Seeks the first row after a place in the order of a key. Its record is put into `bytes`, which stays where there is no such row,
 /// and after a refusal.
@@ -64,8 +64,8 @@ pub(crate) fn seek_in<D: Device>(
         Some(entry) => entry,
         None => return Ok(None),
     };
-    let prime = file_tree(alloc, file, KeyOfReference::Prime, entry.value());
-    let under = file_tree(alloc, file, key, entry.value());
+    let prime = file_tree(alloc, file, KeyOfReference::Prime, listing_part(&entry));
+    let under = file_tree(alloc, file, key, listing_part(&entry));
     let at = key_for(alloc, file, key, side, value, number)?;
     let aim = search_start_for(file, key, side, value, number);
     match seek_row(&prime, &under, pages, device, file, key, aim, &at, bytes) {

@@ -35,7 +35,7 @@ use Rattle.btree.proofs.TreeNodes.{RootNode}
 -- What stays, from call to call.
 pub keeps_still : (p : PageMap) → KeepsCommitted p p
 keeps_still p = record {
-  committed = record { volume = refl; spent = refl };
+  committed = record { volume = refl; mark = refl; spent = refl };
   catalog = refl;
   agrees = λ disk agrees. agrees;
   is_open = λ ready. ready;
@@ -45,6 +45,7 @@ pub keeps_on : (one two three : PageMap) → KeepsCommitted one two → KeepsCom
 keeps_on one two three first second = record {
   committed = record {
     volume = second.committed.volume ∙ first.committed.volume;
+    mark = second.committed.mark ∙ first.committed.mark;
     spent = second.committed.spent ∙ first.committed.spent;
   };
   catalog = second.catalog ∙ first.catalog;

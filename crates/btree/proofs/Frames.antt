@@ -17,7 +17,7 @@ unchanged_still p = record {
   map = λ image. refl;
   changed_pages = refl;
   filled = refl;
-  committed = record { volume = refl; spent = refl };
+  committed = record { volume = refl; mark = refl; spent = refl };
 }
 
 pub unchanged_on : (one two three : PageMap) → IsUnchanged one two → IsUnchanged two three → IsUnchanged one three
@@ -27,6 +27,7 @@ unchanged_on one two three first second = record {
   filled = second.filled ∙ first.filled;
   committed = record {
     volume = second.committed.volume ∙ first.committed.volume;
+    mark = second.committed.mark ∙ first.committed.mark;
     spent = second.committed.spent ∙ first.committed.spent;
   };
 }

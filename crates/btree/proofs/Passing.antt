@@ -203,6 +203,7 @@ module _ {D : Type 0} (device : Devices D) where
 pub committed_on : (one two three : PageMap) → SameCommitted one two → SameCommitted two three → SameCommitted one three
 committed_on one two three first second = record {
   volume = second.volume ∙ first.volume;
+  mark = second.mark ∙ first.mark;
   spent = second.spent ∙ first.spent;
 }
 

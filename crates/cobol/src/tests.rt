@@ -121,7 +121,7 @@ fn sizes(rt: HostRuntime) -> Result<(), Fail> {
     )?;
     let volume = fs::read(&rt, "sizes/V")?;
     assert_eq!(rt; volume.len(), 4_194_304);
-    assert!(rt; volume.as_slice().starts_with(b"COBVOL01".as_slice()));
+    assert!(rt; volume.as_slice().starts_with(b"COBVOL02".as_slice()));
     assert!(rt; volume.as_slice()[4096..].iter().all(|byte| *byte == 0));
     fs::remove_dir_all(&rt, "sizes")?;
     Ok(())

@@ -56,23 +56,25 @@ module _ (spec : Spec) (next : ℕ) (is : is_spec spec ≡ true) (some : 1 ≤ n
 
 -- files whose entries ascend
 
-behind_name : (one : FileTrees) (kept : List FileTrees)
+behind_name : (mark : ℕ) (one : FileTrees) (kept : List FileTrees)
     → is_name one.named.name ≡ true → AllByRecursion IsNamed (map (λ (k : FileTrees). k.named) kept) → AllByRecursion
-    (λ (k : List ℕ). key_cmp (padded_name one.named.name) k ≡ Less) (keys_listed (map catalog_entry kept)) →
+    (λ (k : List ℕ). key_cmp (padded_name one.named.name) k ≡ Less) (keys_listed (map (catalog_entry mark) kept)) →
     AllByRecursion (λ (n : List ℕ). bytes_cmp one.named.name n ≡ Less) (names (map (λ (k : FileTrees). k.named) kept))
-behind_name one [] good all below = tt
-behind_name one (two ∷ kept) good all below = (
+behind_name mark one [] good all below = tt
+behind_name mark one (two ∷ kept) good all below = (
   sym (names_in_order one.named.name two.named.name good all.0.name) ∙ below.0,
-  behind_name one kept good all.1 below.1,
+  behind_name mark one kept good all.1 below.1,
 )
 
-pub names_ascend : (kept : List FileTrees)
-    → AllByRecursion IsNamed (map (λ (k : FileTrees). k.named) kept) → Ascend (keys_listed (map catalog_entry kept))
+pub names_ascend : (mark : ℕ) (kept : List FileTrees)
+    → AllByRecursion IsNamed (map (λ (k : FileTrees). k.named) kept)
+    → Ascend (keys_listed (map (catalog_entry mark) kept))
     → IsStrictlySortedBy bytes_cmp (names (map (λ (k : FileTrees). k.named) kept))
 unfolding IsStrictlySortedBy
-names_ascend [] all up = tt
-names_ascend (one ∷ kept) all up = (
-  behind_name one kept all.0.name all.1
-      (sorted_head key_cmp (padded_name one.named.name) (keys_listed (map catalog_entry kept)) up),
-  names_ascend kept all.1 (sorted_tail key_cmp (padded_name one.named.name) (keys_listed (map catalog_entry kept)) up),
+names_ascend mark [] all up = tt
+names_ascend mark (one ∷ kept) all up = (
+  behind_name mark one kept all.0.name all.1
+      (sorted_head key_cmp (padded_name one.named.name) (keys_listed (map (catalog_entry mark) kept)) up),
+  names_ascend mark kept all.1
+      (sorted_tail key_cmp (padded_name one.named.name) (keys_listed (map (catalog_entry mark) kept)) up),
 )

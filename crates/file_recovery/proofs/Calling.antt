@@ -1,5 +1,5 @@
 -- Calls on pages, one after the other.
-use Rattle.std.proofs.Common.{◌≡◌, ◌≤◌, ◌⊎◌, false, ◌∙◌, ap, arith}
+use Rattle.std.proofs.Common.{◌≡◌, ◌≤◌, false, ◌∙◌, ap, arith}
 use Rattle.station.specs.declared.device.Device.{Ghosts as Devices}
 use Rattle.pages.specs.Pages.{sectors_of, is_spent}
 use Rattle.pages.specs.declared.page_map.PageMap.{PageMap}

@@ -1,12 +1,11 @@
 -- A catalog and its files, whose pages are all that the map uses, are what the map holds.
-use Rattle.std.proofs.Common.{◌≡◌, ◌≢◌, ◌≤◌, ◌<◌, ◌^◌, ◌+◌, ◌*◌, ◌++◌, ⊎_elim, inl, inr, ℕ, Bool, true, false, List, []}
-use Rattle.std.proofs.Common.{◌∷◌, length, take, drop, refl, sym, ap, subst, ◌∙◌, arith}
+use Rattle.std.proofs.Common.{◌≡◌, ◌≢◌, ◌≤◌, ◌<◌, ◌^◌, ◌++◌, ⊎_elim, inl, inr, ℕ, Bool, true, false, List, []}
+use Rattle.std.proofs.Common.{◌∷◌, length, refl, sym, ap, subst, ◌∙◌, arith}
 use Rattle.std.specs.Prelude.{map, Option, None, Contains, slice_index_or}
 use Rattle.std.specs.List.{All, AllByRecursion, flat_map}
 use Rattle.std.specs.List.Sorted.{IsStrictlySortedBy}
-use Rattle.std.proofs.lemmas.List.{length-map, get_or-map, ext_get_or}
-use Rattle.std.proofs.lemmas.List.Elements.{All-nil, All-head, All-tail, All-append, All-map, All-contains}
-use Rattle.byteorder.specs.Endian.{big_number}
+use Rattle.std.proofs.lemmas.List.{length-map}
+use Rattle.std.proofs.lemmas.List.Elements.{All-nil, All-head, All-tail, All-append, All-contains}
 use Rattle.station.specs.Disk.{Sector}
 use Rattle.pages.specs.Image.{Map}
 use Rattle.btree_check.specs.Walks.{CanMark, Marks}
@@ -17,23 +16,17 @@ use Rattle.btree.proofs.Runs.{in_or_not}
 use Rattle.btree.proofs.There.{tree_ascends}
 use Rattle.btree_pages.specs.Keys.{Ascend}
 use Rattle.btree.specs.Laws.{keys_listed}
-use Rattle.records.specs.declared.key.KeyOfReference.TheVariants.{Prime, Alternate}
-use Rattle.records.specs.Spec.{Spec}
 use Rattle.records.specs.Rows.{bytes_cmp}
 use Rattle.records.specs.Files.{Files, IsNamed, names}
-use Rattle.volume_format.specs.Catalog.{listing_bytes, catalog_layout}
+use Rattle.volume_format.specs.Catalog.{catalog_layout}
 use Rattle.volume_format.specs.Forest.{TreeLevels, IsTreeIn, IsForest, pages_under, pages_within}
-use Rattle.volume_format.specs.Trees.{layout_under}
-use Rattle.volume_format.specs.Volume.{FileTrees, IsKept, MapHolds, no_tree, trees_of, listing_of, catalog_entry}
-use Rattle.volume_format.specs.Volume.{catalog_tree}
+use Rattle.volume_format.specs.Volume.{FileTrees, IsKept, MapHolds, trees_of, catalog_entry, catalog_tree}
 use Rattle.volume_format.proofs.Forests.{all_left, all_right}
-use Rattle.volume_format.proofs.Listings.{spec_read, prime_read, root_read}
-use Rattle.volume_format.proofs.Roots.{root_small}
-use Rattle.file_bytes.proofs.Descriptions.{one_spec}
 use Rattle.file_recovery.specs.Covered.{IsCovered}
-use Rattle.file_recovery.specs.Kept.{IsCatalog, FindsCatalog, NoCatalog}
+use Rattle.file_recovery.specs.Kept.{IsCatalogFile, IsCatalog, FindsCatalog, NoCatalog}
 use Rattle.file_recovery.proofs.Ascents.{names_ascend}
-use Rattle.file_recovery.proofs.OneKept.{one_planted}
+use Rattle.file_recovery.proofs.FirstMark.{without_count, found_first}
+use Rattle.file_recovery.proofs.OneFound.{one_list_of_trees}
 
 -- no page was marked at first
 abbrev pub NoneMarked : List Bool → Type 0
@@ -108,8 +101,8 @@ pub catalog_held : (m : Map) (files : Files) (old new : List Bool) → NoneMarke
 catalog_held m files old new none found covered =
     let is = found.is in
     let trees : List TreeLevels = catalog_tree m found.catalog ∷ flat_map trees_of found.kept in
-    let up : Ascend (keys_listed (entries_of catalog_layout found.catalog)) =
-    tree_ascends catalog_layout m.pages m.catalog found.catalog
+    let up : Ascend (keys_listed (entries_of (catalog_layout m.mark) found.catalog)) =
+    tree_ascends (catalog_layout m.mark) m.pages m.catalog found.catalog
     (All-head (IsTreeIn m.pages) (catalog_tree m found.catalog) (flat_map trees_of found.kept) is.grow) in
     let named : AllByRecursion IsNamed files = subst (λ (l : Files). AllByRecursion IsNamed l) found.are is.named in
     let many = length-map found.kept (λ (one : FileTrees). one.named) in
@@ -131,81 +124,42 @@ catalog_held m files old new none found covered =
       named = found.are;
       are = record {
         ascend = subst (λ (l : Files). IsStrictlySortedBy bytes_cmp (names l)) found.are
-            (names_ascend found.kept is.named
+            (names_ascend m.mark found.kept is.named
             (subst (λ (entries : List Entry). Ascend (keys_listed entries)) is.listed up));
         each = named;
         count = omega (arith, many, few, same);
       };
     }
 
--- the trees of two files under one entry of the catalog
-roots_low : (pages : List (Option Sector)) (trees : List TreeLevels) → length pages ≤ 2 ^ 20
-    → All (IsTreeIn pages) trees → All (λ page. page < 2 ^ 32) (map (λ (tree : TreeLevels). tree.tree.root) trees)
-roots_low pages trees small grow = All-map (λ page. page < 2 ^ 32) (λ (tree : TreeLevels). tree.tree.root) trees
-    (λ k d within. root_small pages (slice_index_or trees k d) small (grow k d within))
+-- the trees of files of the same entries of the catalog
+catalog_file : (mark : ℕ) (pages : List (Option Sector)) (generation : ℕ) (entry : Entry) (one : FileTrees)
+    → IsKept generation one → IsNamed one.named → All (IsTreeIn pages) (trees_of one) → catalog_entry mark one ≡ entry
+    → IsCatalogFile mark pages generation entry one
+catalog_file mark pages generation entry one is named grow listed =
+    record { is = is; named = named; grow = grow; listed = listed }
 
-root_told : (pages : List (Option Sector)) (kept : FileTrees) → length pages ≤ 2 ^ 20 → IsNamed kept.named
-    → All (IsTreeIn pages) kept.alternates → (i : ℕ) → i < length kept.alternates →
-    big_number 4 (drop (47 + 4 * i) (listing_bytes (listing_of kept)))
-    ≡ (slice_index_or kept.alternates i no_tree).tree.root
-root_told pages kept small named grow i low =
-    let many = length-map kept.alternates (λ (tree : TreeLevels). tree.tree.root) in
-    root_read (listing_of kept) i named.file.spec (roots_low pages kept.alternates small grow)
-    (omega (arith, low, many)) ∙ get_or-map (λ (tree : TreeLevels). tree.tree.root) kept.alternates i no_tree 0 low
-
-trees_with : TreeLevels → List TreeLevels → List TreeLevels
-trees_with prime alternates = prime ∷ alternates
-
-module _ (pages : List (Option Sector)) (generation : ℕ) (small : length pages ≤ 2 ^ 20) where
+module _ (mark : ℕ) (pages : List (Option Sector)) (generation : ℕ) (small : length pages ≤ 2 ^ 20) where
   same_trees : (one two : FileTrees) → IsKept generation one → IsKept generation two → IsNamed one.named
       → IsNamed two.named → All (IsTreeIn pages) (trees_of one) → All (IsTreeIn pages) (trees_of two)
-      → catalog_entry one ≡ catalog_entry two →
-      trees_of one ≡ trees_of two
-  unfolding trees_with
+      → catalog_entry mark one ≡ catalog_entry mark two → trees_of one ≡ trees_of two
   same_trees one two is is_too named named_too grow grow_too same =
-      let s : Spec = one.named.file.spec in
-      let t : Spec = two.named.file.spec in
-      let bytes : listing_bytes (listing_of one) ≡ listing_bytes (listing_of two) = ap (λ (e : Entry). e.value) same in
-      let spec : s ≡ t =
-      one_spec s t named.file.spec named_too.file.spec (sym (spec_read (listing_of one) named.file.spec)
-      ∙ ap (take 43) bytes ∙ spec_read (listing_of two) named_too.file.spec) in
-      let grows : IsTreeIn pages one.prime = All-head (IsTreeIn pages) one.prime one.alternates grow in
-      let grows_too : IsTreeIn pages two.prime = All-head (IsTreeIn pages) two.prime two.alternates grow_too in
-      let root : one.prime.tree.root ≡ two.prime.tree.root =
-      sym (prime_read (listing_of one) named.file.spec (root_small pages one.prime small grows))
-      ∙ ap (λ (b : List ℕ). big_number 4 (drop 43 b)) bytes
-      ∙ prime_read (listing_of two) named_too.file.spec (root_small pages two.prime small grows_too) in
-      let prime : one.prime ≡ two.prime = one_planted pages one.prime two.prime small grows grows_too
-      (is.layout ∙ ap (λ (x : Spec). layout_under x Prime) spec ∙ sym is_too.layout) root in
-      let rest : All (IsTreeIn pages) one.alternates = All-tail (IsTreeIn pages) one.prime one.alternates grow in
-      let rest_too : All (IsTreeIn pages) two.alternates =
-      All-tail (IsTreeIn pages) two.prime two.alternates grow_too in
-      let keys : length s.alternates ≡ length t.alternates = ap (λ (x : Spec). length x.alternates) spec in
-      let count = is.count in
-      let count_too = is_too.count in
-      let many : length one.alternates ≡ length two.alternates = is.count ∙ keys ∙ sym is_too.count in
-      let alternates : one.alternates ≡ two.alternates = ext_get_or no_tree one.alternates two.alternates many
-      (λ i low.
-      let low_too : i < length two.alternates = omega (arith, low, many) in
-      one_planted pages (slice_index_or one.alternates i no_tree) (slice_index_or two.alternates i no_tree) small
-      (rest i no_tree low) (rest_too i no_tree low_too)
-      ((is.indexes i (omega (arith, low, count))).layout ∙ ap (λ (x : Spec). layout_under x (Alternate i)) spec
-      ∙ sym (is_too.indexes i (omega (arith, low_too, count_too))).layout)
-      (sym (root_told pages one small named rest i low) ∙ ap (λ (b : List ℕ). big_number 4 (drop (47 + 4 * i) b)) bytes
-      ∙ root_told pages two small named_too rest_too i low_too)) in
-      ap (λ (p : TreeLevels). trees_with p one.alternates) prime ∙ ap (trees_with two.prime) alternates
+      let entry : Entry = catalog_entry mark two in
+      one_list_of_trees pages generation (without_count entry) small one two
+      (found_first (catalog_file mark pages generation entry one is named grow same))
+      (found_first (catalog_file mark pages generation entry two is_too named_too grow_too refl))
 
   same_forest : (ones twos : List FileTrees) → All (IsKept generation) ones
       → All (IsKept generation) twos → AllByRecursion IsNamed (map (λ (k : FileTrees). k.named) ones)
       → AllByRecursion IsNamed (map (λ (k : FileTrees). k.named) twos) →
       All (IsTreeIn pages) (flat_map trees_of ones) → All (IsTreeIn pages) (flat_map trees_of twos)
-      → map catalog_entry ones ≡ map catalog_entry twos → flat_map trees_of ones ≡ flat_map trees_of twos
+      → map (catalog_entry mark) ones ≡ map (catalog_entry mark) twos
+      → flat_map trees_of ones ≡ flat_map trees_of twos
   same_forest [] [] is is_too named named_too grow grow_too same = refl
   same_forest [] (two ∷ twos) is is_too named named_too grow grow_too same = cc
   same_forest (one ∷ ones) [] is is_too named named_too grow grow_too same = cc
   same_forest (one ∷ ones) (two ∷ twos) is is_too named named_too grow grow_too same =
-      let head : catalog_entry one ≡ catalog_entry two = cc in
-      let tail : map catalog_entry ones ≡ map catalog_entry twos = cc in
+      let head : catalog_entry mark one ≡ catalog_entry mark two = cc in
+      let tail : map (catalog_entry mark) ones ≡ map (catalog_entry mark) twos = cc in
       let first : trees_of one ≡ trees_of two = same_trees one two (All-head (IsKept generation) one ones is)
       (All-head (IsKept generation) two twos is_too) named.0 named_too.0
       (all_left (IsTreeIn pages) (trees_of one) (flat_map trees_of ones) grow)
@@ -224,11 +178,11 @@ one_forest : (m : Map) (generation : ℕ) (one two : List (List TreeNode)) (ones
 one_forest m generation one two ones twos small is is_too =
     let first = All-head (IsTreeIn m.pages) (catalog_tree m one) (flat_map trees_of ones) is.grow in
     let second = All-head (IsTreeIn m.pages) (catalog_tree m two) (flat_map trees_of twos) is_too.grow in
-    let levels : one ≡ two = one_tree catalog_layout m.pages m.catalog one two small first second in
-    let entries : map catalog_entry ones ≡ map catalog_entry twos =
-    sym is.listed ∙ ap (entries_of catalog_layout) levels ∙ is_too.listed in
+    let levels : one ≡ two = one_tree (catalog_layout m.mark) m.pages m.catalog one two small first second in
+    let entries : map (catalog_entry m.mark) ones ≡ map (catalog_entry m.mark) twos =
+    sym is.listed ∙ ap (entries_of (catalog_layout m.mark)) levels ∙ is_too.listed in
     let trees : flat_map trees_of ones ≡ flat_map trees_of twos =
-    same_forest m.pages generation small ones twos is.each is_too.each is.named is_too.named
+    same_forest m.mark m.pages generation small ones twos is.each is_too.each is.named is_too.named
     (All-tail (IsTreeIn m.pages) (catalog_tree m one) (flat_map trees_of ones) is.grow)
     (All-tail (IsTreeIn m.pages) (catalog_tree m two) (flat_map trees_of twos) is_too.grow) entries in
     ap (λ (l : List (List TreeNode)). catalog_tree m l ∷ flat_map trees_of ones) levels

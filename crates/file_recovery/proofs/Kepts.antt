@@ -1,4 +1,4 @@
--- A file with its trees, by its entry in the catalog.
+-- A file with its trees, by its entry in the catalog without the number of rows.
 use Rattle.std.proofs.Common.{◌≡◌, ◌≤◌, ◌<◌, ◌^◌, ⊎_elim, ℕ, Bool, zero, suc, List, [], ◌∷◌, length, take, drop, refl}
 use Rattle.std.proofs.Common.{sym, ap, subst, ◌∙◌, arith}
 use Rattle.std.specs.Prelude.{map, Option, slice_index_or}
@@ -109,7 +109,7 @@ module _ (pages : List (Option Sector)) (generation : ℕ) (entry : Entry) (name
       entries_of prime.tree.layout prime.levels ≡ map (entry_under spec Prime) rows
       → AllByRecursion (IsRow spec next) rows → RowsAscend spec.organization rows
       → FindsIndexes pages spec rows entry.value (length spec.alternates) mid new →
-      FindsFile pages generation entry
+      FindsFile 0 pages generation entry
       (record { name = name; file = record { spec = spec; rows = rows; next_arrival = next } }) old new
   unfolding listing_with entry_with
   finds_file heading layout root grows marks listed are ascend indexes =
@@ -150,7 +150,7 @@ module _ (pages : List (Option Sector)) (generation : ℕ) (entry : Entry) (name
 
 -- a file with its trees that the entry tells of is what is read
 module _ (pages : List (Option Sector)) (generation : ℕ) (entry : Entry) (kept : FileTrees) (small : length pages
-    ≤ 2 ^ 20) (few : generation < 2 ^ 63) (found : IsCatalogFile pages generation entry kept) where
+    ≤ 2 ^ 20) (few : generation < 2 ^ 63) (found : IsCatalogFile 0 pages generation entry kept) where
   pub own_listing : IsListing (listing_of kept)
   own_listing = listing_fits pages generation kept small few found.is found.named found.grow
 

@@ -11,6 +11,7 @@ pub mod Strays
 pub mod OneKept
 pub mod Indexes
 pub mod Ascents
+pub mod FirstMark
 pub mod Headings
 pub mod Kepts
 pub mod NoFiles

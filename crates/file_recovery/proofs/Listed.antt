@@ -20,6 +20,7 @@ use Rattle.file_recovery.specs.Kept.{IsCatalogFile, FindsFile, NoFile, IsCatalog
 use Rattle.file_recovery.specs.Listed.{AreFound, FindsFiles, NoFiles, pages_of_files}
 use Rattle.file_recovery.proofs.Entered.{all_behind}
 use Rattle.btree_check.proofs.Marking.{marks_none, marks_append, can_left, can_after}
+use Rattle.file_recovery.proofs.FirstMark.{without_count, found_first}
 use Rattle.file_recovery.proofs.OneFound.{one_list_of_trees}
 use Rattle.btree.proofs.Ascending.{entry_at, some_at}
 use Rattle.file_recovery.proofs.Passed.{taken_more}
@@ -39,9 +40,9 @@ splits f P (x ∷ items) (suc n) entry all at =
     let rest = splits f P items n entry all.1 at in
     record { item = rest.item; is = rest.is; of = rest.of; split = rest.split }
 
-module _ (pages : List (Option Sector)) (generation : ℕ) where
+module _ (mark : ℕ) (pages : List (Option Sector)) (generation : ℕ) where
   abbrev IsOwn : FileTrees → Type 0
-  IsOwn one = IsCatalogFile pages generation (catalog_entry one) one
+  IsOwn one = IsCatalogFile mark pages generation (catalog_entry mark one) one
 
   -- the trees of one file and of others
   pages_of_more : (one : FileTrees) (kept : List FileTrees)
@@ -56,16 +57,17 @@ module _ (pages : List (Option Sector)) (generation : ℕ) where
   pages_of_both kept more = ap pages_within (flat_map-append trees_of kept more)
       ∙ flat_map-append pages_under (flat_map trees_of kept) (flat_map trees_of more)
 
-  own_entry : (entry : Entry) (one : FileTrees) → IsCatalogFile pages generation entry one → IsOwn one
+  own_entry : (entry : Entry) (one : FileTrees) → IsCatalogFile mark pages generation entry one → IsOwn one
   own_entry entry one found = record { is = found.is; named = found.named; grow = found.grow; listed = refl }
 
-  pub no_files : (seen : List Bool) → FindsFiles pages generation [] [] seen seen
+  pub no_files : (seen : List Bool) → FindsFiles mark pages generation [] [] seen seen
   no_files seen = record { kept = []; found = record { listed = refl; each = tt }; are = refl; marks = marks_none seen }
 
   pub one_more_file : (entries : List Entry) (n : ℕ) (entry : Entry) (files : Files) (one : NamedFile)
       (old mid new : List Bool) → entry_at n entries ≡ Some entry →
-      FindsFiles pages generation (take n entries) files old mid → FindsFile pages generation entry one mid new
-      → FindsFiles pages generation (take (n + 1) entries) (files ++ one ∷ []) old new
+      FindsFiles mark pages generation (take n entries) files old mid
+      → FindsFile mark pages generation entry one mid new
+      → FindsFiles mark pages generation (take (n + 1) entries) (files ++ one ∷ []) old new
   one_more_file entries n entry files one old mid new at before finds =
       let kept : List FileTrees = before.kept in
       let last : List FileTrees = finds.kept ∷ [] in
@@ -73,8 +75,8 @@ module _ (pages : List (Option Sector)) (generation : ℕ) where
       record {
         kept = kept ++ last;
         found = record {
-          listed = map-append catalog_entry kept last
-              ∙ ap (λ (l : List Entry). l ++ map catalog_entry last) before.found.listed
+          listed = map-append (catalog_entry mark) kept last
+              ∙ ap (λ (l : List Entry). l ++ map (catalog_entry mark) last) before.found.listed
               ∙ ap (λ (e : Entry). take n entries ++ e ∷ []) finds.found.listed ∙ sym (taken_more entries n entry at);
           each = all_behind IsOwn kept finds.kept before.found.each (own_entry entry finds.kept finds.found);
         };
@@ -89,20 +91,22 @@ module _ (pages : List (Option Sector)) (generation : ℕ) where
 
   -- what a list of such files has after a place can still be marked
   abbrev pub CanGoOn : List Entry → List Bool → ℕ → List Bool → Type 0
-  CanGoOn entries old n seen = (kept : List FileTrees) → AreFound pages generation entries kept
+  CanGoOn entries old n seen = (kept : List FileTrees) → AreFound mark pages generation entries kept
       → CanMark old (pages_of_files kept) → CanMark seen (pages_of_files (drop n kept))
 
   pub at_first : (entries : List Entry) (seen : List Bool) → CanGoOn entries seen 0 seen
   at_first entries seen = λ kept found can. can
 
   module _ (entries : List Entry) (n : ℕ) (entry : Entry) (at : entry_at n entries ≡ Some entry) where
-    there : (kept : List FileTrees) → AreFound pages generation entries kept → Splits catalog_entry IsOwn n entry kept
-    there kept found = splits catalog_entry IsOwn kept n entry found.each (ap (entry_at n) found.listed ∙ at)
+    there : (kept : List FileTrees) → AreFound mark pages generation entries kept
+        → Splits (catalog_entry mark) IsOwn n entry kept
+    there kept found = splits (catalog_entry mark) IsOwn kept n entry found.each (ap (entry_at n) found.listed ∙ at)
 
-    found_there : (own : FileTrees) → IsOwn own → catalog_entry own ≡ entry → IsCatalogFile pages generation entry own
+    found_there : (own : FileTrees) → IsOwn own → catalog_entry mark own ≡ entry
+        → IsCatalogFile mark pages generation entry own
     found_there own is of = record { is = is.is; named = is.named; grow = is.grow; listed = of }
 
-    can_here : (kept : List FileTrees) (found : AreFound pages generation entries kept) (seen : List Bool)
+    can_here : (kept : List FileTrees) (found : AreFound mark pages generation entries kept) (seen : List Bool)
         → CanMark seen (pages_of_files (drop n kept)) →
         CanMark seen (pages_within (trees_of (there kept found).item) ++ pages_of_files (drop (suc n) kept))
     can_here kept found seen can =
@@ -110,27 +114,28 @@ module _ (pages : List (Option Sector)) (generation : ℕ) where
         subst (CanMark seen) (ap pages_of_files here.split ∙ pages_of_more here.item (drop (suc n) kept)) can
 
     pub goes_on : (one : NamedFile) (old mid new : List Bool) → length pages ≤ 2 ^ 20 → CanGoOn entries old n mid
-        → FindsFile pages generation entry one mid new → CanGoOn entries old (n + 1) new
+        → FindsFile mark pages generation entry one mid new → CanGoOn entries old (n + 1) new
     goes_on one old mid new small before finds = λ kept found can.
         let here = there kept found in
-        let same = one_list_of_trees pages generation entry small finds.kept here.item finds.found
-        (found_there here.item here.is here.of) in
+        let same = one_list_of_trees pages generation (without_count entry) small finds.kept here.item
+        (found_first finds.found) (found_first (found_there here.item here.is here.of)) in
         let marks = subst (λ (l : List TreeLevels). Marks mid (pages_within l) new) same finds.marks in
         let rest = can_after mid new (pages_within (trees_of here.item)) (pages_of_files (drop (suc n) kept)) marks
         (can_here kept found mid (before kept found can)) in
         subst (λ (k : ℕ). CanMark new (pages_of_files (drop k kept))) (let e : suc n ≡ n + 1 = omega arith in e) rest
 
-    pub none_here : (old mid : List Bool) → CanGoOn entries old n mid → NoFile pages generation entry mid
-        → NoFiles pages generation entries old
+    pub none_here : (old mid : List Bool) → CanGoOn entries old n mid → NoFile mark pages generation entry mid
+        → NoFiles mark pages generation entries old
     none_here old mid before never = λ kept found few can.
         let here = there kept found in
         never here.item (found_there here.item here.is here.of) (can_left mid (pages_within (trees_of here.item))
         (pages_of_files (drop (suc n) kept)) (can_here kept found mid (before kept found can)))
 
-    pub too_many : (old : List Bool) → 255 ≤ n → NoFiles pages generation entries old
+    pub too_many : (old : List Bool) → 255 ≤ n → NoFiles mark pages generation entries old
     too_many old high = λ kept found few can.
-        let many = length-map kept catalog_entry in
-        let same : length (map catalog_entry kept) ≡ length entries = ap (λ (l : List Entry). length l) found.listed in
+        let many = length-map kept (catalog_entry mark) in
+        let same : length (map (catalog_entry mark) kept) ≡ length entries =
+        ap (λ (l : List Entry). length l) found.listed in
         let long = some_at entries n entry at in
         absurd (omega (arith, high, few, many, same, long))
 
@@ -167,7 +172,7 @@ module _ (pages : List (Option Sector)) (generation : ℕ) where
 module _ (m : Map) (generation : ℕ) (catalog : List (List TreeNode)) where
   pub finds_catalog : (files : Files) (old mid new : List Bool) → IsTreeIn m.pages (catalog_tree m catalog)
       → Marks old (pages_under (catalog_tree m catalog)) mid → length files ≤ 255 →
-      FindsFiles m.pages generation (entries_of catalog_layout catalog) files mid new
+      FindsFiles m.mark m.pages generation (entries_of (catalog_layout m.mark) catalog) files mid new
       → FindsCatalog m generation files old new
   finds_catalog files old mid new grows marks few finds =
       let tree : TreeLevels = catalog_tree m catalog in
@@ -180,10 +185,10 @@ module _ (m : Map) (generation : ℕ) (catalog : List (List TreeNode)) where
         kept = kept;
         is = record {
           grow = All-cons (IsTreeIn m.pages) tree (flat_map trees_of kept) grows
-              (all_grow m.pages generation kept finds.found.each);
+              (all_grow m.mark m.pages generation kept finds.found.each);
           listed = sym finds.found.listed;
-          each = all_kept m.pages generation kept finds.found.each;
-          named = all_named m.pages generation kept finds.found.each;
+          each = all_kept m.mark m.pages generation kept finds.found.each;
+          named = all_named m.mark m.pages generation kept finds.found.each;
           few = omega (arith, few, many, same);
         };
         are = finds.are;
@@ -195,9 +200,9 @@ module _ (m : Map) (generation : ℕ) (catalog : List (List TreeNode)) where
   catalog_grows kept is = All-head (IsTreeIn m.pages) (catalog_tree m catalog) (flat_map trees_of kept) is.grow
 
   pub catalog_found : (kept : List FileTrees) → IsCatalog m generation catalog kept
-      → AreFound m.pages generation (entries_of catalog_layout catalog) kept
+      → AreFound m.mark m.pages generation (entries_of (catalog_layout m.mark) catalog) kept
   catalog_found kept is = record {
     listed = sym is.listed;
-    each = each_own m.pages generation kept
+    each = each_own m.mark m.pages generation kept
         (All-tail (IsTreeIn m.pages) (catalog_tree m catalog) (flat_map trees_of kept) is.grow) is.each is.named;
   }

@@ -1,4 +1,4 @@
--- What shows that an entry of the catalog tells of no file with its trees.
+-- What shows that an entry of the catalog, without its number of rows, tells of no file with its trees.
 use Rattle.std.proofs.Common.{◌≡◌, ◌≤◌, ◌<◌, ◌^◌, ℕ, Bool, List, length, drop, sym, ap, subst, ◌∙◌}
 use Rattle.std.specs.Prelude.{map, Option}
 use Rattle.std.specs.List.{All, AllByRecursion}
@@ -32,7 +32,7 @@ module _ (pages : List (Option Sector)) (generation : ℕ)
     (name : List ℕ) (spec : Spec) (next : ℕ) (heading : IsHeading generation entry name spec next) (tree : RootedTree)
     (layout : tree.layout ≡ layout_under spec Prime) (root : tree.root ≡ big_number 4 (drop 43 entry.value)) where
   -- the rows of a file of which the entry tells stand under that root
-  prime_stands : (kept : FileTrees) → IsCatalogFile pages generation entry kept
+  prime_stands : (kept : FileTrees) → IsCatalogFile 0 pages generation entry kept
       → IsTreeOrEmpty tree.layout pages tree.root kept.prime.levels
   prime_stands kept found =
       let grows : IsTreeIn pages kept.prime = All-head (IsTreeIn pages) kept.prime kept.alternates found.grow in
@@ -44,14 +44,14 @@ module _ (pages : List (Option Sector)) (generation : ℕ)
   -- no tree without a mark stands there
   pub no_tree_there : (old : List Bool) → ((levels : List (List TreeNode))
       → IsTreeOrEmpty tree.layout pages tree.root levels → All (IsUnmarked old) (pages_of levels) → ⊥)
-      → NoFile pages generation entry old
+      → NoFile 0 pages generation entry old
   no_tree_there old never = λ kept found can. never kept.prime.levels (prime_stands kept found)
       (can_left old (pages_under kept.prime) (pages_within kept.alternates) can).unmarked
 
   -- what stands there are no rows of the file
   pub no_rows_there : (old : List Bool) → ((levels : List (List TreeNode))
       → IsTreeOrEmpty tree.layout pages tree.root levels → NoRows spec next (entries_of tree.layout levels))
-      → NoFile pages generation entry old
+      → NoFile 0 pages generation entry old
   no_rows_there old never = λ kept found can.
       let same = prime_layout_is pages generation entry kept small few found name spec next heading in
       never kept.prime.levels (prime_stands kept found) kept.named.file.rows
@@ -59,19 +59,37 @@ module _ (pages : List (Option Sector)) (generation : ℕ)
       (ap (λ (l : RowLayout). entries_of l kept.prime.levels) (layout ∙ sym same)
       ∙ own_entries pages generation entry kept small few found name spec next heading)
 
+  -- the rows that stand there are those of each file of which the entry tells
+  rows_there : (rows : List Row) (levels : List (List TreeNode)) → IsTreeOrEmpty tree.layout pages tree.root levels
+      → entries_of tree.layout levels ≡ map (entry_under spec Prime) rows → AllByRecursion (IsRow spec next) rows
+      → RowsAscend spec.organization rows → (kept : FileTrees) → IsCatalogFile 0 pages generation entry kept
+      → (tree_levels tree levels ≡ kept.prime) × (rows ≡ kept.named.file.rows)
+  rows_there rows levels holds listed are ascend kept found =
+      let prime : TreeLevels = tree_levels tree levels in
+      let same : prime ≡ kept.prime =
+      same_prime pages generation entry kept small few found name spec next heading prime layout root holds in (
+        same,
+        same_rows pages generation entry kept small few found name spec next heading prime rows same listed are
+            ascend,
+      )
+
+  pub same_rows_there : (rows : List Row) (levels : List (List TreeNode))
+      → IsTreeOrEmpty tree.layout pages tree.root levels
+      → entries_of tree.layout levels ≡ map (entry_under spec Prime) rows → AllByRecursion (IsRow spec next) rows
+      → RowsAscend spec.organization rows → (kept : FileTrees) → IsCatalogFile 0 pages generation entry kept
+      → rows ≡ kept.named.file.rows
+  same_rows_there rows levels holds listed are ascend kept found =
+      (rows_there rows levels holds listed are ascend kept found).1
+
   -- these rows stand there, and their pairs don't
   pub no_pairs_there : (old mid : List Bool) (rows : List Row) (levels : List (List TreeNode))
       → IsTreeOrEmpty tree.layout pages tree.root levels → Marks old (pages_of levels) mid →
       entries_of tree.layout levels ≡ map (entry_under spec Prime) rows → AllByRecursion (IsRow spec next) rows
       → RowsAscend spec.organization rows → NoIndexes pages spec rows entry.value (length spec.alternates) mid
-      → NoFile pages generation entry old
+      → NoFile 0 pages generation entry old
   no_pairs_there old mid rows levels holds marks listed are ascend never = λ kept found can.
-      let prime : TreeLevels = tree_levels tree levels in
-      let same : prime ≡ kept.prime =
-      same_prime pages generation entry kept small few found name spec next heading prime layout root holds in
-      let same_too : rows ≡ kept.named.file.rows =
-      same_rows pages generation entry kept small few found name spec next heading prime rows same listed are ascend in
+      let same = rows_there rows levels holds listed are ascend kept found in
       never kept.alternates
-      (own_indexes pages generation entry kept small few found name spec next heading rows same_too)
+      (own_indexes pages generation entry kept small few found name spec next heading rows same.1)
       (can_after old mid (pages_under kept.prime) (pages_within kept.alternates)
-      (subst (λ (t : TreeLevels). Marks old (pages_under t) mid) same marks) can)
+      (subst (λ (t : TreeLevels). Marks old (pages_under t) mid) same.0 marks) can)

@@ -1,4 +1,4 @@
--- One entry of the catalog tells of one list of trees.
+-- One entry of the catalog tells of one list of trees. It is seen without its number of rows.
 use Rattle.std.proofs.Common.{◌≡◌, ◌≤◌, ◌<◌, ◌+◌, ◌*◌, ◌^◌, ℕ, List, ◌∷◌, length, take, drop, sym, ap, ◌∙◌, arith}
 use Rattle.std.specs.Prelude.{map, Option, slice_index_or}
 use Rattle.std.specs.List.{All}
@@ -22,7 +22,7 @@ use Rattle.file_recovery.proofs.OneKept.{one_planted}
 module _ (pages : List (Option Sector)) (generation : ℕ) (entry : Entry) (small : length pages ≤ 2 ^ 20) where
   -- the root of an alternate key's tree is the one that the entry names
   root_named : (kept : FileTrees) (i : ℕ)
-      → IsCatalogFile pages generation entry kept → i < length kept.alternates → big_number 4
+      → IsCatalogFile 0 pages generation entry kept → i < length kept.alternates → big_number 4
       (drop (47 + 4 * i) (listing_bytes (listing_of kept))) ≡ (slice_index_or kept.alternates i no_tree).tree.root
   root_named kept i found low =
       let grow : All (IsTreeIn pages) kept.alternates =
@@ -34,8 +34,8 @@ module _ (pages : List (Option Sector)) (generation : ℕ) (entry : Entry) (smal
       root_read (listing_of kept) i found.named.file.spec lows (omega (arith, low, many))
       ∙ get_or-map (λ (tree : TreeLevels). tree.tree.root) kept.alternates i no_tree 0 low
 
-  module _ (one two : FileTrees) (found : IsCatalogFile pages generation entry one)
-      (found_too : IsCatalogFile pages generation entry two) where
+  module _ (one two : FileTrees) (found : IsCatalogFile 0 pages generation entry one)
+      (found_too : IsCatalogFile 0 pages generation entry two) where
     same_bytes : listing_bytes (listing_of one) ≡ listing_bytes (listing_of two)
     same_bytes = ap (λ (e : Entry). e.value) (found.listed ∙ sym found_too.listed)
 

@@ -1,8 +1,12 @@
 -- A volume that is opened again, after a call that synced it or did nothing.
-use Rattle.std.proofs.Common.{◌≡◌, ◌⊎◌, inl, inr, List, ap, ◌∙◌}
+use Rattle.std.proofs.Common.{◌≡◌, ◌⊎◌, ◌↔◌, inl, inr, List, ap, ◌∙◌}
+use Rattle.station.specs.Calls.{OnlyReads, OnlyWrites}
+use Rattle.station.specs.Failures.{Blames}
 use Rattle.station.specs.State.{State, state_after_sync}
 use Rattle.station.specs.History.{Through}
 use Rattle.station.specs.Opening.{IsOpening}
+use Rattle.station.specs.declared.device.Device.{Ghosts as Devices}
+use Rattle.station.proofs.Calls.{reads_writes, writes_then}
 use Rattle.station.proofs.Spans.{goes, weakens}
 
 opening_then : (old mid new : State) → IsOpening old mid → IsOpening mid new → IsOpening old new
@@ -20,3 +24,21 @@ opens_again a b c old mid new first second = goes a b c mid new (IsOpening old) 
 pub same_present : (old mid : State) → (mid ≡ old) ⊎ (mid ≡ state_after_sync old) → mid.disk.present ≡ old.disk.present
 same_present old mid (inl same) = ap (λ (s : State). s.disk.present) same
 same_present old mid (inr same) = ap (λ (s : State). s.disk.present) same
+
+-- a device that is synced, and then read
+module _ {D : Type 0} (d : Devices D) where
+  pub synced_then_read : (A B : Type 0) (old mid new : D) → (d.is_honest old ↔ d.is_honest mid)
+      → d.sectors mid ≡ d.sectors old → Blames A (d.failures old) (d.failures mid)
+      → (d.is_honest old → d.state mid ≡ state_after_sync (d.state old)) → OnlyReads d B mid new
+      → OnlyWrites d B old new
+  synced_then_read A B old mid new honest sectors failures synced reads = writes_then d A B B old mid new (λ e. inr e)
+      (record {
+        honest = honest;
+        sectors = sectors;
+        failures = failures;
+        console = λ h. record {
+          events = ap (λ (s : State). s.events) (synced h);
+          lines = ap (λ (s : State). s.lines) (synced h);
+        };
+      })
+      (reads_writes d B mid new reads)

@@ -1,6 +1,6 @@
 //! All files that the catalog lists.
 ghost use Rattle.std.specs.Prelude.{◌≡◌, ◌≤◌, ◌<◌, ◌+◌, ◌^◌, false, Err, length, IfOk, IfErr, OnOk};
-ghost use Rattle.pages.specs.Pages.{map_now, is_spent, sectors_of, IsOpen};
+ghost use Rattle.pages.specs.Pages.{map_now, mark_of, is_spent, sectors_of, IsOpen};
 ghost use Rattle.btree.specs.Calls.{IfAgrees, OnPages, OnTree, pages_on};
 ghost use Rattle.btree.specs.Entries.{HasLengths, entries_of};
 ghost use Rattle.volume_format.specs.Catalog.{catalog_layout};
@@ -47,7 +47,7 @@ pub(crate) fn read_catalog<D: Device>(
     ensures cause { IfErr result IsReadFault }
 {
     map_bounds();
-    let catalog = catalog_tree(alloc, pages.catalog());
+    let catalog = catalog_tree(alloc, pages.mark(), pages.catalog());
     check_pages(alloc, &catalog, pages, device, seen)?;
     read_files(alloc, &catalog, generation, pages, device, seen)
 }
@@ -67,15 +67,17 @@ fn add_file<D: Device>(
     requires unspent { is_spent pages.old ≡ false }
     requires sectors { sectors_of pages.old ≤ D.sectors device.old }
     requires generation { generation < 2 ^ 63 }
-    requires lengths { HasLengths catalog_layout entry.now }
+    requires lengths { HasLengths (catalog_layout (mark_of pages.old)) entry.now }
     ensures looks { LooksAt D.Device (result ≡ Err StoreFault.Device) pages.old device.old pages.new
         device.new }
     ensures many { OnOk result (length files.new.items ≡ length files.old.items + 1) }
     ensures file { OnPages D.Device pages.old device.old
-        (λ before. OnOk result (AddsFile before generation entry.now (files_of files.old.items)
+        (λ before. OnOk result
+        (AddsFile (mark_of pages.old) before generation entry.now (files_of files.old.items)
         (files_of files.new.items) seen.old seen.new)) }
     ensures damaged { OnPages D.Device pages.old device.old
-        (λ before. result ≡ Err StoreFault.Damaged → NoFile before generation entry.now seen.old) }
+        (λ before. result ≡ Err StoreFault.Damaged
+        → NoFile (mark_of pages.old) before generation entry.now seen.old) }
     ensures cause { IfErr result IsReadFault }
 {
     let file = check_file(alloc, entry, generation, pages, device, seen)?;
@@ -97,17 +99,19 @@ fn read_files<D: Device>(
     requires unspent { is_spent pages.old ≡ false }
     requires sectors { sectors_of pages.old ≤ D.sectors device.old }
     requires generation { generation < 2 ^ 63 }
-    requires layout { catalog.now.layout ≡ catalog_layout }
+    requires layout { catalog.now.layout ≡ catalog_layout (mark_of pages.old) }
     ensures looks { LooksAt D.Device (result ≡ Err StoreFault.Device) pages.old device.old pages.new
         device.new }
     ensures few { IfOk result (λ files. length files.items ≤ 255) }
     ensures files { OnTree D.Device catalog.now.layout catalog.now.root pages.old device.old
         (λ levels.
-        IfOk result (λ files. FindsFiles (pages_on D.Device pages.old device.old) generation
+        IfOk result
+        (λ files. FindsFiles (mark_of pages.old) (pages_on D.Device pages.old device.old) generation
         (entries_of catalog.now.layout levels) (files_of files.items) seen.old seen.new)) }
     ensures damaged { OnTree D.Device catalog.now.layout catalog.now.root pages.old device.old
-        (λ levels. result ≡ Err StoreFault.Damaged → NoFiles (pages_on D.Device pages.old
-        device.old) generation (entries_of catalog.now.layout levels) seen.old) }
+        (λ levels. result ≡ Err StoreFault.Damaged → NoFiles (mark_of pages.old)
+        (pages_on D.Device pages.old device.old) generation (entries_of catalog.now.layout levels)
+        seen.old) }
     ensures cause { IfErr result IsReadFault }
 {
     map_bounds();

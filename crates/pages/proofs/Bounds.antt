@@ -7,7 +7,7 @@ use Rattle.std.proofs.lemmas.List.{length-map, length-take}
 use Rattle.station.specs.Disk.{Sector}
 use Rattle.roots.specs.declared.root.Root.{Root}
 use Rattle.roots.proofs.Next.{newest_within}
-use Rattle.pages.specs.Layout.{VolumeRoot, words, map_count, root_spelled, known_marks}
+use Rattle.pages.specs.Layout.{VolumeRoot, words, map_count, root_spelled, known_families}
 use Rattle.pages.specs.Image.{Map, Volume, Reads, IsImageOf, page_at, map_of}
 use Rattle.pages.proofs.Roots.{IsThat, that, behind}
 
@@ -19,7 +19,13 @@ few_maps root [] r is = absurd (that None r is)
 few_maps root (a ∷ []) r is = absurd (that None r is)
 few_maps root (catalog ∷ count ∷ rest) r is =
     let there : VolumeRoot =
-    record { generation = root.generation; sectors = root.sectors; catalog = catalog; maps = take count rest } in
+    record {
+      mark = root.mark.version;
+      generation = root.generation;
+      sectors = root.sectors;
+      catalog = catalog;
+      maps = take count rest;
+    } in
     cond_both ((count == map_count root.sectors) && list_all (λ word. word == 0) (drop count rest)) (Some there) None
     (λ x. IsThat x r → length r.maps ≤ map_count root.sectors)
     (λ both same. omega (
@@ -35,7 +41,7 @@ few_pages : (image : List Sector) (v : Volume) → Reads image v
     → (v.root.generation < 2 ^ 63) × (length v.table ≤ 921600)
 few_pages image v reads =
     let b = behind image v.root reads.root in
-    let facts = newest_within known_marks 1 image b.roots b.reads in
+    let facts = newest_within known_families image b.roots b.reads in
     let maps = few_maps b.roots.newest (words b.roots.newest.payload) v.root b.root in
     (omega (arith, facts.1.generation, b.generation), omega (arith, facts.1.most, maps, reads.maps.count))
 

@@ -12,7 +12,7 @@ use Rattle.station.proofs.TwoPhase.{all_same_outside, with_all_count}
 use Rattle.roots.specs.Root.{root_in}
 use Rattle.roots.specs.declared.root.RootSector.TheVariants.{Valid}
 use Rattle.pages.specs.declared.change.Change.{Change}
-use Rattle.pages.specs.Layout.{newest, known_marks}
+use Rattle.pages.specs.Layout.{newest, known_families}
 use Rattle.pages.specs.Image.{Map, pages_in, Volume, names, Reads, map_of, IsImageOf, KeepsUsed, IsCommitted}
 use Rattle.pages.specs.Changes.{pages_after, next_map, BeforeOrAfter}
 use Rattle.pages.specs.Plan.{IsPlan}
@@ -47,15 +47,16 @@ module _ (v w : Volume) (base : List Sector) (blocks : List Block) (changes : Li
   keeps : KeepsUsed v base staged
   keeps = keeps_used v base blocks staged plan.free (all_same_outside base blocks)
 
-  valid : root_in known_marks (length staged) (spells.root.generation % 2) bytes ≡ Valid spells.root
+  valid : root_in known_families (length staged) (spells.root.generation % 2) bytes ≡ Valid spells.root
   valid =
-      subst (λ (g : ℕ). root_in known_marks (length staged) (g % 2) bytes ≡ Valid spells.root) (sym spells.generation)
+      subst (λ (g : ℕ). root_in known_families (length staged) (g % 2) bytes ≡ Valid spells.root)
+      (sym spells.generation)
       (spells.valid (length staged) (omega (arith, plan.sectors, all, with_all_count base blocks)))
 
   image_newest : newest image ≡ Some w.root
   image_newest = ap (λ (g : ℕ). newest (set staged (g % 2) bytes)) (sym spells.generation)
       ∙ next_newest staged v.root spells.root w.root bytes (newest_same v base staged keeps ∙ reads.root) spells.mark
-      (spells.generation ∙ plan.generation) (spells.sectors ∙ plan.sectors) spells.reads valid
+      plan.mark (spells.generation ∙ plan.generation) (spells.sectors ∙ plan.sectors) spells.reads valid
 
   same_named : SameAt image staged (names w)
   same_named s has = ⊎_elim
@@ -69,39 +70,50 @@ module _ (v w : Volume) (base : List Sector) (blocks : List Block) (changes : Li
   next_pages = pages_same image staged w.table (λ s has. same_named s (Contains-append_right w.root.maps w.table s has))
       ∙ plan.pages base all reads
 
-  pub next_is : map_of image w ≡ next_map (map_of base v) changes w.root.catalog
+  pub next_is : map_of image w ≡ next_map (map_of base v) changes w.root.mark w.root.catalog
   next_is = ap (λ (pages : List (Option Sector)).
-      record { generation = w.root.generation; catalog = w.root.catalog; pages = pages }) next_pages
+      record { mark = w.root.mark; generation = w.root.generation; catalog = w.root.catalog; pages = pages }) next_pages
       ∙ ap (λ (g : ℕ).
-      record { generation = g; catalog = w.root.catalog; pages = pages_after (pages_in base v.table) changes })
+      record {
+        mark = w.root.mark;
+        generation = g;
+        catalog = w.root.catalog;
+        pages = pages_after (pages_in base v.table) changes;
+      })
       plan.generation
 
   before_or_after : (left : List Sector) → OldOrNew base blocks root bytes left
-      → BeforeOrAfter (map_of base v) (next_map (map_of base v) changes w.root.catalog) left
+      → BeforeOrAfter (map_of base v) (next_map (map_of base v) changes w.root.mark w.root.catalog) left
   before_or_after left (Old spares) =
       inl (still_holds v base left reads (keeps_used v base blocks left plan.free spares))
   before_or_after left (New is) = inr (subst (λ (l : List Sector).
-      IsImageOf l (next_map (map_of base v) changes w.root.catalog)) (sym is) (w, next_reads, next_is))
+      IsImageOf l (next_map (map_of base v) changes w.root.mark w.root.catalog)) (sym is) (w, next_reads, next_is))
 
   pub amid_maps : (seen : List Event) (s : State) → CrashLeaves seen (OldOrNew base blocks root bytes) s
-      → CrashLeaves seen (BeforeOrAfter (map_of base v) (next_map (map_of base v) changes w.root.catalog)) s
+      → CrashLeaves seen (BeforeOrAfter (map_of base v) (next_map (map_of base v) changes w.root.mark w.root.catalog)) s
   amid_maps seen s amid =
       record { events = amid.events; images = λ left crash. before_or_after left (amid.images left crash) }
 
   pub now_committed : (d : Disk) → d ≡ idle_disk image → IsCommitted w d
   now_committed d is = subst (IsCommitted w) (sym is) (record { settled = refl; reads = next_reads })
 
-  pub now_is : (d : Disk) → d ≡ idle_disk image → map_of d.present w ≡ next_map (map_of base v) changes w.root.catalog
+  pub now_is : (d : Disk) → d ≡ idle_disk image
+      → map_of d.present w ≡ next_map (map_of base v) changes w.root.mark w.root.catalog
   now_is d is = ap (λ (e : Disk). map_of e.present w) is ∙ next_is
 
-  -- the same, with the catalog's page by another name
-  pub amid_maps_as : (page : ℕ) → w.root.catalog ≡ page
+  -- the same, with the mark and the catalog's page by other names
+  pub amid_maps_as : (mark page : ℕ) → w.root.mark ≡ mark → w.root.catalog ≡ page
       → (seen : List Event) (s : State) → CrashLeaves seen (OldOrNew base blocks root bytes) s
-      → CrashLeaves seen (BeforeOrAfter (map_of base v) (next_map (map_of base v) changes page)) s
-  amid_maps_as page is seen s amid =
-      subst (λ (n : ℕ). CrashLeaves seen (BeforeOrAfter (map_of base v) (next_map (map_of base v) changes n)) s) is
-      (amid_maps seen s amid)
+      → CrashLeaves seen (BeforeOrAfter (map_of base v) (next_map (map_of base v) changes mark page)) s
+  amid_maps_as mark page own is seen s amid =
+      subst (λ (n : ℕ). CrashLeaves seen (BeforeOrAfter (map_of base v) (next_map (map_of base v) changes mark n)) s) is
+      (subst
+      (λ (m : ℕ).
+      CrashLeaves seen (BeforeOrAfter (map_of base v) (next_map (map_of base v) changes m w.root.catalog)) s)
+      own (amid_maps seen s amid))
 
-  pub now_is_as : (page : ℕ) → w.root.catalog ≡ page → (d : Disk) → d ≡ idle_disk image
-      → map_of d.present w ≡ next_map (map_of base v) changes page
-  now_is_as page is d same = now_is d same ∙ ap (next_map (map_of base v) changes) is
+  pub now_is_as : (mark page : ℕ) → w.root.mark ≡ mark → w.root.catalog ≡ page → (d : Disk) → d ≡ idle_disk image
+      → map_of d.present w ≡ next_map (map_of base v) changes mark page
+  now_is_as mark page own is d same =
+      now_is d same ∙ ap (λ (m : ℕ). next_map (map_of base v) changes m w.root.catalog) own
+      ∙ ap (next_map (map_of base v) changes mark) is

@@ -237,6 +237,7 @@ module _ (v : Volume) (m : VolumeMap) (d : Draft) (changes : List Change) (j : �
 
 pub same_size_then : (a b c : VolumeMap) → SameSize a b → SameSize b c → SameSize a c
 same_size_then a b c first second = record {
+  mark = second.mark ∙ first.mark;
   generation = second.generation ∙ first.generation;
   sectors = second.sectors ∙ first.sectors;
   catalog = second.catalog ∙ first.catalog;

@@ -1,22 +1,23 @@
 -- A volume without pages, once it stands on the disk.
-use Rattle.std.proofs.Common.{◌≡◌, inl, ⊎_elim, ◌<◌, ◌≤◌, ◌+◌, ◌*◌, ◌-◌, true, ℕ, zero, suc, List, [], ◌∷◌, ◌++◌}
+use Rattle.std.proofs.Common.{◌≡◌, inl, ⊎_elim, ◌<◌, ◌≤◌, ◌==◌, ◌+◌, ◌*◌, ◌-◌, true, ℕ, zero, suc, List, [], ◌∷◌, ◌++◌}
 use Rattle.std.proofs.Common.{length, set, get_or, take, replicate, refl, sym, ◌∙◌, ap, subst, arith, get_or-set_other}
 use Rattle.std.proofs.Common.{get_or-set_same, length-set}
-use Rattle.std.specs.Prelude.{Option, Some, None, Ok, Err, Contains, nat_lt}
-use Rattle.std.proofs.lemmas.Bool.{cond-true, lt-ltb, cases_lt}
+use Rattle.std.specs.Prelude.{Option, Some, None, Ok, Err, Contains}
+use Rattle.std.proofs.lemmas.Bool.{cond-true, eq-eqb, cases_lt}
 use Rattle.std.proofs.lemmas.List.{replicate-append-replicate, get_or-replicate, length-replicate, drop-replicate}
 use Rattle.std.proofs.lemmas.List.{take-replicate, get_or_past}
 use Rattle.station.specs.Disk.{Disk, Sector, sector_at, idle_disk, IsCrashImage}
 use Rattle.station.specs.State.{State}
 use Rattle.station.specs.History.{EachImage}
 use Rattle.station.proofs.Crash.{settled_image}
+use Rattle.roots.specs.declared.root.Mark.{Mark}
 use Rattle.roots.specs.declared.root.RootSector.{RootSector}
 use Rattle.roots.specs.declared.root.RootSector.TheVariants.{Blank, Valid}
 use Rattle.roots.specs.declared.pair.RootsFault.TheVariants.{ForeignMark}
 use Rattle.roots.specs.declared.pair.Roots.{Roots}
-use Rattle.roots.specs.Root.{root_in, root_with_mark, mark_index, is_blank}
+use Rattle.roots.specs.Root.{root_in, root_with_mark, mark_in, is_blank}
 use Rattle.roots.specs.Pair.{newest_root}
-use Rattle.pages.specs.Layout.{map_count, newest, known_marks, root_of, zeros}
+use Rattle.pages.specs.Layout.{map_count, newest, known_families, root_of, zeros}
 use Rattle.pages.specs.Image.{map_at, map_part, pages_in, Reads, IsImageOf, IsCommitted}
 use Rattle.pages.specs.Payload.{SpellsRoot}
 use Rattle.pages.specs.Empty.{empty_volume, empty_map}
@@ -68,21 +69,21 @@ module _ (base : List Sector) (sectors : ℕ) (bytes : Sector) (all : length bas
   second = get_or-set_other (set base 1 (replicate 4096 0)) 0 1 bytes [] (λ e. omega (arith, e))
       ∙ get_or-set_same base 1 (replicate 4096 0) [] (omega (arith, all, least))
 
-  blank_there : root_in known_marks (length image) 1 (sector_at image 1) ≡ Blank
-  blank_there = ap (root_in known_marks (length image) 1) second ∙ cond-true (is_blank (replicate 4096 0)) Blank
-      (root_with_mark (length image) 1 (replicate 4096 0) (mark_index known_marks (replicate 4096 0))) (all_blank 4096)
+  blank_there : root_in known_families (length image) 1 (sector_at image 1) ≡ Blank
+  blank_there = ap (root_in known_families (length image) 1) second ∙ cond-true (is_blank (replicate 4096 0)) Blank
+      (root_with_mark (length image) 1 (replicate 4096 0) (mark_in known_families (replicate 4096 0))) (all_blank 4096)
 
-  root_there : root_in known_marks (length image) 0 (sector_at image 0) ≡ Valid spells.root
-  root_there = ap (root_in known_marks (length image) 0) first ∙ spells.valid (length image) (omega (arith, count))
+  root_there : root_in known_families (length image) 0 (sector_at image 0) ≡ Valid spells.root
+  root_there = ap (root_in known_families (length image) 0) first ∙ spells.valid (length image) (omega (arith, count))
 
   newest_there : newest image ≡ Some (empty_volume sectors).root
   newest_there =
       let one : Roots = record { newest = spells.root; older = None } in
-      ap (λ (s : RootSector). root_of (newest_root 1 s (root_in known_marks (length image) 1 (sector_at image 1))))
+      ap (λ (s : RootSector). root_of (newest_root s (root_in known_families (length image) 1 (sector_at image 1))))
       root_there
-      ∙ ap (λ (s : RootSector). root_of (newest_root 1 (Valid spells.root) s)) blank_there
-      ∙ ap root_of (cond-true (nat_lt spells.root.mark 1) (Ok one) (Err ForeignMark)
-      (lt-ltb spells.root.mark 1 (omega (arith, spells.mark))))
+      ∙ ap (λ (s : RootSector). root_of (newest_root (Valid spells.root) s)) blank_there
+      ∙ ap root_of (cond-true (spells.root.mark.family == 0) (Ok one) (Err ForeignMark)
+      (eq-eqb spells.root.mark.family 0 (ap (λ (m : Mark). m.family) spells.mark)))
       ∙ spells.reads
 
   pub empty_reads : Reads image (empty_volume sectors)
@@ -105,7 +106,7 @@ module _ (base : List Sector) (sectors : ℕ) (bytes : Sector) (all : length bas
   empty_holds = (
     empty_volume sectors,
     empty_reads,
-    ap (λ (pages : List (Option Sector)). record { generation = 0; catalog = 0; pages = pages })
+    ap (λ (pages : List (Option Sector)). record { mark = 1; generation = 0; catalog = 0; pages = pages })
         (no_pages image (1024 * map_count sectors)),
   )
 

@@ -8,7 +8,7 @@ use Rattle.std.proofs.lemmas.Bool.{cases_lt}
 use Rattle.station.specs.Disk.{Sector, sector_at}
 use Rattle.roots.specs.Root.{root_in}
 use Rattle.roots.specs.Pair.{newest_root}
-use Rattle.pages.specs.Layout.{words, newest, root_of, known_marks}
+use Rattle.pages.specs.Layout.{words, newest, root_of, known_families}
 use Rattle.pages.specs.Image.{map_at, page_at, pages_in, Volume, names, Maps, Reads, map_of, IsImageOf, KeepsUsed}
 use Rattle.pages.proofs.Roots.{enough}
 
@@ -71,12 +71,12 @@ pub newest_same : (v : Volume) (base image : List Sector) → KeepsUsed v base i
 newest_same v base image keeps =
     let one = low_same v base image keeps 0 (omega arith) in
     let two = low_same v base image keeps 1 (omega arith) in
-    ap (λ (n : ℕ). root_of (newest_root 1 (root_in known_marks n 0 (sector_at image 0))
-    (root_in known_marks n 1 (sector_at image 1)))) keeps.count
-    ∙ ap (λ (s : Sector). root_of (newest_root 1 (root_in known_marks (length base) 0 s)
-    (root_in known_marks (length base) 1 (sector_at image 1)))) one
-    ∙ ap (λ (s : Sector). root_of (newest_root 1 (root_in known_marks (length base) 0 (sector_at base 0))
-    (root_in known_marks (length base) 1 s))) two
+    ap (λ (n : ℕ). root_of (newest_root (root_in known_families n 0 (sector_at image 0))
+    (root_in known_families n 1 (sector_at image 1)))) keeps.count
+    ∙ ap (λ (s : Sector). root_of (newest_root (root_in known_families (length base) 0 s)
+    (root_in known_families (length base) 1 (sector_at image 1)))) one
+    ∙ ap (λ (s : Sector). root_of (newest_root (root_in known_families (length base) 0 (sector_at base 0))
+    (root_in known_families (length base) 1 s))) two
 
 pub still_reads : (v : Volume) (base image : List Sector) → Reads base v → KeepsUsed v base image → Reads image v
 still_reads v base image reads keeps = record {
@@ -87,7 +87,7 @@ still_reads v base image reads keeps = record {
 pub same_map : (v : Volume) (base image : List Sector) → Reads base v → KeepsUsed v base image
     → map_of image v ≡ map_of base v
 same_map v base image reads keeps = ap (λ (pages : List (Option Sector)).
-    record { generation = v.root.generation; catalog = v.root.catalog; pages = pages })
+    record { mark = v.root.mark; generation = v.root.generation; catalog = v.root.catalog; pages = pages })
     (pages_same image base v.table
     (λ s has. named_same v base image reads keeps s (Contains-append_right v.root.maps v.table s has)))
 

@@ -34,9 +34,11 @@ one_volume image v w first second =
     (second.maps.count ∙ ap (λ (l : List ℕ). 1024 * length l) (sym maps))
     (λ i lt. sym (first.maps.entries i lt) ∙ ap (λ (l : List ℕ). map_at image (get_or l i 0)) maps
     ∙ second.maps.entries i (omega (arith, lt, ap length maps))) in
-    ap (λ (r : VolumeRoot). record { generation = r.generation; catalog = r.catalog; pages = pages_in image v.table })
+    ap (λ (r : VolumeRoot).
+    record { mark = r.mark; generation = r.generation; catalog = r.catalog; pages = pages_in image v.table })
     root
-    ∙ ap (λ (t : List ℕ). record { generation = w.root.generation; catalog = w.root.catalog; pages = pages_in image t })
+    ∙ ap (λ (t : List ℕ).
+    record { mark = w.root.mark; generation = w.root.generation; catalog = w.root.catalog; pages = pages_in image t })
     table
 
 pub one_map : (image : List Sector) (m n : Map) → IsImageOf image m → IsImageOf image n → m ≡ n

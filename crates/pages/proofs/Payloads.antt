@@ -1,5 +1,6 @@
 -- The numbers of a payload, and the root sector that has it.
-use Rattle.std.proofs.Common.{◌≡◌, ◌<◌, ◌≤◌, ◌-◌, ◌%◌, ◌*◌, ◌^◌, ◌==◌, ◌&&◌, ℕ, zero, suc, List, [], ◌∷◌, ◌++◌, length}
+use Rattle.std.proofs.Common.{◌≡◌, ◌<◌, ◌≤◌, ◌-◌, ◌%◌, ◌*◌, ◌^◌, ◌==◌, ◌&&◌, false, ℕ, zero, suc, List, [], ◌∷◌, ◌++◌}
+use Rattle.std.proofs.Common.{length}
 use Rattle.std.proofs.Common.{drop, replicate, refl, sym, ◌∙◌, ap, arith}
 use Rattle.std.specs.Prelude.{Some, nat_lt, nat_le}
 use Rattle.std.specs.List.{All}
@@ -8,12 +9,13 @@ use Rattle.std.proofs.lemmas.List.Elements.{All-replicate, All-cons, All-append}
 use Rattle.std.proofs.lemmas.List.{take_at, drop_at, drop-drop, drop-replicate}
 use Rattle.std.proofs.lemmas.Bool.{and_from, lt-ltb, le-leb, eq-eqb}
 use Rattle.station.specs.Disk.{Sector}
+use Rattle.roots.specs.declared.root.Mark.{Mark}
 use Rattle.roots.specs.declared.root.Root.{Root}
-use Rattle.roots.specs.Root.{put_at, root_bytes}
+use Rattle.roots.specs.Root.{own_mark, mark_in, is_blank, put_at, root_bytes}
 use Rattle.roots.proofs.Spelled.{reads_back}
 use Rattle.byteorder.specs.Endian.{big_bytes}
-use Rattle.pages.specs.Layout.{words, number_bytes, map_count, known_marks}
-use Rattle.pages.specs.Payload.{payload_words, SpellsRoot}
+use Rattle.pages.specs.Layout.{words, number_bytes, map_count, known_families}
+use Rattle.pages.specs.Payload.{payload_words, own_bytes, SpellsRoot}
 use Rattle.pages.proofs.Roots.{spelled_payload}
 use Rattle.pages.proofs.Words.{words-spelled}
 
@@ -63,19 +65,48 @@ filled catalog count maps blank first last same few low lows is_blank is_first i
     (All-append (λ (n : ℕ). n < 2 ^ 32) maps (replicate (1017 - length maps) 0) lows
     (All-replicate (λ (n : ℕ). n < 2 ^ 32) (1017 - length maps) 0 (omega arith)))))
 
-pub spells : (root : Root) (catalog : ℕ) (maps payload : List ℕ) (bytes : Sector) → root.mark ≡ 0
+-- the bytes of a root begin with its mark
+begins : (version : ℕ) (root : Root) → version < 2
+    → mark_in known_families (root_bytes (own_bytes version) root) ≡ Some (own_mark version)
+begins zero root low = refl
+begins (suc zero) root low = refl
+begins (suc (suc n)) root low = absurd (omega (arith, low))
+
+not_blank : (version : ℕ) (root : Root) → is_blank (root_bytes (own_bytes version) root) ≡ false
+not_blank zero root = refl
+not_blank (suc n) root = refl
+
+eight : (version : ℕ) → length (own_bytes version) ≡ 8
+eight zero = refl
+eight (suc n) = refl
+
+pub spells : (root : Root) (version catalog : ℕ) (maps payload : List ℕ) (bytes : Sector)
+    → root.mark ≡ own_mark version → version < 2
     → root.payload ≡ payload → words payload ≡ payload_words catalog maps
     → root.generation < 2 ^ 63 → 1024 ≤ root.sectors → root.sectors ≤ 921600 → length maps ≡ map_count root.sectors
-    → bytes ≡ root_bytes (67 ∷ 79 ∷ 66 ∷ 86 ∷ 79 ∷ 76 ∷ 48 ∷ 49 ∷ []) root
-    → SpellsRoot (record { generation = root.generation; sectors = root.sectors; catalog = catalog; maps = maps }) bytes
-spells root catalog maps payload bytes own has reads generation least most count spelled = record {
+    → bytes ≡ root_bytes (own_bytes version) root
+    → SpellsRoot (record {
+      mark = version;
+      generation = root.generation;
+      sectors = root.sectors;
+      catalog = catalog;
+      maps = maps;
+    }) bytes
+spells root version catalog maps payload bytes own low has reads generation least most count spelled = record {
   root = root;
   mark = own;
   generation = refl;
   sectors = refl;
-  reads = spelled_payload root catalog (1017 - length maps) maps (ap words has ∙ reads) count;
-  valid = λ n there. rw spelled (reads_back known_marks n (root.generation % 2)
-      (67 ∷ 79 ∷ 66 ∷ 86 ∷ 79 ∷ 76 ∷ 48 ∷ 49 ∷ []) root refl refl (ap Some (sym own))
+  reads = spelled_payload root catalog (1017 - length maps) maps (ap words has ∙ reads) count
+      ∙ ap (λ (m : Mark). Some (record {
+        mark = m.version;
+        generation = root.generation;
+        sectors = root.sectors;
+        catalog = catalog;
+        maps = maps;
+      })) own;
+  valid = λ n there. rw spelled (reads_back known_families n (root.generation % 2) (own_bytes version) root
+      (eight version) (not_blank version root) (begins version root low ∙ ap Some (sym own))
       (and_from (nat_lt root.generation (2 ^ 63) && (root.generation % 2 == root.generation % 2)
       && nat_le 1024 root.sectors && nat_le root.sectors 921600) (nat_le root.sectors n)
       (and_from (nat_lt root.generation (2 ^ 63) && (root.generation % 2 == root.generation % 2)

@@ -58,11 +58,12 @@ maps_started m after d changes draft same = record {
   };
 }
 
-module _ (m staged : VolumeMap) (after : VolumeMap) (d : Draft) (changes : List Change) (catalog : ℕ) (sound :
+module _ (m staged : VolumeMap) (after : VolumeMap) (d : Draft) (changes : List Change) (mark catalog : ℕ) (sound :
     IsSound m) (done : IsMappedDraft (volume_of m) staged d changes (length m.maps.items)) (size : SameSize m staged)
     (same_maps : after.maps ≡ staged.maps) (same_table : after.table ≡ staged.table) (same_used : after.used
     ≡ staged.used) (same_free : after.free ≡ staged.free) (same_sectors : after.sectors ≡ staged.sectors)
-    (generation : after.generation ≡ staged.generation + 1) (is_catalog : after.catalog ≡ catalog) where
+    (generation : after.generation ≡ staged.generation + 1) (is_mark : after.mark ≡ mark)
+    (is_catalog : after.catalog ≡ catalog) where
   abbrev v : Volume
   v = volume_of m
 
@@ -88,8 +89,9 @@ module _ (m staged : VolumeMap) (after : VolumeMap) (d : Draft) (changes : List 
   count : length after.table ≡ 1024 * length after.maps.items
   count = ap length table_is ∙ size.table ∙ sound.count ∙ ap (λ (n : ℕ). 1024 * n) (sym (ap length maps_is ∙ size.maps))
 
-  pub is_plan : IsPlan v (volume_of after) d.blocks.items changes
-  is_plan = record {
+  pub is_plan : m.mark ≤ mark → IsPlan v (volume_of after) d.blocks.items changes
+  is_plan rises = record {
+    mark = omega (arith, rises, is_mark);
     generation = generation ∙ ap (λ (n : ℕ). n + 1) size.generation;
     sectors = sectors_is;
     free = done.draft.staged.free;
@@ -106,8 +108,9 @@ module _ (m staged : VolumeMap) (after : VolumeMap) (d : Draft) (changes : List 
         ∙ done.draft.staged.pages base all reads;
   }
 
-  pub is_next : IsNext m after catalog
+  pub is_next : IsNext m after mark catalog
   is_next = record {
+    mark = is_mark;
     generation = generation ∙ ap (λ (n : ℕ). n + 1) size.generation;
     sectors = sectors_is;
     catalog = is_catalog;
@@ -117,8 +120,9 @@ module _ (m staged : VolumeMap) (after : VolumeMap) (d : Draft) (changes : List 
     free = same_free ∙ size.free;
   }
 
-  pub is_sound_after : m.generation + 1 < 2 ^ 63 → IsSoundAfter after d.turns.items
-  is_sound_after last = record {
+  pub is_sound_after : mark < 2 → m.generation + 1 < 2 ^ 63 → IsSoundAfter after d.turns.items
+  is_sound_after known last = record {
+    mark = omega (arith, is_mark, known);
     generation = omega (arith, generation, size.generation, last);
     least = omega (arith, sectors_is, sound.least);
     most = omega (arith, sectors_is, sound.most);

@@ -1,5 +1,6 @@
 -- Pages that were changed since the last commit.
-use Rattle.std.specs.Prelude.{◌≡◌, ◌≢◌, ◌⊎◌, ◌<◌, ◌+◌, ◌==◌, Bool, not, nat_eq, ℕ, List, [], ◌∷◌, ◌++◌, map, length, slice_set, Option, None, Some, is_some, Contains}
+use Rattle.std.specs.Prelude.{◌≡◌, ◌≢◌, ◌⊎◌, ◌<◌, ◌+◌, ◌==◌, Bool, not, nat_eq, ℕ, List, [], ◌∷◌, ◌++◌, map, length}
+use Rattle.std.specs.Prelude.{slice_set, Option, None, Some, is_some, Contains}
 use Rattle.std.specs.List.{All, HoldsAt}
 use Rattle.std.specs.declared.hash.FoldHasher.{FoldHasher}
 use Rattle.std.specs.declared.hash.BuildHasherDefault.{BuildHasherDefault}
@@ -22,8 +23,9 @@ abbrev pub mapped_after : List ℕ → List Change → List Bool
 mapped_after table changes = list_after is_some (map (λ s. not (s == 0)) table) changes
 
 -- the map of the next generation
-abbrev pub next_map : Map → List Change → ℕ → Map
-next_map m changes catalog = record { generation = m.generation + 1; catalog = catalog; pages = pages_after m.pages changes }
+abbrev pub next_map : Map → List Change → ℕ → ℕ → Map
+next_map m changes mark catalog =
+    record { mark = mark; generation = m.generation + 1; catalog = catalog; pages = pages_after m.pages changes }
 
 -- the map before a commit, or after it
 abbrev pub BeforeOrAfter : Map → Map → List Sector → Type 0
@@ -43,5 +45,6 @@ Places = HashMap ℕ ℕ (BuildHasherDefault FoldHasher)
 
 -- each place is that of the page's change, and a page without one has no change
 pub record ArePlaced (changes : List Change) (places : Places) : Type 0 where
-  pub found : (page i : ℕ) → get nat_eq places page ≡ Some i → (i < length changes) × HoldsAt (λ (c : Change). c.page ≡ page) changes i
+  pub found : (page i : ℕ) → get nat_eq places page ≡ Some i
+      → (i < length changes) × HoldsAt (λ (c : Change). c.page ≡ page) changes i
   pub absent : (page : ℕ) → get nat_eq places page ≡ None → All (λ (c : Change). c.page ≢ page) changes

@@ -1,5 +1,6 @@
 -- What an image holds.
-use Rattle.std.specs.Prelude.{◌≡◌, ◌≢◌, ◌⊎◌, ◌<◌, ◌≤◌, ◌*◌, ℕ, zero, suc, List, ◌++◌, map, length, take, drop, slice_index, Option, Some, None, Contains}
+use Rattle.std.specs.Prelude.{◌≡◌, ◌≢◌, ◌⊎◌, ◌<◌, ◌≤◌, ◌*◌, ℕ, zero, suc, List, ◌++◌, map, length, take, drop}
+use Rattle.std.specs.Prelude.{slice_index, Option, Some, None, Contains}
 use Rattle.station.specs.Disk.{Disk, Sector, sector_at, IsSettled}
 use Rattle.pages.specs.Layout.{VolumeRoot, newest, IsForeign, words, zeros}
 
@@ -34,7 +35,8 @@ IsPlace sectors s = (s ≡ 0) ⊎ (2 ≤ s) × (s < sectors)
 
 -- no sector is named twice
 abbrev pub NamesOnce : List ℕ → Type 0
-NamesOnce list = (i j : ℕ) → i < length list → j < length list → slice_index list i ≢ 0 → slice_index list i ≡ slice_index list j → i ≡ j
+NamesOnce list = (i j : ℕ) → i < length list → j < length list → slice_index list i ≢ 0
+    → slice_index list i ≡ slice_index list j → i ≡ j
 
 -- the maps are these: sectors after the roots, each named once, and none for page 0
 pub record Maps (image : List Sector) (v : Volume) : Type 0 where
@@ -49,14 +51,20 @@ pub record Reads (image : List Sector) (v : Volume) : Type 0 where
   pub root : newest image ≡ Some v.root
   pub maps : Maps image v
 
--- each page by its number, and the page of the catalog's root
+-- each page by its number, the page of the catalog's root, and the mark, by which the catalog's layout is known
 pub record Map : Type 0 where
+  pub mark : ℕ
   pub generation : ℕ
   pub catalog : ℕ
   pub pages : List (Option Sector)
 
 abbrev pub map_of : List Sector → Volume → Map
-map_of image v = record { generation = v.root.generation; catalog = v.root.catalog; pages = pages_in image v.table }
+map_of image v = record {
+  mark = v.root.mark;
+  generation = v.root.generation;
+  catalog = v.root.catalog;
+  pages = pages_in image v.table;
+}
 
 -- the image holds this map
 abbrev pub IsImageOf : List Sector → Map → Type 0

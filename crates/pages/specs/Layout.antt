@@ -1,5 +1,6 @@
 -- What the sectors of a volume spell (own choice). Numbers are big-endian.
-use Rattle.std.specs.Prelude.{◌≡◌, ◌&&◌, ℕ, ◌+◌, ◌/◌, ◌==◌, List, [], ◌∷◌, take, drop, replicate, codes, Option, Some, None, is_some, Result, Ok, Err, if◌then◌else◌}
+use Rattle.std.specs.Prelude.{◌≡◌, ◌&&◌, ℕ, ◌+◌, ◌/◌, ◌==◌, List, [], ◌∷◌, take, drop, replicate, codes, Option, Some}
+use Rattle.std.specs.Prelude.{None, is_some, Result, Ok, Err, if◌then◌else◌}
 use Rattle.std.specs.List.{flat_map, list_all}
 use Rattle.byteorder.specs.Endian.{big_number, big_bytes}
 use Rattle.station.specs.Disk.{Sector}
@@ -7,11 +8,12 @@ use Rattle.roots.specs.declared.root.Root.{Root}
 use Rattle.roots.specs.declared.pair.Roots.{Roots}
 use Rattle.roots.specs.declared.pair.RootsFault.{RootsFault}
 use Rattle.roots.specs.declared.pair.RootsFault.TheVariants.{ForeignMark}
+use Rattle.roots.specs.Root.{Family}
 use Rattle.roots.specs.Reading.{roots_in}
 
--- the marks of a volume of pages, and of the other format
-abbrev pub known_marks : List (List ℕ)
-known_marks = codes "COBVOL01" ∷ codes "COBHALF1" ∷ []
+-- the marks of a volume of pages, and those of the other format
+abbrev pub known_families : List Family
+known_families = (codes "COBVOL01" ∷ codes "COBVOL02" ∷ []) ∷ (codes "COBHALF1" ∷ []) ∷ []
 
 -- the numbers of four bytes
 unfoldable pub words : List ℕ → List ℕ
@@ -23,6 +25,8 @@ abbrev pub number_bytes : List ℕ → List ℕ
 number_bytes numbers = flat_map (big_bytes 4) numbers
 
 pub record VolumeRoot : Type 0 where
+  -- 0 for the first mark of a volume of pages, 1 for the second
+  pub mark : ℕ
   pub generation : ℕ
   pub sectors : ℕ
   -- the page of the catalog's root, 0 for none
@@ -38,7 +42,14 @@ map_count sectors = (sectors + 1023) / 1024
 unfoldable pub root_spelled : Root → List ℕ → Option VolumeRoot
 root_spelled root (catalog ∷ count ∷ rest) =
     if (count == map_count root.sectors) && list_all (λ word. word == 0) (drop count rest)
-    then Some (record { generation = root.generation; sectors = root.sectors; catalog = catalog; maps = take count rest })
+    then Some
+    (record {
+      mark = root.mark.version;
+      generation = root.generation;
+      sectors = root.sectors;
+      catalog = catalog;
+      maps = take count rest;
+    })
     else None
 root_spelled root _ = None
 
@@ -56,11 +67,11 @@ root_of (Err fault) = None
 
 -- the newest root of an image
 abbrev pub newest : List Sector → Option VolumeRoot
-newest image = root_of (roots_in known_marks 1 image)
+newest image = root_of (roots_in known_families image)
 
 -- the newest root of an image has the other format's mark
 abbrev pub IsForeign : List Sector → Type 0
-IsForeign image = roots_in known_marks 1 image ≡ Err ForeignMark
+IsForeign image = roots_in known_families image ≡ Err ForeignMark
 
 -- a map sector that is not used
 unfoldable pub zeros : List ℕ

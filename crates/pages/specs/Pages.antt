@@ -1,5 +1,6 @@
 -- What the user of the pages sees.
-use Rattle.std.specs.Prelude.{◌≡◌, ◌≢◌, ◌⊎◌, ◌<◌, ◌≤◌, ◌+◌, ◌*◌, ◌^◌, Bool, false, ℕ, List, [], length, Option, None, slice_index_or}
+use Rattle.std.specs.Prelude.{◌≡◌, ◌≢◌, ◌⊎◌, ◌<◌, ◌≤◌, ◌+◌, ◌*◌, ◌^◌, Bool, false, ℕ, List, [], length, Option, None}
+use Rattle.std.specs.Prelude.{slice_index_or}
 use Rattle.std.specs.List.{All}
 use Rattle.station.specs.Disk.{Disk, Sector}
 use Rattle.pages.specs.Layout.{map_count}
@@ -19,7 +20,12 @@ committed_of p = volume_of p.volume
 
 -- the map, over the image of the last commit, with what was changed since
 abbrev pub map_now : PageMap → List Sector → Map
-map_now p image = record { generation = p.volume.generation; catalog = p.catalog; pages = pages_after (pages_in image p.volume.table) p.changes.items }
+map_now p image = record {
+  mark = p.mark;
+  generation = p.volume.generation;
+  catalog = p.catalog;
+  pages = pages_after (pages_in image p.volume.table) p.changes.items;
+}
 
 -- the page of that number, or none
 abbrev pub page_of : Map → ℕ → Option Sector
@@ -39,6 +45,10 @@ FillsPage old page new = Fills old.changes.items page new.changes.items
 
 abbrev pub catalog_of : PageMap → ℕ
 catalog_of p = p.catalog
+
+-- the mark of the next commit: 0 for the first mark of a volume of pages, 1 for the second
+abbrev pub mark_of : PageMap → ℕ
+mark_of p = p.mark
 
 abbrev pub is_spent : PageMap → Bool
 is_spent p = p.spent
@@ -75,9 +85,9 @@ HasEachPage p = (image : List Sector) (page : ℕ) → IsPage p page → page_of
 abbrev pub needed_of : PageMap → ℕ
 needed_of p = needed_sectors (committed_of p) p.changes.items
 
--- a page or the page of the catalog's root was changed
+-- a page, the page of the catalog's root, or the mark was changed
 abbrev pub HasChanges : PageMap → Type 0
-HasChanges p = (changed_pages_of p ≡ []) × (p.catalog ≡ p.volume.catalog) → ⊥
+HasChanges p = (changed_pages_of p ≡ []) × (p.catalog ≡ p.volume.catalog) × (p.mark ≡ p.volume.mark) → ⊥
 
 -- the next commit writes, and too few sectors are free for it, or no generation is left
 abbrev pub IsFull : PageMap → Type 0
@@ -88,6 +98,8 @@ pub record IsReady (p : PageMap) : Type 0 where
   pub pages : All (λ (c : Change). (0 < c.page) × (c.page < length p.volume.table)) p.changes.items
   pub once : NamesOnce (changed_pages p.changes.items)
   pub placed : ArePlaced p.changes.items p.places
+  pub mark : p.volume.mark ≤ p.mark
+  pub known : p.mark < 2
 
 -- what every call keeps: until it is spent, the volume in memory is sound
 abbrev pub IsOpen : PageMap → Type 0
@@ -95,16 +107,18 @@ IsOpen p = p.spent ≡ false → IsReady p
 
 -- the map of the next generation
 abbrev pub next_generation : Map → Map
-next_generation m = record { generation = m.generation + 1; catalog = m.catalog; pages = m.pages }
+next_generation m = record { mark = m.mark; generation = m.generation + 1; catalog = m.catalog; pages = m.pages }
 
--- one generation or another of the same pages
+-- one generation or another of the same pages, with the same mark
 pub record SamePages (m n : Map) : Type 0 where
+  pub mark : n.mark ≡ m.mark
   pub catalog : n.catalog ≡ m.catalog
   pub pages : n.pages ≡ m.pages
 
--- what is committed is the same, and what is spent
+-- what is committed is the same, the mark of the next commit, and what is spent
 pub record SameCommitted (old new : PageMap) : Type 0 where
   pub volume : new.volume ≡ old.volume
+  pub mark : new.mark ≡ old.mark
   pub spent : new.spent ≡ old.spent
 
 -- what a call that only reads leaves: the map, what was changed of it, and what is committed
@@ -114,7 +128,8 @@ pub record IsUnchanged (old new : PageMap) : Type 0 where
   pub filled : filled_of new ≡ filled_of old
   pub committed : SameCommitted old new
 
--- what each call keeps but a commit: what is committed, the page of the catalog's root, what the disk and the cache agree on, and being open
+-- what each call keeps but a commit: what is committed, the page of the catalog's root, what the disk and the cache
+-- agree on, and being open
 pub record KeepsCommitted (old new : PageMap) : Type 0 where
   pub committed : SameCommitted old new
   pub catalog : catalog_of new ≡ catalog_of old
@@ -127,11 +142,13 @@ FewNeeded = (p : PageMap) → needed_of p ≤ 2 * length (changed_pages_of p)
 
 -- it needs at most one for each page that has bytes, and the map's sectors; no more pages have bytes than were changed
 abbrev pub NeededBy : Type 0
-NeededBy = (p : PageMap) → IsOpen p → is_spent p ≡ false → (needed_of p ≤ filled_of p + map_count (sectors_of p)) × (filled_of p ≤ length (changed_pages_of p))
+NeededBy = (p : PageMap) → IsOpen p → is_spent p ≡ false → (needed_of p ≤ filled_of p + map_count (sectors_of p))
+    × (filled_of p ≤ length (changed_pages_of p))
 
 -- so too few sectors are free only where fewer than that are
 abbrev pub ShortBy : Type 0
-ShortBy = (p : PageMap) → IsOpen p → is_spent p ≡ false → IsFull p → (free_count (committed_of p) < filled_of p + map_count (sectors_of p)) ⊎ (2 ^ 63 ≤ generation_of p + 1)
+ShortBy = (p : PageMap) → IsOpen p → is_spent p ≡ false → IsFull p
+    → (free_count (committed_of p) < filled_of p + map_count (sectors_of p)) ⊎ (2 ^ 63 ≤ generation_of p + 1)
 
 -- a map that an image holds is within the bounds of a volume
 abbrev pub MapBounds : Type 0
@@ -139,8 +156,10 @@ MapBounds = (image : List Sector) (m : Map) → IsImageOf image m → (m.generat
 
 -- and so is that of an opened volume
 abbrev pub OpenBounds : Type 0
-OpenBounds = (p : PageMap) (image : List Sector) → IsOpen p → is_spent p ≡ false → ((map_now p image).generation < 2 ^ 63) × (length (map_now p image).pages ≤ 921600)
+OpenBounds = (p : PageMap) (image : List Sector) → IsOpen p → is_spent p ≡ false
+    → ((map_now p image).generation < 2 ^ 63) × (length (map_now p image).pages ≤ 921600)
 
 -- where each page number is used, fewer sectors are free than pages were changed
 abbrev pub FewFree : Type 0
-FewFree = (p : PageMap) → IsOpen p → is_spent p ≡ false → HasEachPage p → free_count (committed_of p) < length (changed_pages_of p)
+FewFree = (p : PageMap) → IsOpen p → is_spent p ≡ false → HasEachPage p
+    → free_count (committed_of p) < length (changed_pages_of p)

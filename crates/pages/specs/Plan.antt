@@ -9,8 +9,10 @@ use Rattle.pages.specs.declared.change.Change.{Change}
 
 -- Blocks for free sectors of v, after which the maps of w stand there, and its pages are those of v after the changes.
 pub record IsPlan (v w : Volume) (blocks : List Block) (changes : List Change) : Type 0 where
+  pub mark : v.root.mark ≤ w.root.mark
   pub generation : w.root.generation ≡ v.root.generation + 1
   pub sectors : w.root.sectors ≡ v.root.sectors
   pub free : SectorsAre (IsFree v) blocks
   pub maps : (base : List Sector) → v.root.sectors ≤ length base → Reads base v → Maps (with_all base blocks) w
-  pub pages : (base : List Sector) → v.root.sectors ≤ length base → Reads base v → pages_in (with_all base blocks) w.table ≡ pages_after (pages_in base v.table) changes
+  pub pages : (base : List Sector) → v.root.sectors ≤ length base → Reads base v
+      → pages_in (with_all base blocks) w.table ≡ pages_after (pages_in base v.table) changes

@@ -1,6 +1,7 @@
 -- A volume in memory.
 use Rattle.std.specs.List.{All, list_any}
-use Rattle.std.specs.Prelude.{◌≡◌, ◌≢◌, ◌⊎◌, ◌<◌, ◌≤◌, ◌+◌, ◌*◌, ◌^◌, ◌/◌, ◌==◌, not, map, take, replicate, Bool, true, false, ℕ, List, [], ◌∷◌, ◌++◌, length, slice_index, slice_index_or, slice_set, Contains}
+use Rattle.std.specs.Prelude.{◌≡◌, ◌≢◌, ◌⊎◌, ◌<◌, ◌≤◌, ◌+◌, ◌*◌, ◌^◌, ◌/◌, ◌==◌, not, map, take, replicate, Bool, true}
+use Rattle.std.specs.Prelude.{false, ℕ, List, [], ◌∷◌, ◌++◌, length, slice_index, slice_index_or, slice_set, Contains}
 use Rattle.station.specs.Disk.{Sector}
 use Rattle.station.specs.declared.blocks.Block.{Block}
 use Rattle.pages.specs.Layout.{map_count}
@@ -16,10 +17,20 @@ use Rattle.pages.specs.declared.draft.UseChange.{UseChange}
 use Rattle.pages.specs.declared.change.Change.{Change}
 
 abbrev pub volume_of : VolumeMap → Volume
-volume_of m = record { root = record { generation = m.generation; sectors = m.sectors; catalog = m.catalog; maps = m.maps.items }; table = m.table }
+volume_of m = record {
+  root = record {
+    mark = m.mark;
+    generation = m.generation;
+    sectors = m.sectors;
+    catalog = m.catalog;
+    maps = m.maps.items;
+  };
+  table = m.table;
+}
 
 -- what is named is within the volume, each sector once, and the use is right
 pub record IsSound (m : VolumeMap) : Type 0 where
+  pub mark : m.mark < 2
   pub generation : m.generation < 2 ^ 63
   pub least : 1024 ≤ m.sectors
   pub most : m.sectors ≤ 921600
@@ -45,10 +56,11 @@ pub record IsMappedDraft (v : Volume) (m : VolumeMap) (d : Draft) (changes : Lis
 
 -- each block's sector is after those of the blocks before it
 abbrev pub AreAscending : List Block → Type 0
-AreAscending blocks = (i j : ℕ) (d e : Block) → i < j → j < length blocks → (slice_index_or blocks i d).sector < (slice_index_or blocks j e).sector
+AreAscending blocks = (i j : ℕ) (d e : Block) → i < j → j < length blocks
+    → (slice_index_or blocks i d).sector < (slice_index_or blocks j e).sector
 
--- The blocks of a commit of so many changes may begin there: at the first sector after the roots, or where from there on at least two
--- sectors for each change aren't marked as used.
+-- The blocks of a commit of so many changes may begin there: at the first sector after the roots, or where from there
+-- on at least two sectors for each change aren't marked as used.
 pub record MayStart (used : List Bool) (changes start : ℕ) : Type 0 where
   pub some : 2 ≤ start
   pub room : (start ≡ 2) ⊎ (unused_below used start + 2 * changes ≤ unused_count used)
@@ -66,10 +78,12 @@ pub record IsCounted (v : Volume) (m : VolumeMap) (d : Draft) (changes : List Ch
   pub taken : IsTaken m.used d.start d.next d.blocks.items
   pub blocks : length d.blocks.items ≡ filled_count changes + maps
   pub pages : map (λ s. not (s == 0)) m.table ≡ mapped_after v.table changes
-  pub changed_maps : (i : ℕ) → i < length d.changed_maps.items → slice_index_or d.changed_maps.items i false ≡ list_any (alters v i) changes
+  pub changed_maps : (i : ℕ) → i < length d.changed_maps.items
+      → slice_index_or d.changed_maps.items i false ≡ list_any (alters v i) changes
 
 -- nothing but the two lists of names changed, and not their lengths
 pub record SameSize (old new : VolumeMap) : Type 0 where
+  pub mark : new.mark ≡ old.mark
   pub generation : new.generation ≡ old.generation
   pub sectors : new.sectors ≡ old.sectors
   pub catalog : new.catalog ≡ old.catalog
@@ -125,8 +139,9 @@ pub record IsFresh (maps first : ℕ) (d : Draft) : Type 0 where
   pub start : d.start ≡ first
   pub next : d.next ≡ first
 
--- the next generation, with this page of the catalog's root
-pub record IsNext (old new : VolumeMap) (page : ℕ) : Type 0 where
+-- the next generation, with this mark and this page of the catalog's root
+pub record IsNext (old new : VolumeMap) (version page : ℕ) : Type 0 where
+  pub mark : new.mark ≡ version
   pub generation : new.generation ≡ old.generation + 1
   pub sectors : new.sectors ≡ old.sectors
   pub catalog : new.catalog ≡ page
@@ -137,6 +152,7 @@ pub record IsNext (old new : VolumeMap) (page : ℕ) : Type 0 where
 
 -- sound, once these turns are marked
 pub record IsSoundAfter (m : VolumeMap) (turns : List UseChange) : Type 0 where
+  pub mark : m.mark < 2
   pub generation : m.generation < 2 ^ 63
   pub least : 1024 ≤ m.sectors
   pub most : m.sectors ≤ 921600

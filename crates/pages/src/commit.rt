@@ -19,16 +19,19 @@ use crate::volume::VolumeMap;
 use station::{Device, two_phase_write};
 use std::alloc::Global;
 
-/// Puts the volume with these changes, and this page of the catalog's root, on the disk: its blocks, a sync, its root, a sync.
+/// Puts the volume with these changes, this mark and this page of the catalog's root, on the disk: its blocks, a sync, its root, a sync.
 /// Where it is refused, the volume in memory is of no more use.
 pub(crate) fn commit_volume<D: Device>(
     alloc: Global,
     device: &mut D,
     volume: &mut VolumeMap,
     changes: &[Change],
+    mark: usize,
     catalog: u32,
 ) -> Result<(), PagesError>
     requires sound { IsSound volume.old }
+    requires mark { volume.old.mark ≤ mark }
+    requires known { mark < 2 }
     requires sectors { volume.old.sectors ≤ D.sectors device.old }
     requires pages { All (λ c. (0 < c.page) × (c.page < length volume.old.table)) changes.now }
     requires once { NamesOnce (changed_pages changes.now) }
@@ -47,7 +50,7 @@ pub(crate) fn commit_volume<D: Device>(
         (CrashLeaves (D.state device.old).events
         (BeforeOrAfter (map_of (D.state device.old).disk.present (volume_of volume.old))
         (next_map (map_of (D.state device.old).disk.present (volume_of volume.old)) changes.now
-        catalog))) }
+        mark catalog))) }
 
     // After `Ok` it is the one after.
     ensures committed { D.is_honest device.old
@@ -57,11 +60,11 @@ pub(crate) fn commit_volume<D: Device>(
         → IsCommitted (volume_of volume.old) (D.state device.old).disk
         → OnOk result (map_of (D.state device.new).disk.present (volume_of volume.new)
         ≡ next_map (map_of (D.state device.old).disk.present (volume_of volume.old)) changes.now
-        catalog) }
+        mark catalog) }
     ensures sound { OnOk result (IsSound volume.new) }
     ensures same_sectors { volume.new.sectors ≡ volume.old.sectors }
-    ensures next { OnOk result
-        ((volume.new.generation ≡ volume.old.generation + 1) × (volume.new.catalog ≡ catalog)) }
+    ensures next { OnOk result ((volume.new.generation ≡ volume.old.generation + 1)
+        × (volume.new.mark ≡ mark) × (volume.new.catalog ≡ catalog)) }
 
     // `Full` tells that too few sectors are free, or that no generation is left, and then nothing was done.
     ensures short { result ≡ Err PagesError.Full → LacksSectors (volume_of volume.old) changes.now }
@@ -71,7 +74,7 @@ pub(crate) fn commit_volume<D: Device>(
         → D.is_honest device.old → (D.state device.new ≡ D.state device.old)
         × (D.history device.new ≡ D.history device.old) }
 {
-    let draft = next_volume(alloc, volume, changes, catalog)?;
+    let draft = next_volume(alloc, volume, changes, mark, catalog)?;
     let bytes = root_bytes_of(volume);
     two_phase_write(
         device,

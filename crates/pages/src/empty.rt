@@ -7,7 +7,7 @@ ghost use Rattle.pages.specs.Image.{IsImageOf, IsCommitted};
 ghost use Rattle.pages.specs.Payload.{SpellsRoot};
 ghost use Rattle.pages.specs.Empty.{empty_map, empty_volume};
 
-use crate::payload::root_bytes_with;
+use crate::payload::{NEW_MARK, root_bytes_with};
 use crate::root::map_count_of;
 use station::{Device, DeviceError};
 
@@ -38,5 +38,5 @@ fn empty_root(sectors: u32) -> [u8; 4096]
     ensures { SpellsRoot (empty_volume sectors).root result }
 {
     let maps = [0; 900];
-    root_bytes_with(0, sectors, 0, &maps[..map_count_of(sectors)])
+    root_bytes_with(NEW_MARK, 0, sectors, 0, &maps[..map_count_of(sectors)])
 }

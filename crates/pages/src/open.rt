@@ -49,6 +49,7 @@ pub(crate) fn read_volume<D: Device>(alloc: Global, device: &mut D) -> Result<Vo
     let used = SectorUse::new(alloc, used)?;
     let table = SectorTable::new(alloc, table, root.maps.len())?;
     Ok(VolumeMap {
+        mark: root.mark,
         generation: root.generation,
         sectors: root.sectors,
         catalog: root.catalog,

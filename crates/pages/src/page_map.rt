@@ -51,11 +51,12 @@ pub struct PageMap {
     /// A place in memory for the page that comes into the cache next.
     spare: Option<PageBytes>,
     catalog: u32,
+    mark: usize,
     spent: bool,
 }
 
 impl PageMap {
-    ghost use Rattle.pages.specs.Pages.{committed_of, map_now, page_of, changed_pages_of, filled_of, FillsPage, HasChanges, catalog_of, is_spent, sectors_of, page_count, IsPage, HasEachPage, IsFull, Agrees, IsOpen, next_generation, SamePages, SameCommitted, IsUnchanged, KeepsCommitted, cache_of};
+    ghost use Rattle.pages.specs.Pages.{committed_of, map_now, page_of, changed_pages_of, filled_of, FillsPage, HasChanges, catalog_of, mark_of, is_spent, sectors_of, page_count, IsPage, HasEachPage, IsFull, Agrees, IsOpen, next_generation, SamePages, SameCommitted, IsUnchanged, KeepsCommitted, cache_of};
     ghost use Rattle.std.specs.Map.{lookup};
     ghost use Rattle.std.specs.Prelude.{Ok, nat_eq, option_copied, Contains, IsSome};
     ghost use Rattle.lru.specs.LruCache.{lru_cache, promoted};
@@ -108,6 +109,7 @@ impl PageMap {
     {
         let volume = open_volume(alloc, device)?;
         let catalog = volume.catalog;
+        let mark = volume.mark;
         let cache = new_cache(alloc, capacity)?;
         let passed = vec![in alloc; false; volume.maps.len()]?;
         Ok(PageMap {
@@ -120,6 +122,7 @@ impl PageMap {
             passed,
             spare: None,
             catalog,
+            mark,
             spent: false,
         })
     }
@@ -144,6 +147,33 @@ impl PageMap {
         ensures open { IsOpen self.old → IsOpen self.new }
     {
         self.catalog = page;
+    }
+
+    /// The mark that the next commit gives the volume: 0 for the first mark of a volume of pages, 1 for the second.
+    pub fn mark(&self) -> usize
+        ensures is { result ≡ mark_of self.now }
+        ensures known { IsOpen self.now → is_spent self.now ≡ false → result < 2 }
+    {
+        self.mark
+    }
+
+    /// Sets the mark, to this one or a later one. It is a change, like that of a page.
+    pub fn set_mark(&mut self, mark: usize)
+        requires later { mark_of self.old ≤ mark }
+        requires known { mark < 2 }
+        ensures mark { mark_of self.new ≡ mark }
+        ensures catalog { catalog_of self.new ≡ catalog_of self.old }
+        ensures pages { (image : List Sector)
+            → (map_now self.new image).pages ≡ (map_now self.old image).pages }
+        ensures changed_pages { changed_pages_of self.new ≡ changed_pages_of self.old }
+        ensures filled { filled_of self.new ≡ filled_of self.old }
+        ensures committed { committed_of self.new ≡ committed_of self.old }
+        ensures spent { is_spent self.new ≡ is_spent self.old }
+        ensures agrees { (disk : Disk) → Agrees self.old disk → Agrees self.new disk }
+        ensures cache { cache_of self.new ≡ cache_of self.old }
+        ensures open { IsOpen self.old → IsOpen self.new }
+    {
+        self.mark = mark;
     }
 
     /// How many pages were changed since the last commit, each counted once.
@@ -544,6 +574,7 @@ impl PageMap {
             → map_now self.new image ≡ map_of image (committed_of self.new)) }
         ensures changed_pages { OnOk result (changed_pages_of self.new ≡ []) }
         ensures filled { OnOk result (filled_of self.new ≡ 0) }
+        ensures mark { mark_of self.new ≡ mark_of self.old }
         ensures unspent { OnOk result (is_spent self.new ≡ false) }
 
         // Where something was changed, it is the map of the next generation, and else nothing is other than before.
@@ -556,10 +587,12 @@ impl PageMap {
         // With nothing changed nothing is done.
         ensures nothing { changed_pages_of self.old ≡ []
             → catalog_of self.old ≡ (committed_of self.old).root.catalog
-            → D.is_honest device.old → (D.state device.new ≡ D.state device.old)
+            → mark_of self.old ≡ (committed_of self.old).root.mark → D.is_honest device.old
+            → (D.state device.new ≡ D.state device.old)
             × (D.history device.new ≡ D.history device.old) }
         ensures idle { is_spent self.old ≡ false → changed_pages_of self.old ≡ []
-            → catalog_of self.old ≡ (committed_of self.old).root.catalog → IsOk result }
+            → catalog_of self.old ≡ (committed_of self.old).root.catalog
+            → mark_of self.old ≡ (committed_of self.old).root.mark → IsOk result }
 
         // `Full` tells that too few sectors are free, or that no generation is left, and then nothing was done.
         ensures full { result ≡ Err PagesError.Full → IsFull self.old }
@@ -583,7 +616,10 @@ impl PageMap {
         if self.spent {
             return Err(PagesError::Spent);
         }
-        if self.changes.is_empty() && self.catalog == self.volume.catalog {
+        if self.changes.is_empty()
+            && self.catalog == self.volume.catalog
+            && self.mark == self.volume.mark
+        {
             return Ok(());
         }
         self.spent = true;
@@ -592,6 +628,7 @@ impl PageMap {
             device,
             &mut self.volume,
             &self.changes,
+            self.mark,
             self.catalog,
         )?;
         // What a large commit took of memory is given back, except for the pages that come into the cache.

@@ -2,41 +2,59 @@
 ghost use Rattle.std.specs.Prelude.{◌≡◌, ◌<◌, ◌≤◌, ◌+◌, ◌*◌, ◌^◌, length, drop};
 ghost use Rattle.roots.specs.Root.{put_at};
 ghost use Rattle.pages.specs.Layout.{words, number_bytes, map_count};
-ghost use Rattle.pages.specs.Payload.{payload_words, SpellsRoot};
+ghost use Rattle.pages.specs.Payload.{payload_words, own_bytes, SpellsRoot};
 ghost use Rattle.pages.specs.Volumes.{volume_of};
 
 use crate::volume::VolumeMap;
 use byteorder::{BigEndian, ByteOrder};
 use roots::{PAYLOAD_AT, put_head};
 
-/// The mark of a volume of pages.
-pub(crate) const MARK: [u8; 8] = *b"COBVOL01";
+/// The marks of a volume of pages, in the order of their introduction.
+pub(crate) const FAMILY: [[u8; 8]; 2] = [*b"COBVOL01", *b"COBVOL02"];
 
-/// The mark of the other format.
-pub(crate) const FOREIGN_MARK: [u8; 8] = *b"COBHALF1";
+/// The index of the mark of a new volume.
+pub(crate) const NEW_MARK: usize = 1;
+
+/// The marks of the other format.
+pub(crate) const FOREIGN_FAMILY: [[u8; 8]; 1] = [*b"COBHALF1"];
 
 /// The bytes of a root sector.
 pub(crate) fn root_bytes_with(
+    mark: usize,
     generation: u64,
     sectors: u32,
     catalog: u32,
     maps: &[u32],
 ) -> [u8; 4096]
+    requires mark { mark < 2 }
     requires generation { generation < 2 ^ 63 }
     requires least { 1024 ≤ sectors }
     requires most { sectors ≤ 921600 }
     requires maps { length maps.now ≡ map_count sectors }
-    ensures { SpellsRoot
-        (record { generation = generation; sectors = sectors; catalog = catalog; maps = maps.now })
-        result }
+    ensures { SpellsRoot (record {
+      mark = mark;
+      generation = generation;
+      sectors = sectors;
+      catalog = catalog;
+      maps = maps.now;
+    }) result }
 {
     let mut bytes = payload_bytes(catalog, maps);
-    put_head(&mut bytes, &MARK, generation, sectors);
+    put_head(&mut bytes, &mark_bytes(mark), generation, sectors);
     bytes
+}
+
+/// The bytes of a mark.
+fn mark_bytes(mark: usize) -> [u8; 8]
+    requires { mark < 2 }
+    ensures { result ≡ own_bytes mark }
+{
+    FAMILY[mark]
 }
 
 /// The bytes of the root sector of a volume.
 pub(crate) fn root_bytes_of(volume: &VolumeMap) -> [u8; 4096]
+    requires mark { volume.now.mark < 2 }
     requires generation { volume.now.generation < 2 ^ 63 }
     requires least { 1024 ≤ volume.now.sectors }
     requires most { volume.now.sectors ≤ 921600 }
@@ -44,6 +62,7 @@ pub(crate) fn root_bytes_of(volume: &VolumeMap) -> [u8; 4096]
     ensures { SpellsRoot (volume_of volume.now).root result }
 {
     root_bytes_with(
+        volume.mark,
         volume.generation,
         volume.sectors,
         volume.catalog,

@@ -33,21 +33,24 @@ const BEHIND: u32 = 8;
 /// How far the next search is from one that found nothing.
 const STEP: u32 = 256;
 
-/// The next volume, with these changes and this page of the catalog's root.
+/// The next volume, with these changes, this mark and this page of the catalog's root.
 pub(crate) fn next_volume<'a>(
     alloc: Global,
     volume: &mut VolumeMap,
     changes: &'a [Change],
+    mark: usize,
     catalog: u32,
 ) -> Result<Draft<'a>, PagesError>
     requires sound { IsSound volume.old }
+    requires mark { volume.old.mark ≤ mark }
+    requires known { mark < 2 }
     requires pages { All (λ c. (0 < c.page) × (c.page < length volume.old.table)) changes.now }
     requires once { NamesOnce (changed_pages changes.now) }
     ensures cause { IsPlanError result }
     ensures plan { IfOk result (λ draft.
         IsPlan (volume_of volume.old) (volume_of volume.new) draft.blocks.items changes.now) }
     ensures sectors { volume.new.sectors ≡ volume.old.sectors }
-    ensures next { OnOk result (IsNext volume.old volume.new catalog) }
+    ensures next { OnOk result (IsNext volume.old volume.new mark catalog) }
     ensures sound { IfOk result (λ draft. IsSoundAfter volume.new draft.turns.items) }
     ensures full { result ≡ Err PagesError.Full → LacksSectors (volume_of volume.old) changes.now }
     ensures room { OnOk result (¬ (LacksSectors (volume_of volume.old) changes.now)) }
@@ -63,6 +66,7 @@ pub(crate) fn next_volume<'a>(
     let mut draft = fresh_draft(alloc, volume.maps.len(), start.sector)?;
     stage_changes(volume, &mut draft, changes)?;
     stage_maps(alloc, volume, &mut draft)?;
+    volume.mark = mark;
     volume.generation += 1;
     volume.catalog = catalog;
     volume.near = volume.last_start;

@@ -7,7 +7,7 @@ ghost use Rattle.pages.specs.Found.{found_root, IsFoundWithin};
 ghost use Rattle.pages.specs.Errors.{RefusesImage, IsOpenError};
 
 use crate::error::PagesError;
-use crate::payload::{FOREIGN_MARK, MARK};
+use crate::payload::{FAMILY, FOREIGN_FAMILY};
 use byteorder::{BigEndian, ByteOrder};
 use roots::{Root, read_roots};
 use station::Device;
@@ -16,6 +16,8 @@ use std::alloc::{AllocError, Global};
 /// A root that was read.
 #[derive(Drop)]
 pub(crate) struct FoundRoot {
+    /// The index of its mark.
+    pub mark: usize,
     pub generation: u64,
     pub sectors: u32,
     pub catalog: u32,
@@ -42,8 +44,9 @@ pub(crate) fn map_count_of(sectors: u32) -> usize
 pub(crate) fn payload_root(alloc: Global, root: &Root) -> Result<Option<FoundRoot>, AllocError>
     requires { root.now.sectors ≤ 921600 }
     ensures found { IfOk result (λ found. option_map found_root found ≡ volume_root root.now) }
-    ensures same { IfOk result (λ found. IfSome found (λ r. (r.generation ≡ root.now.generation)
-        × (r.sectors ≡ root.now.sectors) × (length r.maps.items ≡ map_count root.now.sectors))) }
+    ensures same { IfOk result (λ found. IfSome found (λ r. (r.mark ≡ root.now.mark.version)
+        × (r.generation ≡ root.now.generation) × (r.sectors ≡ root.now.sectors)
+        × (length r.maps.items ≡ map_count root.now.sectors))) }
 {
     let numbers = payload_words_of(&root.payload);
     let count = map_count_of(root.sectors);
@@ -55,6 +58,7 @@ pub(crate) fn payload_root(alloc: Global, root: &Root) -> Result<Option<FoundRoo
     }
     let maps = Vec::from_slice(alloc, &numbers[2..2 + count])?;
     Ok(Some(FoundRoot {
+        mark: root.mark.version,
         generation: root.generation,
         sectors: root.sectors,
         catalog: numbers[0],
@@ -91,7 +95,7 @@ pub(crate) fn read_root<D: Device>(alloc: Global, device: &mut D) -> Result<Foun
         → IfErr result (λ error. RefusesImage (D.state device.old).disk.present error) }
     ensures cause { IsOpenError result }
 {
-    let roots = read_roots(device, &[MARK, FOREIGN_MARK], 1)?;
+    let roots = read_roots(device, &[&FAMILY, &FOREIGN_FAMILY])?;
     if !is_sound_beside(alloc, &roots.older)? {
         return Err(PagesError::Damaged);
     }

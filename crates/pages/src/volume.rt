@@ -11,6 +11,8 @@ pub(crate) const MAP_ENTRIES: usize = 1024;
 /// The newest root, the sector of each page, and which sectors are used.
 #[derive(Drop)]
 pub(crate) struct VolumeMap {
+    /// The index of its mark: 0 for the first mark of a volume of pages, 1 for the second.
+    pub mark: usize,
     pub generation: u64,
     pub sectors: u32,
     /// The page of the catalog's root, 0 for none.

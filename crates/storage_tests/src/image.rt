@@ -34,6 +34,9 @@ pub const BEHIND: usize = 36;
 
 pub const FOREIGN_MARK: (u32, u32) = (0x434F_4248, 0x414C_4631);
 
+/// The last four bytes of the second mark of a volume of pages.
+pub const SECOND_MARK: u32 = 0x4F4C_3032;
+
 /// A change to an image.
 #[derive(Clone, Copy)]
 pub enum Edit {
@@ -99,10 +102,16 @@ pub fn changed(
     sectors
 }
 
-/// A root sector of a volume: its generation, its sectors, the page of the catalog's root, and its map sectors.
-pub fn root(generation: u64, sectors: u32, catalog: u32, maps: &[u32]) -> [u8; 4096] {
+/// A root sector of a volume: its mark, its generation, its sectors, the page of the catalog's root, and its map sectors.
+pub fn root(
+    mark: &[u8; 8],
+    generation: u64,
+    sectors: u32,
+    catalog: u32,
+    maps: &[u32],
+) -> [u8; 4096] {
     let mut bytes = filled(0);
-    bytes[..8].copy_from_slice(b"COBVOL01");
+    bytes[..8].copy_from_slice(mark);
     bytes[8..16].copy_from_slice(&generation.to_be_bytes());
     put_word(&mut bytes, COUNT, sectors);
     put_word(&mut bytes, CATALOG, catalog);
@@ -125,11 +134,11 @@ pub fn map_of(entry: usize, sector: u32) -> [u8; 4096] {
 }
 
 /// The sectors of a device with a volume of generation `generation`, which is at least 1: page 1 in sector 2, page 1,024 in
-/// sector 3, their maps in the sectors 4 and 5. The volume was empty in the generation before.
+/// sector 3, their maps in the sectors 4 and 5, with the first mark. The volume was empty in the generation before.
 pub fn image_with(alloc: Global, generation: u64) -> Result<Vec<[u8; 4096]>, AllocError> {
     let mut image = vec![in alloc; filled(0); DEVICE as usize]?;
-    let newest = root(generation, SECTORS, 1, &[4, 5]);
-    let older = root(generation.wrapping_sub(1), SECTORS, 0, &[0, 0]);
+    let newest = root(b"COBVOL01", generation, SECTORS, 1, &[4, 5]);
+    let older = root(b"COBVOL01", generation.wrapping_sub(1), SECTORS, 0, &[0, 0]);
     if generation % 2 == 0 {
         image[0] = newest;
         image[1] = older;

@@ -132,6 +132,17 @@ impl Volume {
         self.pages.set_catalog(page);
     }
 
+    /// The mark that the next commit writes.
+    pub fn mark(&self) -> usize {
+        self.pages.mark()
+    }
+
+    /// Sets the mark to the second one.
+    pub fn set_second_mark(&mut self, rt: &impl Abort) {
+        assert!(rt; self.pages.mark() <= 1);
+        self.pages.set_mark(1);
+    }
+
     /// Commits what was changed.
     pub fn commit(&mut self, rt: &impl Abort) -> Result<(), PagesError> {
         assert!(rt; self.pages.sectors() <= self.station.count());

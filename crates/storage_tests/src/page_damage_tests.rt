@@ -6,7 +6,7 @@ use crate::asserted::{same, same_in};
 use crate::image::Edit::{Blank, Word};
 use crate::image::{
     BEHIND, CATALOG, COUNT, Edit, FIRST_MAP, FOREIGN_MARK, GENERATION, LOW_GENERATION, MAP_COUNT,
-    MARK, SECOND_MAP, station_with,
+    MARK, SECOND_MAP, SECOND_MARK, station_with,
 };
 use crate::opened::{Volume, refusal};
 use pages::PagesError;
@@ -16,7 +16,7 @@ use std::process::Abort;
 const HIGHEST: u32 = 0x8000_0000;
 
 // Roots that make the volume damaged.
-const DAMAGED_ROOTS: [(&str, &[Edit]); 31] = [
+const DAMAGED_ROOTS: [(&str, &[Edit]); 32] = [
     ("both blank", &[Blank(0), Blank(1)]),
     ("the older of one sector more", &[Word(0, COUNT, 1501)]),
     ("the newest of one sector less", &[Word(1, COUNT, 1499)]),
@@ -91,6 +91,10 @@ const DAMAGED_ROOTS: [(&str, &[Edit]); 31] = [
         ],
     ),
     (
+        "the second mark in the older beside the first in the newest",
+        &[Word(0, MARK + 4, SECOND_MARK)],
+    ),
+    (
         "the foreign mark in the older",
         &[
             Word(0, MARK, FOREIGN_MARK.0),
@@ -146,7 +150,7 @@ const DAMAGED_MAPS: [(&str, &[Edit]); 20] = [
 ];
 
 // Roots and maps that are sound.
-const SOUND: [(&str, &[Edit]); 14] = [
+const SOUND: [(&str, &[Edit]); 16] = [
     ("the volume as it was", &[]),
     ("no older root", &[Blank(0)]),
     ("no newest root", &[Blank(1)]),
@@ -177,6 +181,17 @@ const SOUND: [(&str, &[Edit]); 14] = [
     (
         "another page of the catalog's root",
         &[Word(1, CATALOG, 1024)],
+    ),
+    (
+        "the second mark in the newest beside the first in the older",
+        &[Word(1, MARK + 4, SECOND_MARK)],
+    ),
+    (
+        "the second mark in both",
+        &[
+            Word(0, MARK + 4, SECOND_MARK),
+            Word(1, MARK + 4, SECOND_MARK),
+        ],
     ),
     ("a map of zeros", &[Word(1, FIRST_MAP, 0)]),
     ("a sector of zeros as a map", &[Blank(5)]),

@@ -1,6 +1,6 @@
 //! Rows of pages: new volumes, what a commit writes and where, and what a reader sees.
 use crate::asserted::{holds, same, same_in};
-use crate::image::{image_of, map_of, root, sector_bytes, word_at};
+use crate::image::{SECTORS, image_of, map_of, root, sector_bytes, station_with, word_at};
 use crate::opened::{Volume, blank_station, counts_of, filled, new_volume, refusal, works};
 use pages::PagesError;
 use std::alloc::Global;
@@ -58,7 +58,7 @@ fn roots_of_a_new_volume(rt: HostRuntime) {
     let mut station = new_volume(&rt, rt.alloc(), 1024);
     holds(
         &rt,
-        sector_bytes(&rt, &mut station, 0) == root(0, 1024, 0, &[0]),
+        sector_bytes(&rt, &mut station, 0) == root(b"COBVOL02", 0, 1024, 0, &[0]),
     );
     holds(&rt, sector_bytes(&rt, &mut station, 1) == filled(0));
 }
@@ -130,12 +130,15 @@ fn bytes_of_a_commit(rt: HostRuntime) {
     works(&rt, volume.commit(&rt));
     let newest = volume.sector(&rt, 1);
     let map_sector = word_at(&newest, 28);
-    holds(&rt, newest == root(1, 1024, 5, &[map_sector]));
+    holds(&rt, newest == root(b"COBVOL02", 1, 1024, 5, &[map_sector]));
     let map = volume.sector(&rt, map_sector);
     let sector = word_at(&map, 20);
     holds(&rt, map == map_of(5, sector));
     holds(&rt, volume.sector(&rt, sector) == filled(7));
-    holds(&rt, volume.sector(&rt, 0) == root(0, 1024, 0, &[0]));
+    holds(
+        &rt,
+        volume.sector(&rt, 0) == root(b"COBVOL02", 0, 1024, 0, &[0]),
+    );
 }
 
 // A new page is zeros until it is edited, and is in the map before it is committed. A commit empties what was changed_pages.
@@ -189,6 +192,27 @@ fn a_commit_of_the_catalog(rt: HostRuntime) {
     same(&rt, volume.since(before), (1, 2));
     volume.reopen(&rt, rt.alloc());
     same(&rt, (volume.catalog(), volume.free_sectors()), (9, 1022));
+}
+
+// Where the mark alone became the second, the root alone is written, and the root before it keeps the first mark.
+#[test]
+fn a_commit_of_the_mark(rt: HostRuntime) {
+    let station = station_with(&rt, rt.alloc(), 1, &[]);
+    let mut volume = Volume::open(&rt, rt.alloc(), station);
+    same(&rt, volume.mark(), 0);
+    volume.set_second_mark(&rt);
+    let before = volume.counts();
+    works(&rt, volume.commit(&rt));
+    same(&rt, volume.since(before), (1, 2));
+    let (older, newest) = (volume.sector(&rt, 1), volume.sector(&rt, 0));
+    holds(&rt, older == root(b"COBVOL01", 1, SECTORS, 1, &[4, 5]));
+    holds(&rt, newest == root(b"COBVOL02", 2, SECTORS, 1, &[4, 5]));
+    volume.reopen(&rt, rt.alloc());
+    same(&rt, (volume.mark(), volume.free_sectors()), (1, 1494));
+    works(&rt, volume.edit(&rt, 2, 1));
+    works(&rt, volume.commit(&rt));
+    volume.reopen(&rt, rt.alloc());
+    same(&rt, (volume.mark(), volume.has(&rt, 2)), (1, Some(1)));
 }
 
 // Sectors that a commit leaves after are free for the next: page, map and root change places.

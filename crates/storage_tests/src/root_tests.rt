@@ -2,16 +2,41 @@
 use crate::asserted::{same, same_in};
 use crate::opened::blank_station;
 use roots::{
-    GENERATIONS, Root, RootSector, RootsError, RootsFault, newest_of, put_head, read_root,
+    GENERATIONS, Mark, Root, RootSector, RootsError, RootsFault, newest_of, put_head, read_root,
     read_roots, root_sector,
 };
 use station::{Device, MemoryStation};
 use std::process::Abort;
 
-// The reader's own marks, the older first, then another format's.
-const KNOWN: [[u8; 8]; 3] = [*b"COBVOL01", *b"COBVOL02", *b"COBHALF1"];
+// The marks of the reader's own format, the older first, and those of another format.
+const OWN: [[u8; 8]; 2] = [*b"COBVOL01", *b"COBVOL02"];
 
-const OWN: usize = 2;
+const OTHER: [[u8; 8]; 2] = [*b"COBHALF1", *b"COBHALF2"];
+
+const OWN_OLD: Mark = Mark {
+    family: 0,
+    version: 0,
+};
+
+const OWN_NEW: Mark = Mark {
+    family: 0,
+    version: 1,
+};
+
+const OTHER_OLD: Mark = Mark {
+    family: 1,
+    version: 0,
+};
+
+const OTHER_NEW: Mark = Mark {
+    family: 1,
+    version: 1,
+};
+
+const UNKNOWN: Mark = Mark {
+    family: 2,
+    version: 0,
+};
 
 const SECTORS: u32 = 2048;
 
@@ -19,8 +44,8 @@ const SECTORS: u32 = 2048;
 enum Sector {
     Zeros,
     Noise,
-    // The place of its mark in `KNOWN`, its generation and its number of sectors.
-    Root(usize, u64, u32),
+    // Its mark, its generation and its number of sectors.
+    Root(Mark, u64, u32),
 }
 
 #[derive(Clone, Copy, Debug, PartialEq, Eq)]
@@ -64,20 +89,29 @@ fn bytes_of(sector: Sector) -> [u8; 4096] {
                 sectors,
                 payload: payload(),
             };
-            match KNOWN.get(mark) {
-                Some(mark) => root_sector(mark, &root),
-                None => root_sector(b"NOTKNOWN", &root),
-            }
+            root_sector(&mark_bytes(mark), &root)
         }
     }
 }
 
+fn mark_bytes(mark: Mark) -> [u8; 8] {
+    let bytes = match mark.family {
+        0 => OWN.get(mark.version),
+        1 => OTHER.get(mark.version),
+        _ => None,
+    };
+    match bytes {
+        Some(bytes) => *bytes,
+        None => *b"NOTKNOWN",
+    }
+}
+
 fn read(number: u32, sector: Sector) -> RootSector {
-    read_root(&KNOWN, SECTORS, number, &bytes_of(sector))
+    read_root(&[&OWN, &OTHER], SECTORS, number, &bytes_of(sector))
 }
 
 fn pair(first: Sector, second: Sector) -> Found {
-    match newest_of(OWN, read(0, first), read(1, second)) {
+    match newest_of(read(0, first), read(1, second)) {
         Ok(roots) => Found::Newest(roots.newest.generation, roots.older.is_some()),
         Err(RootsFault::Damaged) => Found::Damaged,
         Err(RootsFault::ForeignMark) => Found::Foreign,
@@ -85,110 +119,164 @@ fn pair(first: Sector, second: Sector) -> Found {
 }
 
 // The sectors 0 and 1 on a device of 2,048 sectors.
-const PAIRS: [(Sector, Sector, Found); 27] = [
+const PAIRS: [(Sector, Sector, Found); 31] = [
     // a new volume, and one after each commit
     (
-        Sector::Root(0, 0, 1024),
+        Sector::Root(OWN_OLD, 0, 1024),
         Sector::Zeros,
         Found::Newest(0, false),
     ),
     (
-        Sector::Root(0, 0, 1024),
-        Sector::Root(0, 1, 1024),
+        Sector::Root(OWN_OLD, 0, 1024),
+        Sector::Root(OWN_OLD, 1, 1024),
         Found::Newest(1, true),
     ),
     (
-        Sector::Root(0, 2, 1024),
-        Sector::Root(0, 1, 1024),
+        Sector::Root(OWN_OLD, 2, 1024),
+        Sector::Root(OWN_OLD, 1, 1024),
         Found::Newest(2, true),
     ),
     (
         Sector::Zeros,
-        Sector::Root(0, 1, 1024),
+        Sector::Root(OWN_OLD, 1, 1024),
         Found::Newest(1, false),
     ),
     // zeros, a broken sector
     (Sector::Zeros, Sector::Zeros, Found::Damaged),
-    (Sector::Noise, Sector::Root(0, 1, 1024), Found::Damaged),
-    (Sector::Root(0, 0, 1024), Sector::Noise, Found::Damaged),
+    (
+        Sector::Noise,
+        Sector::Root(OWN_OLD, 1, 1024),
+        Found::Damaged,
+    ),
+    (
+        Sector::Root(OWN_OLD, 0, 1024),
+        Sector::Noise,
+        Found::Damaged,
+    ),
     (Sector::Zeros, Sector::Noise, Found::Damaged),
     // unequal numbers of sectors
     (
-        Sector::Root(0, 0, 1024),
-        Sector::Root(0, 1, 1025),
+        Sector::Root(OWN_OLD, 0, 1024),
+        Sector::Root(OWN_OLD, 1, 1025),
         Found::Damaged,
     ),
     // generations that aren't adjacent
     (
-        Sector::Root(0, 0, 1024),
-        Sector::Root(0, 3, 1024),
+        Sector::Root(OWN_OLD, 0, 1024),
+        Sector::Root(OWN_OLD, 3, 1024),
         Found::Damaged,
     ),
     (
-        Sector::Root(0, 4, 1024),
-        Sector::Root(0, 1, 1024),
+        Sector::Root(OWN_OLD, 4, 1024),
+        Sector::Root(OWN_OLD, 1, 1024),
         Found::Damaged,
     ),
     // a generation in the other sector
-    (Sector::Root(0, 1, 1024), Sector::Zeros, Found::Damaged),
-    (Sector::Zeros, Sector::Root(0, 2, 1024), Found::Damaged),
     (
-        Sector::Root(0, 1, 1024),
-        Sector::Root(0, 0, 1024),
+        Sector::Root(OWN_OLD, 1, 1024),
+        Sector::Zeros,
+        Found::Damaged,
+    ),
+    (
+        Sector::Zeros,
+        Sector::Root(OWN_OLD, 2, 1024),
+        Found::Damaged,
+    ),
+    (
+        Sector::Root(OWN_OLD, 1, 1024),
+        Sector::Root(OWN_OLD, 0, 1024),
         Found::Damaged,
     ),
     // the last generation and one more
     (
         Sector::Zeros,
-        Sector::Root(0, GENERATIONS - 1, 1024),
+        Sector::Root(OWN_OLD, GENERATIONS - 1, 1024),
         Found::Newest(GENERATIONS - 1, false),
     ),
     (
-        Sector::Root(0, GENERATIONS, 1024),
+        Sector::Root(OWN_OLD, GENERATIONS, 1024),
         Sector::Zeros,
         Found::Damaged,
     ),
     (
-        Sector::Root(0, GENERATIONS, 1024),
-        Sector::Root(0, GENERATIONS - 1, 1024),
+        Sector::Root(OWN_OLD, GENERATIONS, 1024),
+        Sector::Root(OWN_OLD, GENERATIONS - 1, 1024),
         Found::Damaged,
     ),
     // numbers of sectors: too few, more than the device has
-    (Sector::Root(0, 0, 1023), Sector::Zeros, Found::Damaged),
     (
-        Sector::Root(0, 0, 2048),
+        Sector::Root(OWN_OLD, 0, 1023),
+        Sector::Zeros,
+        Found::Damaged,
+    ),
+    (
+        Sector::Root(OWN_OLD, 0, 2048),
         Sector::Zeros,
         Found::Newest(0, false),
     ),
-    (Sector::Root(0, 0, 2049), Sector::Zeros, Found::Damaged),
+    (
+        Sector::Root(OWN_OLD, 0, 2049),
+        Sector::Zeros,
+        Found::Damaged,
+    ),
     // marks: a later one, an earlier one, another format's, none that is known
     (
-        Sector::Root(0, 0, 1024),
-        Sector::Root(1, 1, 1024),
+        Sector::Root(OWN_OLD, 0, 1024),
+        Sector::Root(OWN_NEW, 1, 1024),
         Found::Newest(1, true),
     ),
     (
-        Sector::Root(1, 0, 1024),
+        Sector::Root(OWN_NEW, 0, 1024),
         Sector::Zeros,
         Found::Newest(0, false),
     ),
     (
-        Sector::Root(1, 0, 1024),
-        Sector::Root(0, 1, 1024),
+        Sector::Root(OWN_NEW, 0, 1024),
+        Sector::Root(OWN_OLD, 1, 1024),
         Found::Damaged,
     ),
-    (Sector::Root(2, 0, 1024), Sector::Zeros, Found::Foreign),
     (
-        Sector::Root(2, 0, 1024),
-        Sector::Root(2, 1, 1024),
+        Sector::Root(OTHER_OLD, 0, 1024),
+        Sector::Zeros,
         Found::Foreign,
     ),
     (
-        Sector::Root(0, 0, 1024),
-        Sector::Root(2, 1, 1024),
+        Sector::Root(OTHER_OLD, 0, 1024),
+        Sector::Root(OTHER_OLD, 1, 1024),
+        Found::Foreign,
+    ),
+    // another format's: a later one, an earlier one
+    (
+        Sector::Root(OTHER_OLD, 0, 1024),
+        Sector::Root(OTHER_NEW, 1, 1024),
+        Found::Foreign,
+    ),
+    (
+        Sector::Root(OTHER_NEW, 0, 1024),
+        Sector::Root(OTHER_OLD, 1, 1024),
         Found::Damaged,
     ),
-    (Sector::Root(3, 0, 1024), Sector::Zeros, Found::Damaged),
+    // two formats
+    (
+        Sector::Root(OWN_OLD, 0, 1024),
+        Sector::Root(OTHER_OLD, 1, 1024),
+        Found::Damaged,
+    ),
+    (
+        Sector::Root(OWN_OLD, 0, 1024),
+        Sector::Root(OTHER_NEW, 1, 1024),
+        Found::Damaged,
+    ),
+    (
+        Sector::Root(OTHER_OLD, 0, 1024),
+        Sector::Root(OWN_NEW, 1, 1024),
+        Found::Damaged,
+    ),
+    (
+        Sector::Root(UNKNOWN, 0, 1024),
+        Sector::Zeros,
+        Found::Damaged,
+    ),
 ];
 
 #[test]
@@ -204,24 +292,24 @@ fn pairs_of_root_sectors(rt: HostRuntime) {
 #[test]
 fn the_largest_volume(rt: HostRuntime) {
     for (sectors, valid) in [(921_600, true), (921_601, false)] {
-        let bytes = bytes_of(Sector::Root(0, 0, sectors));
-        let root = read_root(&KNOWN, 2_000_000, 0, &bytes);
+        let bytes = bytes_of(Sector::Root(OWN_OLD, 0, sectors));
+        let root = read_root(&[&OWN, &OTHER], 2_000_000, 0, &bytes);
         same_in(&rt, &sectors, matches!(root, RootSector::Valid(_)), valid);
     }
 }
 
 #[test]
 fn bytes_of_a_root(rt: HostRuntime) {
-    let bytes = bytes_of(Sector::Root(0, 258, 1024));
+    let bytes = bytes_of(Sector::Root(OWN_OLD, 258, 1024));
     let front = *b"COBVOL01\0\0\0\0\0\0\x01\x02\0\0\x04\0\x09\x09";
     same(&rt, &bytes[..22], front.as_slice());
     same(&rt, bytes[4095], 9);
-    match read(0, Sector::Root(0, 258, 1024)) {
+    match read(0, Sector::Root(OWN_OLD, 258, 1024)) {
         RootSector::Valid(root) => {
             same(
                 &rt,
                 (root.mark, root.generation, root.sectors),
-                (0, 258, 1024),
+                (OWN_OLD, 258, 1024),
             );
             same(&rt, root.payload.as_slice(), payload().as_slice());
         }
@@ -234,7 +322,7 @@ fn bytes_of_a_root(rt: HostRuntime) {
 fn devices_without_roots(rt: HostRuntime) {
     for (sectors, reads) in [(0, 0), (1, 0), (2, 2), (1024, 2)] {
         let mut station = blank_station(&rt, rt.alloc(), sectors);
-        let answer = read_roots(&mut station, &KNOWN, OWN);
+        let answer = read_roots(&mut station, &[&OWN, &OTHER]);
         same_in(
             &rt,
             &sectors,
@@ -259,11 +347,11 @@ fn write(rt: &impl Abort, station: &mut MemoryStation, number: u32, sector: Sect
 #[test]
 fn roots_of_a_device(rt: HostRuntime) {
     let mut station = blank_station(&rt, rt.alloc(), 1024);
-    write(&rt, &mut station, 0, Sector::Root(0, 6, 1024));
-    write(&rt, &mut station, 1, Sector::Root(0, 7, 1024));
+    write(&rt, &mut station, 0, Sector::Root(OWN_OLD, 6, 1024));
+    write(&rt, &mut station, 1, Sector::Root(OWN_OLD, 7, 1024));
     for (call, failed) in [(1, true), (2, true), (3, false)] {
         station.fail_at(call);
-        let answer = match read_roots(&mut station, &KNOWN, OWN) {
+        let answer = match read_roots(&mut station, &[&OWN, &OTHER]) {
             Ok(roots) => (roots.newest.generation == 7 && roots.older.is_some(), false),
             Err(error) => (true, error == RootsError::Device),
         };

@@ -4,7 +4,12 @@ use row_scripts::{Fault, Row, Words};
 use std::alloc::Global;
 
 /// The kinds of volumes of a case that names none.
-const KINDS: [Kind; 3] = [Kind::Halves, Kind::Trees(1), Kind::Trees(8)];
+const KINDS: [Kind; 4] = [
+    Kind::Halves,
+    Kind::Trees(1),
+    Kind::Trees(8),
+    Kind::EarlierTrees(8),
+];
 
 /// A case. `over ..`, `sectors N`, `blank` and `select ..` may be anywhere among its rows.
 #[derive(Drop)]
@@ -58,6 +63,7 @@ impl Case {
             let Some(word) = words.word() else { break };
             let kind = match word {
                 b"halves" => Kind::Halves,
+                b"earlier-trees" => Kind::EarlierTrees(words.number().unwrap_or(8) as usize),
                 _ => Kind::Trees(words.number().unwrap_or(8) as usize),
             };
             self.kinds.push(kind)?;

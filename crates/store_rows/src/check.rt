@@ -96,5 +96,6 @@ fn name_of(alloc: Global, kind: Kind) -> Result<String, AllocError> {
     match kind {
         Kind::Halves => "halves".to_string(alloc),
         Kind::Trees(cached) => format!(in alloc; "trees {cached}"),
+        Kind::EarlierTrees(cached) => format!(in alloc; "earlier-trees {cached}"),
     }
 }

@@ -11,11 +11,12 @@ use row_scripts::Fault;
 use station::{Device, MemoryStation};
 use std::alloc::Global;
 
-/// The kind of a volume: halves, or trees with so many pages in memory.
+/// The kind of a volume: halves, or trees with so many pages in memory, with the mark of new volumes or with the earlier one.
 #[derive(Clone, Copy, PartialEq, Eq)]
 pub enum Kind {
     Halves,
     Trees(usize),
+    EarlierTrees(usize),
 }
 
 /// Over a store of halves, on a volume of so many sectors.
@@ -52,7 +53,9 @@ impl Verbs {
     ) -> Result<Verbs, Fault> {
         match kind {
             Kind::Halves => Ok(Verbs::Halves(open_halves(alloc, station, selects)?)),
-            Kind::Trees(cached) => Ok(Verbs::Trees(open_trees(alloc, cached, station, selects)?)),
+            Kind::Trees(cached) | Kind::EarlierTrees(cached) => {
+                Ok(Verbs::Trees(open_trees(alloc, cached, station, selects)?))
+            }
         }
     }
 

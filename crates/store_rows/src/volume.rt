@@ -31,12 +31,25 @@ fn format(kind: Kind, station: &mut MemoryStation) -> Result<(), Fault> {
     }
     let formatted = match kind {
         Kind::Halves => half_store::format(station),
-        Kind::Trees(_) => alternate_keys::format(station),
+        Kind::Trees(_) | Kind::EarlierTrees(_) => alternate_keys::format(station),
     };
-    match formatted {
-        Ok(()) => Ok(()),
-        Err(_) => Err(Fault::Memory),
+    match (formatted, kind) {
+        (Err(_), _) => Err(Fault::Memory),
+        (Ok(()), Kind::EarlierTrees(_)) => put_earlier_mark(station),
+        (Ok(()), _) => Ok(()),
     }
+}
+
+/// Gives a new volume of trees the mark COBVOL01.
+fn put_earlier_mark(station: &mut MemoryStation) -> Result<(), Fault> {
+    if station.count() == 0 {
+        return Err(Fault::Spelling("there is no such sector"));
+    }
+    let mut bytes = [0; 4096];
+    station.read(0, &mut bytes).map_err(device_refusal)?;
+    bytes[7] = b'1';
+    station.write(0, &bytes).map_err(device_refusal)?;
+    station.sync().map_err(device_refusal)
 }
 
 /// The most sectors of a station here.

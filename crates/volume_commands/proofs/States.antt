@@ -1,19 +1,19 @@
 -- The state of a volume, from what its calls answer.
 use Rattle.std.proofs.Common.{◌≡◌, ◌⊎◌, ℕ, List, Result, Ok, Err, inl, inr, ⊎_elim, sym, ap, subst, ◌∙◌}
 use Rattle.std.specs.Prelude.{◌↔◌, IfOk, IfErr}
-use Rattle.station.specs.Calls.{OnlyWrites}
+use Rattle.station.specs.Calls.{OnlyReads, OnlyWrites}
 use Rattle.station.specs.Disk.{Sector}
 use Rattle.station.specs.History.{Through}
 use Rattle.station.specs.Opening.{IsOpening}
 use Rattle.station.specs.State.{State, state_after_sync, SameConsole}
 use Rattle.station.specs.Failures.{Blames}
 use Rattle.station.specs.declared.device.Device.{Ghosts as Devices}
-use Rattle.station.proofs.Calls.{writes_then}
+use Rattle.station.proofs.Calls.{reads_writes, writes_then}
 use Rattle.file_recovery.proofs.Reopened.{opens_again}
 use Rattle.roots.specs.declared.root.Root.{Root}
 use Rattle.records.specs.declared.fault.StoreFault.{StoreFault}
 use Rattle.records.specs.declared.fault.StoreFault.TheVariants as store
-use Rattle.pages.specs.Layout.{known_marks as page_marks}
+use Rattle.pages.specs.Layout.{known_families as page_families}
 use Rattle.pages.specs.Image.{Volume, Reads}
 use Rattle.pages.specs.Use.{free_count}
 use Rattle.volume_commands.specs.declared.volume_state.Layout.{Layout}
@@ -33,7 +33,7 @@ ok_so (Ok x) so p = so x p
 ok_so (Err e) so p = tt
 
 trees_state : (image : List Sector) (state : VolumeState) (v : Volume) → Reads image v
-    → (state.layout ≡ Trees) × (state.free ≡ free_count v) × ((root : Root) × HasRoot page_marks image state root)
+    → (state.layout ≡ Trees) × (state.free ≡ free_count v) × ((root : Root) × HasRoot page_families image state root)
     → IsStateOf image state
 trees_state image state v reads (layout, free, root) =
     subst (λ (l : Layout). IsStateAs l image state) (sym layout)
@@ -43,12 +43,12 @@ trees_state image state v reads (layout, free, root) =
 pub trees_states : (image present : List Sector) (r : Result VolumeState VolumeError) (v : Volume) (free : ℕ)
     → present ≡ image → Reads present v → free ≡ free_count v
     → IfOk r (λ state. (state.layout ≡ Trees) × (state.free ≡ free)
-    × ((root : Root) × HasRoot page_marks present state root)) → IfOk r (IsStateOf image)
+    × ((root : Root) × HasRoot page_families present state root)) → IfOk r (IsStateOf image)
 trees_states image present r v free same reads count = ok_so r (λ state is. trees_state image state v
     (subst (λ (l : List Sector). Reads l v) same reads) (
       is.0,
       is.1 ∙ count,
-      (is.2.0, subst (λ (l : List Sector). HasRoot page_marks l state is.2.0) same is.2.1),
+      (is.2.0, subst (λ (l : List Sector). HasRoot page_families l state is.2.0) same is.2.1),
     ))
 
 pub same_console : (old new : State) → (new ≡ old) ⊎ (new ≡ state_after_sync old) → SameConsole old new
@@ -98,6 +98,20 @@ module _ {D : Type 0} (d : Devices D) where
     };
     console = λ h. same_console (d.state old) (d.state new) (unwritten h);
   }
+
+  -- a volume that is opened, and then read
+  pub only_opened : (A B : Type 0) (old mid new : D) → (d.is_honest old ↔ d.is_honest mid)
+      → d.sectors mid ≡ d.sectors old → Blames A (d.failures old) (d.failures mid)
+      → (d.is_honest old → d.state mid ≡ state_after_sync (d.state old)) → OnlyReads d B mid new
+      → OnlyWrites d B old new
+  only_opened A B old mid new honest sectors failures synced reads = writes_then d A B B old mid new (λ e. inr e)
+      (record {
+        honest = honest;
+        sectors = sectors;
+        failures = failures;
+        console = λ h. same_console (d.state old) (d.state mid) (inr (synced h));
+      })
+      (reads_writes d B mid new reads)
 
   -- the state of a volume that was read before
   pub state_reads :

@@ -1,5 +1,5 @@
 -- What `stat` prints: what a volume is, and how many rows its files have.
-use Rattle.std.specs.Prelude.{◌≡◌, ℕ, List, [], ◌∷◌, ◌++◌, codes, decimal, length}
+use Rattle.std.specs.Prelude.{◌≡◌, ℕ, zero, suc, List, [], ◌∷◌, ◌++◌, codes, decimal, length}
 use Rattle.std.specs.List.{flat_map}
 use Rattle.station.specs.Disk.{Sector}
 use Rattle.records.specs.Files.{NamedFile, Files}
@@ -11,13 +11,14 @@ use Rattle.volume_commands.specs.State.{IsStateOf}
 use Rattle.volume_commands.specs.Listing.{space}
 use Rattle.volume_commands.specs.Text.{bytes_text, line_feed}
 
--- the mark of the roots
-abbrev pub mark_of : Layout → List ℕ
-mark_of Trees = codes "COBVOL01"
-mark_of Halves = codes "COBHALF1"
+-- the mark of the newest root
+abbrev pub mark_of : Layout → ℕ → List ℕ
+mark_of Trees zero = codes "COBVOL01"
+mark_of Trees (suc n) = codes "COBVOL02"
+mark_of Halves version = codes "COBHALF1"
 
-abbrev pub mark_line : Layout → List ℕ
-mark_line layout = codes "mark" ++ space ∷ mark_of layout ++ line_feed ∷ []
+abbrev pub mark_line : Layout → ℕ → List ℕ
+mark_line layout version = codes "mark" ++ space ∷ mark_of layout version ++ line_feed ∷ []
 
 -- a name and a number
 abbrev pub number_line : List ℕ → ℕ → List ℕ
@@ -34,7 +35,7 @@ rows_text files = flat_map rows_line files
 -- the lines of a volume with so many files
 abbrev pub state_text : VolumeState → ℕ → List ℕ
 state_text state count =
-    mark_line state.layout
+    mark_line state.layout state.version
     ++ number_line (codes "generation") state.generation
     ++ number_line (codes "sectors") state.sectors
     ++ number_line (codes "free") state.free

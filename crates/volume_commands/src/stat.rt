@@ -28,7 +28,7 @@ pub fn stat_text(
 fn push_state(out: &mut Vec<u8>, state: VolumeState, count: usize) -> Result<(), AllocError>
     ensures { OnOk result (out.new.items ≡ out.old.items ++ spec.state_text state count) }
 {
-    push_mark_line(out, state.layout)?;
+    push_mark_line(out, state.layout, state.version)?;
     push_number_line(out, b"generation", state.generation)?;
     push_number_line(out, b"sectors", state.sectors as u64)?;
     push_number_line(out, b"free", state.free as u64)?;
@@ -45,11 +45,11 @@ fn push_rows(out: &mut Vec<u8>, files: &[StoredFile]) -> Result<(), AllocError>
     Ok(())
 }
 
-fn push_mark_line(out: &mut Vec<u8>, layout: Layout) -> Result<(), AllocError>
-    ensures { OnOk result (out.new.items ≡ out.old.items ++ spec.mark_line layout) }
+fn push_mark_line(out: &mut Vec<u8>, layout: Layout, version: usize) -> Result<(), AllocError>
+    ensures { OnOk result (out.new.items ≡ out.old.items ++ spec.mark_line layout version) }
 {
     out.extend_from_slice(b"mark")?;
-    push_word(out, mark_of(layout))?;
+    push_word(out, mark_of(layout, version))?;
     Ok(out.push(b'\n')?)
 }
 
@@ -72,12 +72,13 @@ fn push_rows_line(out: &mut Vec<u8>, file: &StoredFile) -> Result<(), AllocError
     Ok(out.push(b'\n')?)
 }
 
-/// The mark of a layout's roots.
-fn mark_of(layout: Layout) -> &'static [u8]
-    ensures { result.now ≡ spec.mark_of layout }
+/// The mark of a layout with this index.
+fn mark_of(layout: Layout, version: usize) -> &'static [u8]
+    ensures { result.now ≡ spec.mark_of layout version }
 {
     match layout {
-        Layout::Trees => b"COBVOL01",
+        Layout::Trees if version == 0 => b"COBVOL01",
+        Layout::Trees => b"COBVOL02",
         Layout::Halves => b"COBHALF1",
     }
 }

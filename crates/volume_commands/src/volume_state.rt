@@ -1,5 +1,5 @@
 //! The state of a volume that holds files, without the files.
-ghost use Rattle.std.specs.Prelude.{◌≡◌, ◌⊎◌, ◌≤◌, ◌-◌, ◌↔◌, Ok, Err, IfOk, IfErr};
+ghost use Rattle.std.specs.Prelude.{◌≡◌, ◌⊎◌, ◌≤◌, ◌-◌, ◌↔◌, map, Ok, Err, IfOk, IfErr};
 ghost use Rattle.station.specs.Calls.{OnlyReads, OnlyWrites};
 ghost use Rattle.station.specs.History.{Through};
 ghost use Rattle.station.specs.Opening.{IsOpening};
@@ -8,8 +8,8 @@ ghost use Rattle.roots.specs.declared.root.Root.{Root};
 ghost use Rattle.roots.specs.declared.pair.Roots.{Roots};
 ghost use Rattle.roots.specs.Reading.{roots_in};
 ghost use Rattle.roots.specs.Root.{IsWithinVolume};
-ghost use Rattle.pages.specs.Layout.{known_marks as page_marks};
-ghost use Rattle.half_store.specs.Half.{known_marks as half_marks, half, count, named_length};
+ghost use Rattle.pages.specs.Layout.{known_families as page_families};
+ghost use Rattle.half_store.specs.Half.{known_families as half_families, half, count, named_length};
 ghost use Rattle.records.specs.Files.{Files};
 ghost use Rattle.file_recovery.specs.Recovered.{HoldsFiles};
 ghost use Rattle.volume_commands.specs.Faults.{IsReadFailure, IsReadError};
@@ -36,6 +36,8 @@ pub enum Layout {
 #[derive(Clone, Copy, PartialEq, Eq)]
 pub struct VolumeState {
     pub layout: Layout,
+    /// Which of the layout's marks the newest root has, counted from 0.
+    pub version: usize,
     /// How many commits there were.
     pub generation: u64,
     pub sectors: u32,
@@ -44,10 +46,10 @@ pub struct VolumeState {
     pub free: u32,
 }
 
-/// The marks of the two layouts.
-const TREES: [u8; 8] = *b"COBVOL01";
+/// The marks of the two layouts, each in the order of their introduction.
+const TREES: [[u8; 8]; 2] = [*b"COBVOL01", *b"COBVOL02"];
 
-const HALVES: [u8; 8] = *b"COBHALF1";
+const HALVES: [[u8; 8]; 1] = [*b"COBHALF1"];
 
 const SECTOR_BYTES: u64 = 4096;
 
@@ -84,15 +86,16 @@ fn read_trees<D: Device>(device: &mut D, free: u32) -> Result<VolumeState, Volum
     ensures only { OnlyReads D.Device (result ≡ Err VolumeError.Device) device.old device.new }
     ensures state { D.is_honest device.old → IfOk result
         (λ state. (state.layout ≡ Layout.Trees) × (state.free ≡ free) × ((root : Root)
-        × HasRoot page_marks (D.state device.old).disk.present state root)) }
+        × HasRoot page_families (D.state device.old).disk.present state root)) }
     ensures opens { D.is_honest device.old → (roots : Roots) →
-        roots_in page_marks 1 (D.state device.old).disk.present ≡ Ok roots
+        roots_in page_families (D.state device.old).disk.present ≡ Ok roots
         → IfErr result IsReadFailure }
     ensures cause { IfErr result IsReadError }
 {
-    let root = read_root(device, &[TREES, HALVES])?;
+    let root = read_root(device, &[&TREES, &HALVES])?;
     Ok(VolumeState {
         layout: Layout::Trees,
+        version: root.mark.version,
         generation: root.generation,
         sectors: root.sectors,
         free,
@@ -106,31 +109,33 @@ fn read_halves<D: Device>(device: &mut D) -> Result<VolumeState, VolumeError>
         (λ state. (state.layout ≡ Layout.Halves) × IsStateOfHalves
         (D.state device.old).disk.present state) }
     ensures opens { D.is_honest device.old → (roots : Roots) →
-        roots_in half_marks 1 (D.state device.old).disk.present ≡ Ok roots
+        roots_in half_families (D.state device.old).disk.present ≡ Ok roots
         → IfErr result IsReadFailure }
     ensures cause { IfErr result IsReadError }
 {
-    let root = read_root(device, &[HALVES, TREES])?;
+    let root = read_root(device, &[&HALVES, &TREES])?;
     Ok(VolumeState {
         layout: Layout::Halves,
+        version: root.mark.version,
         generation: root.generation,
         sectors: root.sectors,
         free: free_in_half(&root),
     })
 }
 
-/// The newest root, which has the first of these marks.
-fn read_root<D: Device>(device: &mut D, marks: &[[u8; 8]]) -> Result<Root, VolumeError>
+/// The newest root, which has a mark of the first of these families.
+fn read_root<D: Device>(device: &mut D, known: &[&[[u8; 8]]]) -> Result<Root, VolumeError>
     ensures only { OnlyReads D.Device (result ≡ Err VolumeError.Device) device.old device.new }
     ensures root { D.is_honest device.old
-        → IfOk result (IsNewest marks.now (D.state device.old).disk.present) }
+        → IfOk result (IsNewest (map (λ family. family.now) known.now)
+        (D.state device.old).disk.present) }
     ensures within { IfOk result (IsWithinVolume (D.sectors device.old)) }
     ensures opens { D.is_honest device.old → (roots : Roots) →
-        roots_in marks.now 1 (D.state device.old).disk.present ≡ Ok roots
+        roots_in (map (λ family. family.now) known.now) (D.state device.old).disk.present ≡ Ok roots
         → IfErr result IsReadFailure }
     ensures cause { IfErr result IsReadError }
 {
-    match read_roots(device, marks, 1) {
+    match read_roots(device, known) {
         Ok(roots) => Ok(roots.newest),
         Err(RootsError::Device) => Err(VolumeError::Device),
         Err(RootsError::Roots(_)) => Err(VolumeError::Damaged),

@@ -9,7 +9,7 @@ use volume_commands::{VolumeError, stat_volume};
 
 /// Two roots, a sector of the map, the page of the catalog and that of the file are in use.
 const STAT: &[u8] =
-    b"mark COBVOL01\ngeneration 3\nsectors 1024\nfree 1019\nfiles 1\nrows A\\\\B 2\n";
+    b"mark COBVOL02\ngeneration 3\nsectors 1024\nfree 1019\nfiles 1\nrows A\\\\B 2\n";
 
 fn stat(alloc: Global, station: &mut MemoryStation) -> (Result<(), VolumeError>, Vec<u8>) {
     let mut out = Vec::new(alloc);

@@ -5,7 +5,7 @@ use Rattle.records.specs.declared.file_spec.Organization.TheVariants.{Indexed}
 use Rattle.records.specs.declared.key.KeyOfReference.TheVariants.{Prime, Alternate}
 use Rattle.records.specs.Spec.{Spec}
 use Rattle.records.specs.Rows.{Row}
-use Rattle.volume_format.specs.Catalog.{listing_bytes}
+use Rattle.volume_format.specs.Catalog.{listing_bytes, catalog_value}
 use Rattle.file_bytes.specs.Description.{spec_bytes}
 use Rattle.volume_format.specs.Trees.{entry_under, prime_layout}
 
@@ -39,3 +39,10 @@ listing : listing_bytes (record { spec = sales; prime = 5; alternates = 260 ∷ 
     ++ ((0 ∷ 0 ∷ 0 ∷ 5 ∷ 0 ∷ 0 ∷ 1 ∷ 4 ∷ []) ++ (replicate 24 0 ++ 0 ∷ 0 ∷ 0 ∷ 0 ∷ 0 ∷ 0 ∷ 1 ∷ 3 ∷ []))))
 unfolding listing_bytes spec_bytes
 listing = refl
+
+value_on_a_volume_with_the_first_mark : catalog_value 0 (7 ∷ 8 ∷ []) 258 ≡ 7 ∷ 8 ∷ []
+value_on_a_volume_with_the_first_mark = refl
+
+value_on_a_volume_with_the_second_mark :
+    catalog_value 1 (7 ∷ 8 ∷ []) 258 ≡ 7 ∷ 8 ∷ 0 ∷ 0 ∷ 0 ∷ 0 ∷ 0 ∷ 0 ∷ 1 ∷ 2 ∷ []
+value_on_a_volume_with_the_second_mark = refl

@@ -8,6 +8,7 @@ pub mod Order
 pub mod Comes
 pub mod Keeping
 pub mod Listings
+pub mod Values
 pub mod Empty
 pub mod Once
 pub mod Faults

@@ -23,7 +23,8 @@ use Rattle.volume_format.specs.Forest.{TreeLevels, IsTreeIn}
 use Rattle.volume_format.specs.Volume.{FileTrees, IsKept, MapHolds, Holds, trees_of, listing_of, catalog_entry}
 use Rattle.volume_format.proofs.Forests.{all_right}
 use Rattle.file_bytes.proofs.Descriptions.{one_name, one_spec}
-use Rattle.volume_format.proofs.Listings.{spec_read, prime_read, next_read_most}
+use Rattle.volume_format.proofs.Listings.{spec_read, prime_read, next_read_most, long}
+use Rattle.volume_format.proofs.Values.{reads_back}
 use Rattle.volume_format.proofs.Roots.{root_small}
 use Rattle.volume_format.proofs.Once.{one_rows_most}
 
@@ -38,12 +39,17 @@ counted kept count = length-map kept.alternates (λ (tree : TreeLevels). tree.tr
 same_named : (m : Map) (one two : FileTrees) → m.generation ≤ 2 ^ 63 → length m.pages ≤ 2 ^ 20 → IsKept m.generation one
     → IsKept m.generation two → IsTreeIn m.pages one.prime → IsTreeIn m.pages two.prime → IsNamed one.named
     → IsNamed two.named →
-    catalog_entry one ≡ catalog_entry two → one.named ≡ two.named
+    catalog_entry m.mark one ≡ catalog_entry m.mark two → one.named ≡ two.named
 unfolding named_with
 same_named m one two few small is is_too grows grows_too named named_too same =
     let name : one.named.name ≡ two.named.name =
     one_name one.named.name two.named.name named.name named_too.name (ap (λ (e : Entry). e.key) same) in
-    let bytes : listing_bytes (listing_of one) ≡ listing_bytes (listing_of two) = ap (λ (e : Entry). e.value) same in
+    let bytes : listing_bytes (listing_of one) ≡ listing_bytes (listing_of two) =
+    sym (reads_back m.mark (listing_bytes (listing_of one)) (length one.named.file.rows)
+    (long (listing_of one) named.file.spec (counted one is.count))).head
+    ∙ ap (λ (e : Entry). take 83 e.value) same
+    ∙ (reads_back m.mark (listing_bytes (listing_of two)) (length two.named.file.rows)
+    (long (listing_of two) named_too.file.spec (counted two is_too.count))).head in
     let low = is.arrivals in
     let low_too = is_too.arrivals in
     let s : Spec = one.named.file.spec in
@@ -81,14 +87,14 @@ same_list : (m : Map) (ones twos : List FileTrees) → m.generation ≤ 2 ^ 63 �
     All (IsTreeIn m.pages) (flat_map trees_of ones) → All (IsTreeIn m.pages) (flat_map trees_of twos)
     → AllByRecursion IsNamed (map (λ (k : FileTrees). k.named) ones)
     → AllByRecursion IsNamed (map (λ (k : FileTrees). k.named) twos) →
-    map catalog_entry ones ≡ map catalog_entry twos
+    map (catalog_entry m.mark) ones ≡ map (catalog_entry m.mark) twos
     → map (λ (k : FileTrees). k.named) ones ≡ map (λ (k : FileTrees). k.named) twos
 same_list m [] [] few small is is_too grow grow_too named named_too same = refl
 same_list m [] (two ∷ twos) few small is is_too grow grow_too named named_too same = cc
 same_list m (one ∷ ones) [] few small is is_too grow grow_too named named_too same = cc
 same_list m (one ∷ ones) (two ∷ twos) few small is is_too grow grow_too named named_too same =
-    let head : catalog_entry one ≡ catalog_entry two = cc in
-    let tail : map catalog_entry ones ≡ map catalog_entry twos = cc in
+    let head : catalog_entry m.mark one ≡ catalog_entry m.mark two = cc in
+    let tail : map (catalog_entry m.mark) ones ≡ map (catalog_entry m.mark) twos = cc in
     let first = same_named m one two few small (All-head (IsKept m.generation) one ones is)
     (All-head (IsKept m.generation) two twos is_too)
     (All-head (IsTreeIn m.pages) one.prime (one.alternates ++ flat_map trees_of ones) grow) (All-head (IsTreeIn m.pages)
@@ -106,9 +112,10 @@ one_in_map_most m one two few small first second =
     let catalog = All-head (IsTreeIn m.pages) _ _ first.keeps.forest.grow in
     let catalog_too = All-head (IsTreeIn m.pages) _ _ second.keeps.forest.grow in
     let levels =
-    one_tree catalog_layout m.pages m.catalog first.keeps.catalog second.keeps.catalog small catalog catalog_too in
-    let entries : map catalog_entry first.kept ≡ map catalog_entry second.kept =
-    sym first.keeps.listed ∙ ap (entries_of catalog_layout) levels ∙ second.keeps.listed in
+    one_tree (catalog_layout m.mark) m.pages m.catalog first.keeps.catalog second.keeps.catalog small catalog
+    catalog_too in
+    let entries : map (catalog_entry m.mark) first.kept ≡ map (catalog_entry m.mark) second.kept =
+    sym first.keeps.listed ∙ ap (entries_of (catalog_layout m.mark)) levels ∙ second.keeps.listed in
     sym first.named
     ∙ same_list m first.kept second.kept few small first.keeps.each second.keeps.each
     (All-tail (IsTreeIn m.pages) _ _ first.keeps.forest.grow) (All-tail (IsTreeIn m.pages) _ _ second.keeps.forest.grow)

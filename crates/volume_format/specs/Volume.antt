@@ -8,7 +8,7 @@ use Rattle.btree.specs.Rooted.{RootedTree}
 use Rattle.btree.specs.Entries.{Entry, entries_of}
 use Rattle.records.specs.declared.key.KeyOfReference.TheVariants.{Prime, Alternate}
 use Rattle.records.specs.Files.{File, NamedFile, Files, AreFiles}
-use Rattle.volume_format.specs.Catalog.{Listing, listing_bytes, catalog_layout}
+use Rattle.volume_format.specs.Catalog.{Listing, listing_bytes, catalog_value, catalog_layout}
 use Rattle.file_bytes.specs.Description.{padded_name}
 use Rattle.volume_format.specs.Trees.{entry_under, layout_under, AreOf}
 use Rattle.volume_format.specs.Forest.{TreeLevels, IsForest}
@@ -17,7 +17,7 @@ abbrev pub tree_levels : RootedTree → List (List TreeNode) → TreeLevels
 tree_levels tree levels = record { tree = tree; levels = levels }
 
 abbrev pub no_tree : TreeLevels
-no_tree = record { tree = record { layout = catalog_layout; root = 0 }; levels = [] }
+no_tree = record { tree = record { layout = catalog_layout 0; root = 0 }; levels = [] }
 
 -- a file of the volume, with its trees
 pub record FileTrees : Type 0 where
@@ -37,8 +37,13 @@ listing_of kept = record {
   next_arrival = kept.named.file.next_arrival;
 }
 
-abbrev pub catalog_entry : FileTrees → Entry
-catalog_entry kept = record { key = padded_name kept.named.name; value = listing_bytes (listing_of kept) }
+-- its entry in the catalog of a volume with this mark
+abbrev pub catalog_entry : ℕ → FileTrees → Entry
+catalog_entry mark kept =
+    record {
+      key = padded_name kept.named.name;
+      value = catalog_value mark (listing_bytes (listing_of kept)) (length kept.named.file.rows);
+    }
 
 -- the tree of an alternate key has exactly the pairs of the rows
 pub record IsIndex (file : File) (i : ℕ) (tree : TreeLevels) : Type 0 where
@@ -48,20 +53,22 @@ pub record IsIndex (file : File) (i : ℕ) (tree : TreeLevels) : Type 0 where
 -- the trees of the file are its rows and its pairs
 pub record IsKept (generation : ℕ) (kept : FileTrees) : Type 0 where
   pub layout : kept.prime.tree.layout ≡ layout_under kept.named.file.spec Prime
-  pub rows : entries_of kept.prime.tree.layout kept.prime.levels ≡ map (entry_under kept.named.file.spec Prime) kept.named.file.rows
+  pub rows : entries_of kept.prime.tree.layout kept.prime.levels
+      ≡ map (entry_under kept.named.file.spec Prime) kept.named.file.rows
   pub count : length kept.alternates ≡ length kept.named.file.spec.alternates
-  pub indexes : (i : ℕ) → i < length kept.named.file.spec.alternates → IsIndex kept.named.file i (slice_index_or kept.alternates i no_tree)
+  pub indexes : (i : ℕ) → i < length kept.named.file.spec.alternates
+      → IsIndex kept.named.file i (slice_index_or kept.alternates i no_tree)
   pub arrivals : kept.named.file.next_arrival ≤ generation
 
 -- the tree of the catalog
 abbrev pub catalog_tree : Map → List (List TreeNode) → TreeLevels
-catalog_tree m levels = tree_levels (record { layout = catalog_layout; root = m.catalog }) levels
+catalog_tree m levels = tree_levels (record { layout = catalog_layout m.mark; root = m.catalog }) levels
 
 -- The pages are a catalog, and the trees of the files that it lists.
 pub record HasCatalog (m : Map) (kept : List FileTrees) : Type 0 where
   pub catalog : List (List TreeNode)
   pub forest : IsForest m.pages (catalog_tree m catalog ∷ flat_map trees_of kept)
-  pub listed : entries_of catalog_layout catalog ≡ map catalog_entry kept
+  pub listed : entries_of (catalog_layout m.mark) catalog ≡ map (catalog_entry m.mark) kept
   pub each : All (IsKept m.generation) kept
 
 pub record MapHolds (m : Map) (files : Files) : Type 0 where

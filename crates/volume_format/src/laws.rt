@@ -1,5 +1,5 @@
 //! The laws of trees in one map, of the order of keys, and of what an image holds.
-ghost use Rattle.volume_format.specs.Catalog.{ListingReadsBack, NamesInOrder};
+ghost use Rattle.volume_format.specs.Catalog.{ListingReadsBack, ValueReadsBack, RowsSpelledLow, NamesInOrder};
 ghost use Rattle.file_bytes.specs.Description.{OneSpec};
 ghost use Rattle.volume_format.specs.Pairs.{KeysInOrder};
 ghost use Rattle.volume_format.specs.Comes.{RowComes, PairComes};
@@ -33,6 +33,12 @@ pub fn next_holds()
 /// What the catalog says of a file is read back from its bytes.
 pub fn listing_reads_back()
     ensures { ListingReadsBack }
+{}
+
+/// A listing and a number of rows are read back from a value of the catalog. The number is spelled by its lowest eight bytes.
+pub fn value_reads_back()
+    ensures value { ValueReadsBack }
+    ensures rows { RowsSpelledLow }
 {}
 
 /// The catalog's bytes tell what a file is, and its keys have the order of names.

@@ -3,15 +3,18 @@ ghost use Rattle.std.specs.Prelude.{◌≡◌, ◌<◌, ◌+◌, ◌*◌, ◌++�
 ghost use Rattle.std.specs.List.{flat_map};
 ghost use Rattle.byteorder.specs.Endian.{big_bytes, big_number};
 ghost use Rattle.records.specs.Stores.{spec_of};
-ghost use Rattle.volume_format.specs.Catalog.{listing_bytes};
+ghost use Rattle.volume_format.specs.Catalog.{listing_bytes, catalog_value, value_length};
 
 use byteorder::{BigEndian, ByteOrder};
 use file_bytes::{push_description, push_zeros};
 use records::{FileSpec, StoreFault};
 use std::alloc::Global;
 
-/// The bytes of a value in the catalog.
+/// The bytes of a listing.
 pub const LISTING_BYTES: usize = 83;
+
+/// The bytes of the number of rows, which a value of the catalog has after the listing on a volume with the second mark.
+const ROWS_BYTES: usize = 8;
 
 /// Where the page of the root of the tree of rows stands in a value of the catalog, counted from 0.
 const PRIME_AT: usize = 43;
@@ -26,7 +29,48 @@ const ROOT_BYTES: usize = 4;
 
 const ROOTS_BYTES: usize = 28;
 
-/// The 83 bytes that the catalog has of a file: the pages of its trees' roots, and the arrival that the next WRITE gives.
+/// How many bytes a value of the catalog has on a volume with this mark.
+pub fn value_bytes(mark: usize) -> usize
+    ensures { result ≡ value_length mark }
+{
+    if mark == 0 {
+        LISTING_BYTES
+    } else {
+        LISTING_BYTES + ROWS_BYTES
+    }
+}
+
+/// A value of the catalog on a volume with this mark: a listing, and the number of the file's rows where the mark is the second.
+pub fn spell_value(
+    alloc: Global,
+    mark: usize,
+    listing: &[u8],
+    rows: u64,
+) -> Result<Vec<u8>, StoreFault>
+    ensures bytes { IfOk result
+        (λ bytes. bytes.items ≡ catalog_value mark listing.now rows) }
+    ensures memory { IsOkUnless result StoreFault.Memory }
+{
+    let mut out = Vec::from_slice(alloc, listing)?;
+    if mark > 0 {
+        out.extend_from_slice(&rows.to_be_bytes())?;
+    }
+    Ok(out)
+}
+
+/// The number of rows in a value of the catalog, 0 on a volume with the first mark.
+pub fn stored_rows(mark: usize, value: &[u8]) -> u64
+    requires { length value.now ≡ value_length mark }
+    ensures first { mark ≡ 0 → result ≡ 0 }
+    ensures second { 0 < mark → result ≡ big_number 8 (drop 83 value.now) }
+{
+    if mark == 0 {
+        return 0;
+    }
+    BigEndian::read_u64(&value[LISTING_BYTES..])
+}
+
+/// The 83 bytes of a listing: the pages of its trees' roots, and the arrival that the next WRITE gives.
 pub fn spell_listing(
     alloc: Global,
     file: &FileSpec,

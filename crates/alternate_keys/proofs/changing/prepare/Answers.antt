@@ -1,4 +1,7 @@
-use Rattle.std.proofs.Common.{◌≡◌, ◌+◌, ◌*◌, Err, ℕ, List, length, sym, ap, ◌∙◌, arith}
+use Rattle.std.proofs.Common.{◌≡◌, ◌<◌, ◌+◌, ◌*◌, ◌%◌, ◌^◌, Err, ℕ, List, length, sym, ap, subst, ◌∙◌, arith}
+use Rattle.std.specs.Prelude.{drop, IfErr}
+use Rattle.byteorder.specs.Endian.{big_number}
+use Rattle.pages.specs.Pages.{mark_of}
 use Rattle.btree.proofs.Frames.{unchanged_on}
 use Rattle.records.specs.declared.fault.StoreFault.TheVariants.{Device}
 use Rattle.records.specs.Files.{File, Files}
@@ -12,10 +15,10 @@ use Rattle.alternate_keys.proofs.Faults.{never_full, refused_by_call}
 use Rattle.alternate_keys.proofs.HeldTrees.{HoldsTrees}
 use Rattle.alternate_keys.proofs.ListedFile.{HoldsFile, HoldsChanged, file_held, map_at, lefts, rights, named_at}
 use Rattle.alternate_keys.proofs.ListedFile.{never_listed, trees_listed, entry_listed, changed_from, catalog_there}
-use Rattle.alternate_keys.proofs.ListedFile.{files_listed}
+use Rattle.alternate_keys.proofs.ListedFile.{files_listed, rows_listed}
 use Rattle.alternate_keys.proofs.Preparing.{are_then}
+use Rattle.alternate_keys.proofs.RowCounts.{rows_spelled}
 use Rattle.alternate_keys.proofs.Still.{room_before}
-use Rattle.std.specs.Prelude.{IfErr}
 use Rattle.alternate_keys.specs.Faults.{IsWriteFault}
 use Rattle.alternate_keys.proofs.Passing.{never_ok, passed, read_is_write, spent_before}
 use Rattle.alternate_keys.proofs.changing.prepare.Given.{Over}
@@ -38,10 +41,10 @@ listed : (g : Over) (c : After-change_trees g) {held : File} {files : Files} (at
     → LooksAt g.D.Device (c.find_listing.result ≡ Err Device) c.args.pages.now c.args.device.now
     c.find_listing.new.pages c.find_listing.new.device → HoldsTrees g.D.Device (spec_of c.args.file.now)
     (named_at g.D.Device at) (map_at g.D.Device at).generation (lefts g.D.Device at) (rights g.D.Device at)
-    c.value.result.now c.find_listing.new.pages c.find_listing.new.device
+    c.listing_part.result.now c.find_listing.new.pages c.find_listing.new.device
 listed g c {files} at spec_is seen =
     trees_listed g.D.Device at seen c.deref.ensures.value
-    (c.in_ok-entry.ensures.entry at.honest at.agrees files at.holds) c.in-Some.is c.value.ensures spec_is
+    (c.in_ok-entry.ensures.entry at.honest at.agrees files at.holds) c.in-Some.is c.listing_part.ensures.part spec_is
     (c.map_bounds.ensures.open c.args.pages.now (g.D.Device.state c.args.device.now).disk.present c.requires.open
     c.requires.unspent)
 
@@ -51,12 +54,26 @@ changed : (g : Over) (c : Else-not-is_done g) {held : File} {files : Files} (at 
     → LooksAt g.D.Device (c.find_listing.result ≡ Err Device) c.args.pages.now c.args.device.now
     c.find_listing.new.pages c.find_listing.new.device → HoldsTrees g.D.Device (spec_of c.args.file.now)
     (named_at g.D.Device at) (map_at g.D.Device at).generation (lefts g.D.Device at) (rights g.D.Device at)
-    c.value.result.now c.find_listing.new.pages c.find_listing.new.device →
+    c.listing_part.result.now c.find_listing.new.pages c.find_listing.new.device →
     HoldsChanged g.D.Device at (changed_by c.args.verb c.args.file.now.organization c.args.number c.args.bytes.now held)
     c.in_ok-turn.turn.listing.items c.change_trees.new.pages c.change_trees.new.device
 changed g c at seen trees =
     changed_from g.D.Device at seen c.change_trees.ensures.edits (c.in_ok-turn.ensures.placed trees.honest trees.agrees
     _ _ _ _ trees.has (sym c.is_done.ensures ∙ c.if-not-is_done.false))
+
+-- the mark that was read is that of the map
+mark_read : (g : Over) (c : After-change_trees g) → c.mark.result ≡ mark_of c.args.pages.now
+mark_read g c = c.mark.ensures.is ∙ c.find_listing.ensures.unchanged.committed.mark
+
+-- the number of rows that was read is that of the file
+counted : (g : Over) (c : After-change_trees g) {held : File} {files : Files} (at : HoldsFile g.D.Device
+    c.args.file.now.name.items held files c.args.pages.now c.args.device.now) → 0 < (map_at g.D.Device at).mark
+    → c.stored_rows.result ≡ length held.rows % 2 ^ 64
+counted g c {files} at second =
+    c.stored_rows.ensures.second (subst (λ (m : ℕ). 0 < m) (sym (mark_read g c)) second)
+    ∙ ap (λ (l : List ℕ). big_number 8 (drop 83 l)) c.value.ensures
+    ∙ rows_listed g.D.Device at c.deref.ensures.value
+    (c.in_ok-entry.ensures.entry at.honest at.agrees files at.holds) c.in-Some.is second
 
 pub returns-in_err-entry-clause-damaged : goal.returns-in_err-entry-clause-damaged
 returns-in_err-entry-clause-damaged g c = λ honest agrees files held holds has refused.
@@ -137,9 +154,14 @@ returns-clause-will g c = λ honest agrees files held holds has change.
     let seen = looks g to.After-find_listing in
     let trees = listed g to.After-change_trees at has.spec seen in
     let outcome = c.in_ok-turn.ensures.outcome trees.honest trees.agrees _ _ _ _ trees.has in
-    files_listed g.D.Device at (changed g to.Else-not-is_done at seen trees) c.replace_listing.ensures.edits
-    c.deref-2.ensures.value c.deref-3.ensures.value c.in_ok-replace_listing.ensures.replaced
-    (sym (ap is_change outcome) ∙ sym c.is_done.ensures ∙ c.if-not-is_done.false)
+    let change_is = sym (ap is_change outcome) ∙ sym c.is_done.ensures ∙ c.if-not-is_done.false in
+    files_listed g.D.Device at (changed g to.Else-not-is_done at seen trees) c.rows_after-rows.result
+    c.replace_listing.ensures.edits
+    c.deref-2.ensures.value c.deref-3.ensures.value
+    (rows_spelled (map_at g.D.Device at).mark c.args.verb c.args.file.now.organization
+    c.in_ok-turn.turn.listing.items c.args.number c.args.bytes.now held c.stored_rows.result c.rows_after-rows.result
+    trees.has.is_named.file.ascend (counted g to.After-change_trees at) c.rows_after-rows.ensures change_is)
+    c.in_ok-replace_listing.ensures.replaced change_is
     (are_then c.args.verb c.args.file.now files held holds.are has c.args.number c.args.bytes.now c.requires.asked
     (bytes_by c.args.bytes.now c.type_inv.bytes))
 

@@ -1,4 +1,4 @@
-use Rattle.std.proofs.Common.{◌≡◌, ◌++◌, List, sym, subst, ◌∙◌, arith}
+use Rattle.std.proofs.Common.{◌++◌, List, sym, subst, arith}
 use Rattle.std.specs.Prelude.{Option, OnOk, IfErr}
 use Rattle.station.specs.Disk.{Sector}
 use Rattle.station.specs.State.{State}

@@ -26,7 +26,7 @@ returns-in-Ok-clause-settles g c = λ before after changed.
           rests_then c.args.pages.now c.commit.new.self old.disk new.disk before after
           (c.in-Ok.ensures.agrees changed.honest changed.agrees) c.in-Ok.ensures.committed c.in-Ok.ensures.changed_pages
           (c.in-Ok.ensures.rests (λ changes. changes none) c.requires.unspent) (ap (λ (s : State). s.disk)
-          (c.in-Ok.ensures.nothing none.0 none.1 changed.honest).0) bounds.0 bounds.1 changed.was changed.will)
+          (c.in-Ok.ensures.nothing none.0 none.1 none.2 changed.honest).0) bounds.0 bounds.1 changed.was changed.will)
           (changed_or_not c.args.pages.now);
       moments = moments_hold (g.D.Device.history c.args.device.now) (g.D.Device.history c.commit.new.device) new
           old.events m n before after changed.was changed.will (c.in-Ok.ensures.moments changed.honest changed.agrees);

@@ -14,6 +14,7 @@ use Rattle.btree.proofs.Frames.{same_pages}
 use Rattle.btree.proofs.There.{tree_ascends}
 use Rattle.records.specs.declared.fault.StoreFault.TheVariants.{Device}
 use Rattle.records.specs.Files.{Files}
+use Rattle.volume_format.specs.Catalog.{catalog_layout}
 use Rattle.volume_format.specs.Volume.{FileTrees, catalog_entry}
 use Rattle.volume_format.proofs.Looks.{looks_blamed, looks_then}
 use Rattle.alternate_keys.proofs.Catalogs.{catalog_holds}
@@ -28,13 +29,15 @@ loop-turn-init g c = record {
   next_is = λ honest agrees files holds.
       let m : Map = map_now c.args.pages.now (g.D.Device.state c.args.device.now).disk.present in
       let tree : RootedTree = c.catalog_tree-catalog.result in
-      let there = catalog_holds m files holds tree c.catalog_tree-catalog.ensures.layout
+      let layout : tree.layout ≡ catalog_layout m.mark =
+      c.catalog_tree-catalog.ensures.layout ∙ ap catalog_layout c.mark.ensures.is in
+      let there = catalog_holds m files holds tree layout
       (c.catalog_tree-catalog.ensures.root ∙ c.catalog.ensures) in
-      let listed : entries_of tree.layout holds.keeps.catalog ≡ map catalog_entry holds.kept =
-      ap (λ (l : RowLayout). entries_of l holds.keeps.catalog) c.catalog_tree-catalog.ensures.layout
+      let listed : entries_of tree.layout holds.keeps.catalog ≡ map (catalog_entry m.mark) holds.kept =
+      ap (λ (l : RowLayout). entries_of l holds.keeps.catalog) layout
       ∙ holds.keeps.listed in
       c.in_ok-next.ensures.entry honest agrees holds.keeps.catalog there ∙ ap first_entry listed
-      ∙ first_at (map catalog_entry holds.kept);
+      ∙ first_at (map (catalog_entry m.mark) holds.kept);
   some = λ honest agrees files holds. omega arith;
 }
 
@@ -47,16 +50,18 @@ loop-turn-preserved g c = record {
   next_is = λ honest agrees files holds.
       let m : Map = map_now c.args.pages.now (g.D.Device.state c.args.device.now).disk.present in
       let tree : RootedTree = c.catalog_tree-catalog.result in
-      let entries : List Entry = map catalog_entry holds.kept in
+      let entries : List Entry = map (catalog_entry m.mark) holds.kept in
       let count : length files ≡ length holds.kept =
       ap (λ (l : Files). length l) (sym holds.named) ∙ length-map holds.kept (λ (k : FileTrees). k.named) in
-      let many : length entries ≡ length holds.kept = length-map holds.kept catalog_entry in
+      let many : length entries ≡ length holds.kept = length-map holds.kept (catalog_entry m.mark) in
       let loop = c.loop-turn in
       let looks = loop.invariant.looks in
-      let there = catalog_holds m files holds tree c.catalog_tree-catalog.ensures.layout
+      let layout : tree.layout ≡ catalog_layout m.mark =
+      c.catalog_tree-catalog.ensures.layout ∙ ap catalog_layout c.mark.ensures.is in
+      let there = catalog_holds m files holds tree layout
       (c.catalog_tree-catalog.ensures.root ∙ c.catalog.ensures) in
       let listed : entries_of tree.layout holds.keeps.catalog ≡ entries =
-      ap (λ (l : RowLayout). entries_of l holds.keeps.catalog) c.catalog_tree-catalog.ensures.layout
+      ap (λ (l : RowLayout). entries_of l holds.keeps.catalog) layout
       ∙ holds.keeps.listed in
       let same = same_pages c.args.pages.now loop.pages (g.D.Device.state c.args.device.now)
       (g.D.Device.state loop.device) looks.unchanged (looks.only.state honest) in
@@ -73,10 +78,10 @@ loop-turn-preserved g c = record {
   some = λ honest agrees files holds.
       let m : Map = map_now c.args.pages.now (g.D.Device.state c.args.device.now).disk.present in
       let tree : RootedTree = c.catalog_tree-catalog.result in
-      let entries : List Entry = map catalog_entry holds.kept in
+      let entries : List Entry = map (catalog_entry m.mark) holds.kept in
       let count : length files ≡ length holds.kept =
       ap (λ (l : Files). length l) (sym holds.named) ∙ length-map holds.kept (λ (k : FileTrees). k.named) in
-      let many : length entries ≡ length holds.kept = length-map holds.kept catalog_entry in
+      let many : length entries ≡ length holds.kept = length-map holds.kept (catalog_entry m.mark) in
       let is : entry_at c.loop-turn.turn entries ≡ Some c.in-Some.entry =
       sym (c.loop-turn.invariant.next_is honest agrees files holds) ∙ c.in-Some.is in
       let more = some_at entries c.loop-turn.turn c.in-Some.entry is in
@@ -87,10 +92,10 @@ pub returns-in-None-clause-room : goal.returns-in-None-clause-room
 returns-in-None-clause-room g c = λ honest agrees files holds none.
     let m : Map = map_now c.args.pages.now (g.D.Device.state c.args.device.now).disk.present in
     let tree : RootedTree = c.catalog_tree-catalog.result in
-    let entries : List Entry = map catalog_entry holds.kept in
+    let entries : List Entry = map (catalog_entry m.mark) holds.kept in
     let count : length files ≡ length holds.kept =
     ap (λ (l : Files). length l) (sym holds.named) ∙ length-map holds.kept (λ (k : FileTrees). k.named) in
-    let many : length entries ≡ length holds.kept = length-map holds.kept catalog_entry in
+    let many : length entries ≡ length holds.kept = length-map holds.kept (catalog_entry m.mark) in
     let few =
     none_at entries c.loop-turn.turn (sym (c.loop-turn.invariant.next_is honest agrees files holds) ∙ c.in-None.is) in
     let test = c.loop-turn-test.true in
@@ -100,10 +105,10 @@ pub returns-clause-full : goal.returns-clause-full
 returns-clause-full g c = λ honest agrees files holds yes.
     let m : Map = map_now c.args.pages.now (g.D.Device.state c.args.device.now).disk.present in
     let tree : RootedTree = c.catalog_tree-catalog.result in
-    let entries : List Entry = map catalog_entry holds.kept in
+    let entries : List Entry = map (catalog_entry m.mark) holds.kept in
     let count : length files ≡ length holds.kept =
     ap (λ (l : Files). length l) (sym holds.named) ∙ length-map holds.kept (λ (k : FileTrees). k.named) in
-    let many : length entries ≡ length holds.kept = length-map holds.kept catalog_entry in
+    let many : length entries ≡ length holds.kept = length-map holds.kept (catalog_entry m.mark) in
     let some = c.loop-turn.invariant.some honest agrees files holds in
     let test = c.loop-turn-test.false in
     omega (arith, some, count, test)
@@ -113,7 +118,9 @@ returns-in_err-next-clause-damaged g c = λ honest agrees files holds refused.
     let told = refused_by_call c.in_err-next.was c.from_residual.ensures.1 refused in
     let m : Map = map_now c.args.pages.now (g.D.Device.state c.args.device.now).disk.present in
     let tree : RootedTree = c.catalog_tree-catalog.result in
-    let there = catalog_holds m files holds tree c.catalog_tree-catalog.ensures.layout
+    let layout : tree.layout ≡ catalog_layout m.mark =
+    c.catalog_tree-catalog.ensures.layout ∙ ap catalog_layout c.mark.ensures.is in
+    let there = catalog_holds m files holds tree layout
     (c.catalog_tree-catalog.ensures.root ∙ c.catalog.ensures) in
     c.first_in.ensures.damaged honest agrees holds.keeps.catalog there told
 
@@ -134,7 +141,9 @@ returns-in_err-next-in-Some-clause-damaged g c = λ honest agrees files holds re
     let tree : RootedTree = c.catalog_tree-catalog.result in
     let loop = c.loop-turn in
     let looks = loop.invariant.looks in
-    let there = catalog_holds m files holds tree c.catalog_tree-catalog.ensures.layout
+    let layout : tree.layout ≡ catalog_layout m.mark =
+    c.catalog_tree-catalog.ensures.layout ∙ ap catalog_layout c.mark.ensures.is in
+    let there = catalog_holds m files holds tree layout
     (c.catalog_tree-catalog.ensures.root ∙ c.catalog.ensures) in
     let same = same_pages c.args.pages.now loop.pages (g.D.Device.state c.args.device.now)
     (g.D.Device.state loop.device) looks.unchanged (looks.only.state honest) in

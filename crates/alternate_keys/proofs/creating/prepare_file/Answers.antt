@@ -3,7 +3,7 @@ use Rattle.std.specs.Prelude.{map, Option, None, IsSome, IfErr}
 use Rattle.std.specs.List.{flat_map}
 use Rattle.station.specs.State.{State}
 use Rattle.pages.specs.Image.{Map}
-use Rattle.pages.specs.Pages.{map_now, catalog_of, Agrees, SameCommitted}
+use Rattle.pages.specs.Pages.{map_now, catalog_of, mark_of, Agrees, SameCommitted}
 use Rattle.btree.specs.Calls.{pages_on}
 use Rattle.btree.specs.Entries.{Entry, entry_with, with_new_entry, with_value}
 use Rattle.btree.proofs.Frames.{same_pages}
@@ -11,6 +11,7 @@ use Rattle.records.specs.Files.{Files, file_at, with_file, empty_file}
 use Rattle.records.specs.Spec.{is_name}
 use Rattle.records.specs.Stores.{spec_of}
 use Rattle.file_bytes.specs.Description.{padded_name}
+use Rattle.volume_format.specs.Catalog.{catalog_value}
 use Rattle.volume_format.specs.Forest.{IsForest}
 use Rattle.volume_format.specs.Volume.{MapHolds, trees_of, catalog_entry}
 use Rattle.alternate_keys.specs.Created.{OnFiles}
@@ -40,18 +41,18 @@ returns-in_err-entry-clause-damaged g c = λ honest agrees files holds refused.
 found : (g : Over) (c : After-clear_trees g) → OnFiles g.D.Device c.args.pages.now c.args.device.now (λ files holds.
     IsThere (map_now c.args.pages.now (g.D.Device.state c.args.device.now).disk.present) files holds
     c.args.file.now.name.items c.args.file.now.named
-    (pages_on g.D.Device c.find_listing.new.pages c.find_listing.new.device) c.value.result.now)
+    (pages_on g.D.Device c.find_listing.new.pages c.find_listing.new.device) c.listing_part.result.now)
 found g c honest agrees files holds =
     let old = g.D.Device.state c.args.device.now in
     let m : Map = map_now c.args.pages.now old.disk.present in
     let name : List ℕ = c.args.file.now.name.items in
     let bounds = c.map_bounds.ensures.open c.args.pages.now old.disk.present c.requires.open c.requires.unspent in
     is_there m files holds name c.args.file.now.named
-    (pages_on g.D.Device c.find_listing.new.pages c.find_listing.new.device) c.value.result.now c.in_ok-entry.field-0
+    (pages_on g.D.Device c.find_listing.new.pages c.find_listing.new.device) c.listing_part.result.now c.in_ok-entry.field-0
     c.in-Some.entry (c.in_ok-entry.ensures.entry honest agrees files holds
-    ∙ ap (λ (n : List ℕ). entry_with (map catalog_entry holds.kept) (padded_name n)) c.deref.ensures.value)
+    ∙ ap (λ (n : List ℕ). entry_with (map (catalog_entry (mark_of c.args.pages.now)) holds.kept) (padded_name n)) c.deref.ensures.value)
     (listed_as m files c.deref.result.now name c.in_ok-entry.field-0 c.deref.ensures.value
-    (c.in_ok-entry.ensures.listed honest agrees files holds)) c.in-Some.is c.value.ensures bounds.0 bounds.1
+    (c.in_ok-entry.ensures.listed honest agrees files holds)) c.in-Some.is c.listing_part.ensures.part bounds.0 bounds.1
     (same_pages c.args.pages.now c.find_listing.new.pages old (g.D.Device.state c.find_listing.new.device)
     c.find_listing.ensures.unchanged (c.find_listing.ensures.only.state honest))
 
@@ -67,7 +68,7 @@ returns-in_err-clear_trees-in-Some-clause-damaged g c = λ honest agrees files h
 cleared : (g : Over) (c : After-replace_listing g) → g.D.Device.is_honest c.find_listing.new.device
     → Agrees c.find_listing.new.pages (g.D.Device.state c.find_listing.new.device).disk → {m : Map} {files : Files}
     {holds : MapHolds m files} {name : List ℕ} {named : is_name name ≡ true} → (here : IsThere m files holds name named
-    (pages_on g.D.Device c.find_listing.new.pages c.find_listing.new.device) c.value.result.now) →
+    (pages_on g.D.Device c.find_listing.new.pages c.find_listing.new.device) c.listing_part.result.now) →
     IsEmptied here (spec_of c.args.file.now) (pages_on g.D.Device c.clear_trees.new.pages c.clear_trees.new.device)
     c.in_ok-listing.listing.items
 cleared g c honest agrees {m} {name} here =
@@ -84,6 +85,9 @@ same_catalog : (g : Over) (c : After-replace_listing g) → catalog_of c.clear_t
 same_catalog g c =
     c.clear_trees.ensures.edits.catalog ∙ ap (λ (x : Map). x.catalog) (c.find_listing.ensures.unchanged.map [])
 
+same_mark : (g : Over) (c : After-replace_listing g) → mark_of c.clear_trees.new.pages ≡ mark_of c.args.pages.now
+same_mark g c = c.clear_trees.ensures.edits.committed.mark ∙ c.find_listing.ensures.unchanged.committed.mark
+
 pub returns-in_err-replace_listing-in-Some-clause-damaged : goal.returns-in_err-replace_listing-in-Some-clause-damaged
 returns-in_err-replace_listing-in-Some-clause-damaged g c = λ honest agrees files holds refused.
     let at = goal.at.returns-in_err-replace_listing-in-Some-clause-damaged g c in
@@ -93,8 +97,11 @@ returns-in_err-replace_listing-in-Some-clause-damaged g c = λ honest agrees fil
     let placed = cleared g at.After-replace_listing honest_found agrees_found here in
     c.replace_listing.ensures.damaged (c.clear_trees.ensures.edits.only.honest.0 honest_found)
     (c.clear_trees.ensures.edits.agrees honest_found agrees_found) [] (all_around here _ _ _ placed)
-    (map catalog_entry holds.kept) (stands_emptied here _ _ _ placed _ (same_catalog g at.After-replace_listing))
-    (subst (λ (n : List ℕ). IsSome (entry_with (map catalog_entry holds.kept) (padded_name n)))
+    (map (catalog_entry (mark_of c.args.pages.now)) holds.kept)
+    (stands_emptied here _ _ _ placed _ _ (same_mark g at.After-replace_listing)
+    (same_catalog g at.After-replace_listing))
+    (subst (λ (n : List ℕ).
+    IsSome (entry_with (map (catalog_entry (mark_of c.args.pages.now)) holds.kept) (padded_name n)))
     (sym c.deref-in-Some.ensures.value) (some_entry _ files holds c.args.file.now.name.items here.held
     c.args.file.now.named here.there)) (refused_by_call c.in_err-replace_listing-in-Some.was
     c.from_residual-in_err-replace_listing-in-Some.ensures.1 refused)
@@ -115,16 +122,18 @@ returns-in-Some-clause-will g c = λ honest agrees files holds.
     let here = found g at.After-clear_trees honest agrees files holds in
     let placed = cleared g at.After-replace_listing honest_found agrees_found here in
     let same = same_catalog g at.After-replace_listing in
+    let marked = same_mark g at.After-replace_listing in
+    let entries : List Entry = map (catalog_entry (mark_of c.args.pages.now)) holds.kept in
     let put = c.in_ok-replace_listing-in-Some.ensures.replaced (edits.only.honest.0 honest_found)
-    (edits.agrees honest_found agrees_found) [] (all_around here _ _ _ placed) (map catalog_entry holds.kept)
-    (stands_emptied here _ _ _ placed _ same) in
+    (edits.agrees honest_found agrees_found) [] (all_around here _ _ _ placed) entries
+    (stands_emptied here _ _ _ placed _ _ marked same) in
     made_there here _ _ _ placed c.args.file.now.sound c.args.pages.now c.replace_listing.new.pages
     (g.D.Device.state c.args.device.now).disk.present refl (committed g at.After-replace_listing)
-    (c.replace_listing.ensures.edits.catalog ∙ same) (catalog_put g.D.Device c.replace_listing.new.pages
-    c.args.device.now c.clear_trees.new.device (all_around here _ _ _ placed) _ _
-    (λ (k v : List ℕ). with_value (map catalog_entry holds.kept) (entry_as (padded_name k) v)) _ _ _ _
-    (edits.only.state honest_found ∙ c.find_listing.ensures.only.state honest) same c.deref-in-Some.ensures.value
-    c.deref-in-Some-2.ensures.value put)
+    (c.replace_listing.ensures.edits.catalog ∙ same) (catalog_put g.D.Device (mark_of c.args.pages.now)
+    c.replace_listing.new.pages c.args.device.now c.clear_trees.new.device (all_around here _ _ _ placed) _ _ _
+    (λ (m : ℕ) (k v : List ℕ). with_value entries (entry_as (padded_name k) (catalog_value m v 0))) _ _ _ _
+    (edits.only.state honest_found ∙ c.find_listing.ensures.only.state honest) marked same
+    c.deref-in-Some.ensures.value c.deref-in-Some-2.ensures.value put)
 
 pub returns-in-Some-clause-full : goal.returns-in-Some-clause-full
 returns-in-Some-clause-full g c = λ honest agrees files holds rested full.
@@ -171,13 +180,16 @@ returns-in_err-add_listing-in-None-clause-room g c = λ honest agrees files hold
 pub returns-in_err-add_listing-in-None-clause-damaged : goal.returns-in_err-add_listing-in-None-clause-damaged
 returns-in_err-add_listing-in-None-clause-damaged g c = λ honest agrees files holds refused.
     let at = (goal.at.returns-in_err-add_listing-in-None-clause-damaged g c).After-add_listing in
-    let entry_at : List ℕ → Option Entry = λ n. entry_with (map catalog_entry holds.kept) (padded_name n) in
-    let told : c.in_ok-entry.field-0 ≡ entry_at c.args.file.now.name.items =
-    c.in_ok-entry.ensures.entry honest agrees files holds ∙ ap entry_at c.deref.ensures.value in
+    let entry_at : ℕ → List ℕ → Option Entry =
+    λ mark n. entry_with (map (catalog_entry mark) holds.kept) (padded_name n) in
+    let told : c.in_ok-entry.field-0 ≡ entry_at (mark_of c.args.pages.now) c.args.file.now.name.items =
+    c.in_ok-entry.ensures.entry honest agrees files holds
+    ∙ ap (entry_at (mark_of c.args.pages.now)) c.deref.ensures.value in
     c.add_listing.ensures.damaged (c.find_listing.ensures.only.honest.0 honest)
     (c.find_listing.ensures.agrees honest agrees) files (held_still g at honest files holds)
-    (ap entry_at c.deref-in-None.ensures.value ∙ sym told ∙ c.in-None.is) (refused_by_call
-    c.in_err-add_listing-in-None.was c.from_residual-in_err-add_listing-in-None.ensures.1 refused)
+    (ap (λ (m : ℕ). entry_at m c.deref-in-None.result.now) c.find_listing.ensures.unchanged.committed.mark
+    ∙ ap (entry_at (mark_of c.args.pages.now)) c.deref-in-None.ensures.value ∙ sym told ∙ c.in-None.is)
+    (refused_by_call c.in_err-add_listing-in-None.was c.from_residual-in_err-add_listing-in-None.ensures.1 refused)
 
 pub returns-clause-will : goal.returns-clause-will
 returns-clause-will g c = λ honest agrees files holds.
@@ -185,10 +197,12 @@ returns-clause-will g c = λ honest agrees files holds.
     let honest_found = c.find_listing.ensures.only.honest.0 honest in
     let agrees_found = c.find_listing.ensures.agrees honest agrees in
     let here = held_still g at honest files holds in
-    let entries : List Entry = map catalog_entry holds.kept in
-    let put = catalog_put g.D.Device c.add_listing.new.pages c.args.device.now c.find_listing.new.device
-    (flat_map trees_of holds.kept) _ _ (λ (k v : List ℕ). with_new_entry entries (entry_as (padded_name k) v)) _ _ _ _
-    (c.find_listing.ensures.only.state honest) refl c.deref-in-None.ensures.value c.deref-in-None-2.ensures.value
+    let later : ℕ → List ℕ → List ℕ → List Entry =
+    λ m k v. with_new_entry (map (catalog_entry m) holds.kept) (entry_as (padded_name k) (catalog_value m v 0)) in
+    let put = catalog_put g.D.Device (mark_of c.args.pages.now) c.add_listing.new.pages c.args.device.now
+    c.find_listing.new.device (flat_map trees_of holds.kept) _ _ _ later _ _ _ _
+    (c.find_listing.ensures.only.state honest) c.find_listing.ensures.unchanged.committed.mark refl
+    c.deref-in-None.ensures.value c.deref-in-None-2.ensures.value
     (c.in_ok-add_listing-in-None.ensures.added honest_found agrees_found files here) in
     made_new c.args.pages.now c.add_listing.new.pages (g.D.Device.state c.args.device.now).disk.present files holds
     c.args.file.now.name.items (spec_of c.args.file.now) c.args.file.now.named c.args.file.now.sound

@@ -1,4 +1,4 @@
-use Rattle.std.proofs.Common.{◌≡◌, List, ℕ, true, false, sym, ap, subst, ◌∙◌}
+use Rattle.std.proofs.Common.{List, ℕ, true, false, sym, ap, subst, ◌∙◌}
 use Rattle.std.specs.Prelude.{take, IfErr}
 use Rattle.pages.specs.Image.{Map}
 use Rattle.pages.specs.Pages.{map_now}
@@ -36,8 +36,8 @@ returns-then-says-clause-presence g c = λ honest agrees files holds.
     (c.in_ok-entry.ensures.listed honest agrees files holds) in
     present_by true m (file_at c.args.file.now.name.items files) c.in_ok-entry.field-0 c.in-Some.entry spec
     c.args.file.now.sound listed c.in-Some.is
-    (ap (λ (v : List ℕ). same_bytes (take 43 v) (spec_bytes spec)) (sym c.value.ensures)
-    ∙ ap (λ (l : List ℕ). same_bytes (take 43 c.value.result.now) l)
+    (ap (λ (v : List ℕ). same_bytes (take 43 v) (spec_bytes spec)) (sym c.listing_part.ensures.part)
+    ∙ ap (λ (l : List ℕ). same_bytes (take 43 c.listing_part.result.now) l)
     (sym (c.deref-2.ensures.value ∙ c.in_ok-spec.ensures.bytes))
     ∙ sym c.says.ensures ∙ c.if-says.true)
 
@@ -49,8 +49,8 @@ returns-clause-presence g c = λ honest agrees files holds.
     (c.in_ok-entry.ensures.listed honest agrees files holds) in
     present_by false m (file_at c.args.file.now.name.items files) c.in_ok-entry.field-0 c.in-Some.entry spec
     c.args.file.now.sound listed c.in-Some.is
-    (ap (λ (v : List ℕ). same_bytes (take 43 v) (spec_bytes spec)) (sym c.value.ensures)
-    ∙ ap (λ (l : List ℕ). same_bytes (take 43 c.value.result.now) l)
+    (ap (λ (v : List ℕ). same_bytes (take 43 v) (spec_bytes spec)) (sym c.listing_part.ensures.part)
+    ∙ ap (λ (l : List ℕ). same_bytes (take 43 c.listing_part.result.now) l)
     (sym (c.deref-2.ensures.value ∙ c.in_ok-spec.ensures.bytes))
     ∙ sym c.says.ensures ∙ c.if-says.false)
 

@@ -1,4 +1,3 @@
-use Rattle.std.proofs.Common.{◌≡◌}
 use Rattle.alternate_keys.proofs.Faults.{refused_by_call}
 use Rattle.alternate_keys.proofs.found_rows.is_repeated.Goals as goal
 

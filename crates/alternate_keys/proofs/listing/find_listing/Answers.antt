@@ -17,23 +17,27 @@ returns-in-Ok-clause-listed g c = λ honest agrees files holds.
     let m : Map = map_now c.args.pages.now (g.D.Device.state c.args.device.now).disk.present in
     let tree : RootedTree = c.catalog_tree-catalog.result in
     let root : tree.root ≡ m.catalog = c.catalog_tree-catalog.ensures.root ∙ c.catalog.ensures in
+    let layout : tree.layout ≡ catalog_layout m.mark =
+    c.catalog_tree-catalog.ensures.layout ∙ ap catalog_layout c.mark.ensures.is in
     let levels = holds.keeps.catalog in
     listed m files c.args.name.now c.in-Ok.entry c.requires.name holds
     (c.in-Ok.ensures.entry honest agrees levels
-    (catalog_holds m files holds tree c.catalog_tree-catalog.ensures.layout root)
-    ∙ ap (λ (l : RowLayout). entry_with (entries_of l levels) c.pad_name.result) c.catalog_tree-catalog.ensures.layout
-    ∙ ap (entry_with (entries_of catalog_layout levels)) c.pad_name.ensures)
+    (catalog_holds m files holds tree layout root)
+    ∙ ap (λ (l : RowLayout). entry_with (entries_of l levels) c.pad_name.result) layout
+    ∙ ap (entry_with (entries_of (catalog_layout m.mark) levels)) c.pad_name.ensures)
 
 pub returns-in-Ok-clause-entry : goal.returns-in-Ok-clause-entry
 returns-in-Ok-clause-entry g c = λ honest agrees files holds.
     let m : Map = map_now c.args.pages.now (g.D.Device.state c.args.device.now).disk.present in
     let tree : RootedTree = c.catalog_tree-catalog.result in
     let root : tree.root ≡ m.catalog = c.catalog_tree-catalog.ensures.root ∙ c.catalog.ensures in
+    let layout : tree.layout ≡ catalog_layout m.mark =
+    c.catalog_tree-catalog.ensures.layout ∙ ap catalog_layout c.mark.ensures.is in
     let levels = holds.keeps.catalog in
     c.in-Ok.ensures.entry honest agrees levels
-    (catalog_holds m files holds tree c.catalog_tree-catalog.ensures.layout root)
-    ∙ ap (λ (l : RowLayout). entry_with (entries_of l levels) c.pad_name.result) c.catalog_tree-catalog.ensures.layout
-    ∙ ap (entry_with (entries_of catalog_layout levels)) c.pad_name.ensures
+    (catalog_holds m files holds tree layout root)
+    ∙ ap (λ (l : RowLayout). entry_with (entries_of l levels) c.pad_name.result) layout
+    ∙ ap (entry_with (entries_of (catalog_layout m.mark) levels)) c.pad_name.ensures
     ∙ ap (λ (es : List Entry). entry_with es (padded_name c.args.name.now)) holds.keeps.listed
 
 pub returns-in-Err-clause-damaged : goal.returns-in-Err-clause-damaged
@@ -41,7 +45,9 @@ returns-in-Err-clause-damaged g c = λ honest agrees files holds is.
     let m : Map = map_now c.args.pages.now (g.D.Device.state c.args.device.now).disk.present in
     let tree : RootedTree = c.catalog_tree-catalog.result in
     let root : tree.root ≡ m.catalog = c.catalog_tree-catalog.ensures.root ∙ c.catalog.ensures in
+    let layout : tree.layout ≡ catalog_layout m.mark =
+    c.catalog_tree-catalog.ensures.layout ∙ ap catalog_layout c.mark.ensures.is in
     let told : c.to_fault.result ≡ Damaged = cc in
     let fault : c.in-Err.error ≡ pages.Damaged = damaged_back c.in-Err.error (sym c.to_fault.ensures ∙ told) in
     c.in-Err.ensures.damaged honest agrees (ap Err fault) holds.keeps.catalog
-    (catalog_holds m files holds tree c.catalog_tree-catalog.ensures.layout root)
+    (catalog_holds m files holds tree layout root)

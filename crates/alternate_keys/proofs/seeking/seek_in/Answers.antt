@@ -40,9 +40,9 @@ knows g c honest agrees files held holds has =
       good = c.args.file.now.sound;
       key_is = c.requires.key;
       prime_layout = c.file_tree-prime.ensures.layout;
-      prime_root = c.file_tree-prime.ensures.root ∙ ap (root_in Prime) c.value.ensures;
+      prime_root = c.file_tree-prime.ensures.root ∙ ap (root_in Prime) c.listing_part.ensures.part;
       under_layout = c.file_tree-under.ensures.layout;
-      under_root = c.file_tree-under.ensures.root ∙ ap (root_in c.args.key) c.value-2.ensures;
+      under_root = c.file_tree-under.ensures.root ∙ ap (root_in c.args.key) c.listing_part-2.ensures.part;
     }
 
 -- the row is sought in them

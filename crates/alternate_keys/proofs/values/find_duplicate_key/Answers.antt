@@ -6,7 +6,6 @@ use Rattle.std.proofs.lemmas.List.{get_or_read}
 use Rattle.station.specs.Disk.{Sector}
 use Rattle.records.specs.declared.answer.Outcome.{Outcome}
 use Rattle.records.specs.declared.answer.Outcome.TheVariants.{Taken}
-use Rattle.records.specs.declared.fault.StoreFault.TheVariants.{Device}
 use Rattle.records.specs.declared.file_spec.AlternateKey.{AlternateKey}
 use Rattle.records.specs.declared.key.KeyOfReference.TheVariants.{Alternate}
 use Rattle.records.specs.Spec.{Spec}

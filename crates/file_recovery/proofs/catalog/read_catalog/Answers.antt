@@ -28,16 +28,17 @@ both_if_ok (Err e) P Q R from one two = tt
 
 -- a tree of the catalog's layout and root, as the map has it
 named_catalog : (m : Map) (tree : RootedTree) (levels : List (List TreeNode))
-    → tree.layout ≡ catalog_layout → tree.root ≡ m.catalog → IsTreeOrEmpty tree.layout m.pages tree.root levels
-    → IsTreeOrEmpty catalog_layout m.pages m.catalog levels
+    → tree.layout ≡ catalog_layout m.mark → tree.root ≡ m.catalog → IsTreeOrEmpty tree.layout m.pages tree.root levels
+    → IsTreeOrEmpty (catalog_layout m.mark) m.pages m.catalog levels
 named_catalog m tree levels layout root holds = subst (λ (l : RowLayout). IsTreeOrEmpty l m.pages m.catalog levels)
     layout (subst (λ (r : ℕ). IsTreeOrEmpty tree.layout m.pages r levels) root holds)
 
 catalog_named : (m : Map) (tree : RootedTree) (levels : List (List TreeNode))
-    → tree.layout ≡ catalog_layout → tree.root ≡ m.catalog → IsTreeOrEmpty catalog_layout m.pages m.catalog levels
+    → tree.layout ≡ catalog_layout m.mark → tree.root ≡ m.catalog
+    → IsTreeOrEmpty (catalog_layout m.mark) m.pages m.catalog levels
     → IsTreeOrEmpty tree.layout m.pages tree.root levels
 catalog_named m tree levels layout root holds = subst (λ (l : RowLayout). IsTreeOrEmpty l m.pages tree.root levels)
-    (sym layout) (subst (λ (r : ℕ). IsTreeOrEmpty catalog_layout m.pages r levels) (sym root) holds)
+    (sym layout) (subst (λ (r : ℕ). IsTreeOrEmpty (catalog_layout m.mark) m.pages r levels) (sym root) holds)
 
 pub returns-clause-looks : goal.returns-clause-looks
 returns-clause-looks g c =
@@ -46,11 +47,16 @@ returns-clause-looks g c =
     c.check_pages.new.device c.read_files.new.device
     (λ is. inr is) c.check_pages.ensures.looks c.read_files.ensures.looks
 
+pub read_files-requires-clause-layout : goal.read_files-requires-clause-layout
+read_files-requires-clause-layout g c = c.catalog_tree-catalog.ensures.layout
+    ∙ ap catalog_layout (c.mark.ensures.is ∙ sym c.check_pages.ensures.looks.unchanged.committed.mark)
+
 pub returns-clause-files : goal.returns-clause-files
 returns-clause-files g c = λ honest agrees.
     let m : Map = map_now c.args.pages.now (g.D.Device.state c.args.device.now).disk.present in
     let tree : RootedTree = c.catalog_tree-catalog.result in
-    let layout : tree.layout ≡ catalog_layout = c.catalog_tree-catalog.ensures.layout in
+    let layout : tree.layout ≡ catalog_layout m.mark =
+    c.catalog_tree-catalog.ensures.layout ∙ ap catalog_layout c.mark.ensures.is in
     let root : tree.root ≡ m.catalog = c.catalog_tree-catalog.ensures.root ∙ c.catalog.ensures in
     let looks = c.check_pages.ensures.looks in
     let found = c.in_ok-check_pages.ensures.holds honest agrees in
@@ -67,9 +73,12 @@ returns-clause-files g c = λ honest agrees.
     finds_catalog m c.args.generation found.levels (files_of files.items) c.args.seen.now mid new
     (named_catalog m tree found.levels layout root found.holds) found.marks (omega (arith, few, many))
     (subst (λ (l : RowLayout).
-    FindsFiles m.pages c.args.generation (entries_of l found.levels) (files_of files.items) mid new) layout
-    (subst (λ (p : List (Option Sector)). FindsFiles p c.args.generation (entries_of tree.layout found.levels)
-    (files_of files.items) mid new) same finds)))
+    FindsFiles m.mark m.pages c.args.generation (entries_of l found.levels) (files_of files.items) mid new) layout
+    (subst (λ (p : List (Option Sector)). FindsFiles m.mark p c.args.generation (entries_of tree.layout found.levels)
+    (files_of files.items) mid new) same
+    (subst (λ (n : ℕ). FindsFiles n (map_now c.check_pages.new.pages (g.D.Device.state
+    c.check_pages.new.device).disk.present).pages c.args.generation (entries_of tree.layout found.levels)
+    (files_of files.items) mid new) looks.unchanged.committed.mark finds))))
     c.read_files.ensures.few
     (c.read_files.ensures.files (looks.only.honest.0 honest) (looks.agrees honest agrees) found.levels there_now)
 
@@ -77,7 +86,8 @@ pub returns-clause-damaged : goal.returns-clause-damaged
 returns-clause-damaged g c = λ honest agrees told catalog kept is can.
     let m : Map = map_now c.args.pages.now (g.D.Device.state c.args.device.now).disk.present in
     let tree : RootedTree = c.catalog_tree-catalog.result in
-    let layout : tree.layout ≡ catalog_layout = c.catalog_tree-catalog.ensures.layout in
+    let layout : tree.layout ≡ catalog_layout m.mark =
+    c.catalog_tree-catalog.ensures.layout ∙ ap catalog_layout c.mark.ensures.is in
     let root : tree.root ≡ m.catalog = c.catalog_tree-catalog.ensures.root ∙ c.catalog.ensures in
     let looks = c.check_pages.ensures.looks in
     let found = c.in_ok-check_pages.ensures.holds honest agrees in
@@ -87,7 +97,7 @@ returns-clause-damaged g c = λ honest agrees told catalog kept is can.
     c.requires.open c.requires.unspent).1 in
     let small : length m.pages ≤ 2 ^ 20 = omega (arith, few) in
     let grows = catalog_grows m c.args.generation catalog kept is in
-    let levels : found.levels ≡ catalog = one_tree catalog_layout m.pages m.catalog found.levels catalog small
+    let levels : found.levels ≡ catalog = one_tree (catalog_layout m.mark) m.pages m.catalog found.levels catalog small
     (named_catalog m tree found.levels layout root found.holds) grows in
     let mid = c.check_pages.new.seen in
     let marks = subst (λ (l : List (List TreeNode)). Marks c.args.seen.now (pages_of l) mid) levels found.marks in
@@ -95,8 +105,11 @@ returns-clause-damaged g c = λ honest agrees told catalog kept is can.
     (catalog_named m tree catalog layout root grows) in
     let never =
     c.read_files.ensures.damaged (looks.only.honest.0 honest) (looks.agrees honest agrees) catalog there_now told in
-    let none = subst (λ (l : RowLayout). NoFiles m.pages c.args.generation (entries_of l catalog) mid) layout (subst
-    (λ (p : List (Option Sector)). NoFiles p c.args.generation (entries_of tree.layout catalog) mid) same never) in
+    let none = subst (λ (l : RowLayout). NoFiles m.mark m.pages c.args.generation (entries_of l catalog) mid) layout
+    (subst (λ (p : List (Option Sector)). NoFiles m.mark p c.args.generation (entries_of tree.layout catalog) mid) same
+    (subst (λ (n : ℕ). NoFiles n (map_now c.check_pages.new.pages (g.D.Device.state
+    c.check_pages.new.device).disk.present).pages c.args.generation (entries_of tree.layout catalog) mid)
+    looks.unchanged.committed.mark never)) in
     none kept (catalog_found m c.args.generation catalog kept is) is.few
     (can_after c.args.seen.now mid (pages_of catalog) (pages_of_files kept) marks can)
 
@@ -107,7 +120,8 @@ returns-in_err-check_pages-clause-damaged g c = λ honest agrees refused catalog
     let told : c.check_pages.result ≡ Err Damaged = c.in_err-check_pages.was ∙ ap Err fault in
     let m : Map = map_now c.args.pages.now (g.D.Device.state c.args.device.now).disk.present in
     let tree : RootedTree = c.catalog_tree-catalog.result in
-    let there = catalog_named m tree catalog c.catalog_tree-catalog.ensures.layout
+    let there = catalog_named m tree catalog
+    (c.catalog_tree-catalog.ensures.layout ∙ ap catalog_layout c.mark.ensures.is)
     (c.catalog_tree-catalog.ensures.root ∙ c.catalog.ensures) (catalog_grows m c.args.generation catalog kept is) in
     c.check_pages.ensures.damaged honest agrees told catalog there
     (can_left c.args.seen.now (pages_of catalog) (pages_of_files kept) can).unmarked

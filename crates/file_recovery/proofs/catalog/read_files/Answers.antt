@@ -1,6 +1,7 @@
 use Rattle.std.proofs.Common.{◌≡◌, ◌+◌, inr, ℕ, suc, List, Err, length, take, sym, ap, subst, ◌∙◌, arith}
 use Rattle.std.specs.Prelude.{Option, Some, None, IfSome}
 use Rattle.station.specs.Disk.{Sector}
+use Rattle.pages.specs.Pages.{mark_of}
 use Rattle.btree_pages.specs.declared.row_layout.RowLayout.{RowLayout}
 use Rattle.btree.specs.Calls.{pages_on}
 use Rattle.btree.specs.Entries.{Entry, HasLengths, entries_of}
@@ -9,6 +10,7 @@ use Rattle.btree.proofs.There.{tree_ascends}
 use Rattle.file_bytes.specs.declared.stored.StoredFile.{StoredFile}
 use Rattle.records.specs.declared.fault.StoreFault.TheVariants.{Device, Damaged}
 use Rattle.records.specs.Files.{Files}
+use Rattle.volume_format.specs.Catalog.{catalog_layout}
 use Rattle.file_recovery.specs.Kept.{FindsFile, NoFile}
 use Rattle.file_recovery.specs.Listed.{FindsFiles}
 use Rattle.file_bytes.specs.Stored.{files_of}
@@ -29,16 +31,19 @@ loop-turn-init g c =
       lengths = c.in_ok-next.ensures.lengths;
       next_is = λ honest agrees levels holds. c.in_ok-next.ensures.entry honest agrees levels holds
           ∙ first_at (entries_of c.args.catalog.now.layout levels);
-      found = λ honest agrees levels holds. subst (λ (f : Files). FindsFiles before
+      found = λ honest agrees levels holds. subst (λ (f : Files). FindsFiles (mark_of c.args.pages.now) before
           c.args.generation (take 0 (entries_of c.args.catalog.now.layout levels)) f c.args.seen.now c.args.seen.now)
-          (sym (ap files_of c.new-files.ensures.items)) (no_files before c.args.generation c.args.seen.now);
+          (sym (ap files_of c.new-files.ensures.items))
+          (no_files (mark_of c.args.pages.now) before c.args.generation c.args.seen.now);
       rest = λ honest agrees levels holds.
-          at_first before c.args.generation (entries_of c.args.catalog.now.layout levels) c.args.seen.now;
+          at_first (mark_of c.args.pages.now) before c.args.generation (entries_of c.args.catalog.now.layout levels)
+          c.args.seen.now;
     }
 
 pub add_file-requires-clause-lengths : goal.add_file-requires-clause-lengths
 add_file-requires-clause-lengths g c =
-    subst (λ (l : RowLayout). HasLengths l c.in-Some.entry) c.requires.layout
+    subst (λ (l : RowLayout). HasLengths l c.in-Some.entry)
+    (c.requires.layout ∙ ap catalog_layout (sym c.loop-turn.invariant.looks.unchanged.committed.mark))
     (subst (λ (o : Option Entry). IfSome o (HasLengths c.args.catalog.now.layout)) c.in-Some.is
     c.loop-turn.invariant.lengths)
 
@@ -75,11 +80,14 @@ loop-turn-preserved g c =
           let is : entry_at loop._turn entries ≡ Some c.in-Some.entry =
           sym (loop.invariant.next_is honest agrees levels holds) ∙ c.in-Some.is in
           let adds = c.in_ok-add_file-in-Some.ensures.file (looks.only.honest.0 honest) (looks.agrees honest agrees) in
-          let finds = subst (λ (p : List (Option Sector)).
-          FindsFile p c.args.generation c.in-Some.entry adds.one loop.seen c.add_file.new.seen) same adds.finds in
-          subst (λ (f : Files). FindsFiles before c.args.generation (take (loop._turn + 1) entries) f c.args.seen.now
+          let finds = subst (λ (p : List (Option Sector)). FindsFile (mark_of c.args.pages.now) p c.args.generation
+          c.in-Some.entry adds.one loop.seen c.add_file.new.seen) same (subst (λ (n : ℕ). FindsFile n (pages_on
+          g.D.Device loop.pages loop.device) c.args.generation c.in-Some.entry adds.one loop.seen c.add_file.new.seen)
+          looks.unchanged.committed.mark adds.finds) in
+          subst (λ (f : Files). FindsFiles (mark_of c.args.pages.now) before c.args.generation
+          (take (loop._turn + 1) entries) f c.args.seen.now
           c.add_file.new.seen) (sym adds.added)
-          (one_more_file before c.args.generation entries loop._turn
+          (one_more_file (mark_of c.args.pages.now) before c.args.generation entries loop._turn
           c.in-Some.entry (files_of loop.files.items) adds.one c.args.seen.now loop.seen c.add_file.new.seen is
           (loop.invariant.found honest agrees levels holds) finds);
       rest = λ honest agrees levels holds.
@@ -88,11 +96,14 @@ loop-turn-preserved g c =
           let is : entry_at loop._turn entries ≡ Some c.in-Some.entry =
           sym (loop.invariant.next_is honest agrees levels holds) ∙ c.in-Some.is in
           let adds = c.in_ok-add_file-in-Some.ensures.file (looks.only.honest.0 honest) (looks.agrees honest agrees) in
-          let finds = subst (λ (p : List (Option Sector)).
-          FindsFile p c.args.generation c.in-Some.entry adds.one loop.seen c.add_file.new.seen) same adds.finds in
+          let finds = subst (λ (p : List (Option Sector)). FindsFile (mark_of c.args.pages.now) p c.args.generation
+          c.in-Some.entry adds.one loop.seen c.add_file.new.seen) same (subst (λ (n : ℕ). FindsFile n (pages_on
+          g.D.Device loop.pages loop.device) c.args.generation c.in-Some.entry adds.one loop.seen c.add_file.new.seen)
+          looks.unchanged.committed.mark adds.finds) in
           let few = (c.map_bounds.ensures.open c.args.pages.now (g.D.Device.state c.args.device.now).disk.present
           c.requires.open c.requires.unspent).1 in
-          goes_on before c.args.generation entries loop._turn c.in-Some.entry is adds.one c.args.seen.now loop.seen
+          goes_on (mark_of c.args.pages.now) before c.args.generation entries loop._turn c.in-Some.entry is adds.one
+          c.args.seen.now loop.seen
           c.add_file.new.seen (omega (arith, few)) (loop.invariant.rest honest agrees levels holds) finds;
     }
 
@@ -103,7 +114,8 @@ returns-in-None-clause-files g c = λ honest agrees levels holds.
     let entries : List Entry = entries_of c.args.catalog.now.layout levels in
     let none : entry_at loop._turn entries ≡ None =
     sym (loop.invariant.next_is honest agrees levels holds) ∙ c.in-None.is in
-    subst (λ (es : List Entry). FindsFiles before c.args.generation es (files_of loop.files.items) c.args.seen.now
+    subst (λ (es : List Entry).
+    FindsFiles (mark_of c.args.pages.now) before c.args.generation es (files_of loop.files.items) c.args.seen.now
     loop.seen) (taken_all entries loop._turn none) (loop.invariant.found honest agrees levels holds)
 
 pub returns-in_err-next-clause-damaged : goal.returns-in_err-next-clause-damaged
@@ -136,9 +148,12 @@ returns-in_err-add_file-in-Some-clause-damaged g c = λ honest agrees levels hol
     let is : entry_at loop._turn entries ≡ Some c.in-Some.entry =
     sym (loop.invariant.next_is honest agrees levels holds) ∙ c.in-Some.is in
     let never = c.add_file.ensures.damaged (looks.only.honest.0 honest) (looks.agrees honest agrees) told in
-    none_here before c.args.generation entries loop._turn c.in-Some.entry is c.args.seen.now loop.seen
+    none_here (mark_of c.args.pages.now) before c.args.generation entries loop._turn c.in-Some.entry is c.args.seen.now
+    loop.seen
     (loop.invariant.rest honest agrees levels holds)
-    (subst (λ (p : List (Option Sector)). NoFile p c.args.generation c.in-Some.entry loop.seen) same never)
+    (subst (λ (p : List (Option Sector)). NoFile (mark_of c.args.pages.now) p c.args.generation c.in-Some.entry
+    loop.seen) same (subst (λ (n : ℕ). NoFile n (pages_on g.D.Device loop.pages loop.device) c.args.generation
+    c.in-Some.entry loop.seen) looks.unchanged.committed.mark never))
 
 pub returns-in_err-next-in-Some-clause-looks : goal.returns-in_err-next-in-Some-clause-looks
 returns-in_err-next-in-Some-clause-looks g c =
@@ -172,7 +187,8 @@ pub returns-in-Some-next-clause-damaged : goal.returns-in-Some-next-clause-damag
 returns-in-Some-next-clause-damaged g c = λ honest agrees levels holds told.
     let loop = c.loop-turn in
     let before : List (Option Sector) = pages_on g.D.Device c.args.pages.now c.args.device.now in
-    too_many before c.args.generation (entries_of c.args.catalog.now.layout levels) loop._turn _
+    too_many (mark_of c.args.pages.now) before c.args.generation (entries_of c.args.catalog.now.layout levels)
+    loop._turn _
     (sym (loop.invariant.next_is honest agrees levels holds) ∙ c.in-Some-next.is) c.args.seen.now c.loop-turn-test.false
 
 pub returns-in-None-next-clause-files : goal.returns-in-None-next-clause-files
@@ -182,5 +198,6 @@ returns-in-None-next-clause-files g c = λ honest agrees levels holds.
     let entries : List Entry = entries_of c.args.catalog.now.layout levels in
     let none : entry_at loop._turn entries ≡ None =
     sym (loop.invariant.next_is honest agrees levels holds) ∙ c.in-None-next.is in
-    subst (λ (es : List Entry). FindsFiles before c.args.generation es (files_of loop.files.items) c.args.seen.now
+    subst (λ (es : List Entry).
+    FindsFiles (mark_of c.args.pages.now) before c.args.generation es (files_of loop.files.items) c.args.seen.now
     loop.seen) (taken_all entries loop._turn none) (loop.invariant.found honest agrees levels holds)

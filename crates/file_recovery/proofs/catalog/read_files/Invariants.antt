@@ -1,5 +1,6 @@
 use Rattle.std.proofs.Common.{◌≡◌, length, take}
 use Rattle.std.specs.Prelude.{IfSome}
+use Rattle.pages.specs.Pages.{mark_of}
 use Rattle.btree.specs.Calls.{OnTree, pages_on}
 use Rattle.btree.specs.Entries.{HasLengths, entries_of}
 use Rattle.volume_format.specs.Calls.{LooksAt}
@@ -17,8 +18,10 @@ invariant-loop-turn g l = record {
   next_is : OnTree g.D.Device l.catalog.layout l.catalog.root l.fn.pages l.fn.device
       (λ levels. l.next ≡ entry_at l._turn (entries_of l.catalog.layout levels));
   found : OnTree g.D.Device l.catalog.layout l.catalog.root
-      l.fn.pages l.fn.device (λ levels. FindsFiles (pages_on g.D.Device l.fn.pages l.fn.device) l.generation
+      l.fn.pages l.fn.device
+      (λ levels. FindsFiles (mark_of l.fn.pages) (pages_on g.D.Device l.fn.pages l.fn.device) l.generation
       (take l._turn (entries_of l.catalog.layout levels)) (files_of l.files.items) l.fn.seen l.seen);
-  rest : OnTree g.D.Device l.catalog.layout l.catalog.root l.fn.pages l.fn.device (λ levels. CanGoOn (pages_on
+  rest : OnTree g.D.Device l.catalog.layout l.catalog.root l.fn.pages l.fn.device
+      (λ levels. CanGoOn (mark_of l.fn.pages) (pages_on
       g.D.Device l.fn.pages l.fn.device) l.generation (entries_of l.catalog.layout levels) l.fn.seen l._turn l.seen);
 }

@@ -3,7 +3,8 @@ use Rattle.std.specs.Prelude.{Option, Ok, map}
 use Rattle.std.specs.List.{All}
 use Rattle.byteorder.specs.Endian.{big_number}
 use Rattle.station.specs.Disk.{Sector}
-use Rattle.pages.specs.Pages.{map_now}
+use Rattle.std.proofs.lemmas.List.{length-map}
+use Rattle.pages.specs.Pages.{map_now, mark_of}
 use Rattle.btree_pages.specs.Keys.{Ascend}
 use Rattle.btree.specs.Entries.{Entry, entries_of}
 use Rattle.btree.specs.Laws.{keys_listed}
@@ -20,18 +21,75 @@ use Rattle.volume_format.specs.Trees.{entry_under, layout_under}
 use Rattle.volume_format.specs.Volume.{tree_levels}
 use Rattle.file_recovery.specs.Found.{FindsIndexes, NoIndexes}
 use Rattle.file_recovery.specs.Rows.{IsSized}
-use Rattle.file_bytes.specs.Stored.{rows_of}
+use Rattle.file_bytes.specs.Stored.{row_of, rows_of}
 use Rattle.file_recovery.proofs.Ascents.{rows_ascend}
 use Rattle.volume_format.proofs.Looks.{looks_then}
 use Rattle.file_recovery.proofs.Calling.{pages_kept}
 use Rattle.file_recovery.proofs.Entered.{is_none}
+use Rattle.file_recovery.proofs.FirstMark.{without_count, counted_as, none_counted, none_miscounted, finds_counted}
 use Rattle.file_recovery.proofs.Headings.{heading_read, root_told}
 use Rattle.file_recovery.proofs.Kepts.{rows_sized, finds_file, own_listing, own_key, own_value, own_next}
-use Rattle.file_recovery.proofs.NoFiles.{no_tree_there, no_rows_there, no_pairs_there}
+use Rattle.file_recovery.proofs.NoFiles.{no_tree_there, no_rows_there, no_pairs_there, same_rows_there}
+use Rattle.file_recovery.proofs.checked_file.check_file.Given.{Over}
 use Rattle.file_recovery.proofs.checked_file.check_file.Goals as goal
+use Rattle.file_recovery.proofs.checked_file.check_file.Goals.{After-is_counted}
+
+-- the words for what is counted
+mark_read : (g : Over) (c : After-is_counted g) → c.mark.result ≡ mark_of c.args.pages.now
+mark_read g c = c.mark.ensures.is ∙ c.read_rows.ensures.looks.unchanged.committed.mark
+    ∙ c.check_pages.ensures.looks.unchanged.committed.mark
+
+rows_counted : (g : Over) (c : After-is_counted g) → c.len.result ≡ length (rows_of c.in_ok-rows.rows.items)
+rows_counted g c = let many = length-map c.in_ok-rows.rows.items row_of in omega
+    (arith, many, c.len.ensures, c.in_ok-rows.rows.ok)
+
+pub returns-then-not-is_counted-clause-damaged : goal.returns-then-not-is_counted-clause-damaged
+returns-then-not-is_counted-clause-damaged g c = λ honest agrees told.
+    let to = goal.at.returns-then-not-is_counted-clause-damaged g c in
+    let entry : Entry = without_count c.args.entry.now in
+    let file = c.in-Some.file in
+    let spec = spec_of file in
+    let before : List (Option Sector) =
+    (map_now c.args.pages.now (g.D.Device.state c.args.device.now).disk.present).pages in
+    let few = (c.map_bounds.ensures.open c.args.pages.now (g.D.Device.state c.args.device.now).disk.present
+    c.requires.open c.requires.unspent).1 in
+    let small : length before ≤ 2 ^ 20 = omega (arith, few) in
+    let heading = heading_read entry c.key.result.now c.listing_part-value.result.now c.key.ensures
+    c.listing_part-value.ensures.part c.args.generation c.in_ok-file.field-0 file c.next_arrival-next.result
+    c.in-Some.is c.in_ok-file.ensures.some c.next_arrival-next.ensures (c.is_next.ensures.yes c.if-not-is_next.false) in
+    let tree : RootedTree = c.new-tree.result in
+    let layout : tree.layout ≡ layout_under spec Prime =
+    c.new-tree.ensures.layout ∙ c.tree_layout-layout.ensures.layout in
+    let root = root_told entry c.key.result.now c.listing_part-value.result.now c.key.ensures
+    c.listing_part-value.ensures.part tree.root (c.new-tree.ensures.root ∙ c.prime_root.ensures) in
+    let one = c.check_pages.ensures.looks in
+    let same = pages_kept g.D.Device (c.check_pages.result ≡ Err Device) c.args.pages.now c.check_pages.new.pages
+    c.args.device.now c.check_pages.new.device one honest in
+    let found = c.in_ok-check_pages.ensures.holds honest agrees in
+    let there_now =
+    subst (λ (p : List (Option Sector)). IsTreeOrEmpty tree.layout p tree.root found.levels) (sym same) found.holds in
+    let rows = rows_of c.in_ok-rows.rows.items in
+    let listed : entries_of tree.layout found.levels ≡ map (entry_under spec Prime) rows =
+    c.in_ok-rows.ensures.rows (one.only.honest.0 honest) (one.agrees honest agrees) found.levels there_now in
+    let up : Ascend (keys_listed (map (entry_under spec Prime) rows)) = subst (λ (es : List Entry).
+    Ascend (keys_listed es)) listed (tree_ascends tree.layout before tree.root found.levels found.holds) in
+    let ascend = rows_ascend spec c.next_arrival-next.result file.sound heading.some (let low = heading.few in let few =
+    c.requires.generation in omega (arith, low, few)) rows c.in_ok-rows.ensures.are up in
+    none_miscounted rows c.args.seen.now (same_rows_there before c.args.generation entry small c.requires.generation
+    file.name.items spec c.next_arrival-next.result heading tree layout root rows found.levels found.holds listed
+    c.in_ok-rows.ensures.are ascend) (λ is. c.is_counted.ensures.no c.if-not-is_counted.true
+    (counted_as (sym c.value.ensures) (sym (mark_read g to.After-is_counted))
+    (sym (rows_counted g to.After-is_counted)) is))
+
+pub returns-then-not-is_counted-clause-looks : goal.returns-then-not-is_counted-clause-looks
+returns-then-not-is_counted-clause-looks g c =
+    looks_then g.D.Device (c.check_pages.result ≡ Err Device) (c.read_rows.result ≡ Err Device) _ c.args.pages.now
+    c.check_pages.new.pages c.read_rows.new.pages c.args.device.now c.check_pages.new.device c.read_rows.new.device
+    (λ is. let never : ⊥ = cc in absurd never) c.check_pages.ensures.looks c.read_rows.ensures.looks
 
 pub returns-in_default-clause-damaged : goal.returns-in_default-clause-damaged
-returns-in_default-clause-damaged g c = λ honest agrees told kept found can.
+returns-in_default-clause-damaged g c = λ honest agrees told. none_counted (λ kept found can.
+    let entry : Entry = without_count c.args.entry.now in
     let before : List (Option Sector) =
     (map_now c.args.pages.now (g.D.Device.state c.args.device.now).disk.present).pages in
     let few = (c.map_bounds.ensures.open c.args.pages.now (g.D.Device.state c.args.device.now).disk.present
@@ -39,32 +97,35 @@ returns-in_default-clause-damaged g c = λ honest agrees told kept found can.
     let small : length before ≤ 2 ^ 20 = omega (arith, few) in
     c.in_ok-file.ensures.none (ap (λ (o : Option FileSpec). Ok o) (is_none c.in_ok-file.field-0 c.in_default.not-Some))
     kept.named.name _ found.named.name
-    (own_listing before c.args.generation c.args.entry.now kept small c.requires.generation found)
-    (c.key.ensures ∙ own_key before c.args.generation c.args.entry.now kept small c.requires.generation found)
-    (c.value-value.ensures ∙ own_value before c.args.generation c.args.entry.now kept small c.requires.generation found)
+    (own_listing before c.args.generation entry kept small c.requires.generation found)
+    (c.key.ensures ∙ own_key before c.args.generation entry kept small c.requires.generation found)
+    (c.listing_part-value.ensures.part
+    ∙ own_value before c.args.generation entry kept small c.requires.generation found))
 
 pub returns-then-not-is_next-clause-damaged : goal.returns-then-not-is_next-clause-damaged
-returns-then-not-is_next-clause-damaged g c = λ honest agrees told kept found can.
+returns-then-not-is_next-clause-damaged g c = λ honest agrees told. none_counted (λ kept found can.
+    let entry : Entry = without_count c.args.entry.now in
     let before : List (Option Sector) =
     (map_now c.args.pages.now (g.D.Device.state c.args.device.now).disk.present).pages in
     let few = (c.map_bounds.ensures.open c.args.pages.now (g.D.Device.state c.args.device.now).disk.present
     c.requires.open c.requires.unspent).1 in
     let small : length before ≤ 2 ^ 20 = omega (arith, few) in
     let next : c.next_arrival-next.result ≡ kept.named.file.next_arrival =
-    c.next_arrival-next.ensures ∙ ap (λ (v : List ℕ). big_number 8 (drop 75 v)) c.value-value.ensures
-    ∙ sym (own_next before c.args.generation c.args.entry.now kept small c.requires.generation found) in
+    c.next_arrival-next.ensures ∙ ap (λ (v : List ℕ). big_number 8 (drop 75 v)) c.listing_part-value.ensures.part
+    ∙ sym (own_next before c.args.generation entry kept small c.requires.generation found) in
     let some = found.named.file.next in
     let low = found.is.arrivals in
-    c.is_next.ensures.no c.if-not-is_next.true (omega (arith, next, some)) (omega (arith, next, low))
+    c.is_next.ensures.no c.if-not-is_next.true (omega (arith, next, some)) (omega (arith, next, low)))
 
 pub returns-clause-file : goal.returns-clause-file
 returns-clause-file g c = λ honest agrees.
-    let entry : Entry = c.args.entry.now in
+    let entry : Entry = without_count c.args.entry.now in
     let file = c.in-Some.file in
     let spec = spec_of file in
     let before : List (Option Sector) =
     (map_now c.args.pages.now (g.D.Device.state c.args.device.now).disk.present).pages in
-    let heading = heading_read entry c.key.result.now c.value-value.result.now c.key.ensures c.value-value.ensures
+    let heading =
+    heading_read entry c.key.result.now c.listing_part-value.result.now c.key.ensures c.listing_part-value.ensures.part
     c.args.generation c.in_ok-file.field-0 file c.next_arrival-next.result c.in-Some.is c.in_ok-file.ensures.some
     c.next_arrival-next.ensures (c.is_next.ensures.yes c.if-not-is_next.false) in
     let tree : RootedTree = c.new-tree.result in
@@ -91,20 +152,25 @@ returns-clause-file g c = λ honest agrees.
     let indexes = c.in_ok-check_alternates.ensures.indexes passed (two.only.honest.0 (one.only.honest.0 honest))
     (two.agrees (one.only.honest.0 honest) (one.agrees honest agrees)) in
     let there = subst (λ (v : List ℕ). FindsIndexes before spec rows v (length spec.alternates) c.check_pages.new.seen
-    c.check_alternates.new.seen) c.value-value.ensures
-    (subst (λ (l : List StoredRow). FindsIndexes before spec (rows_of l) c.value-value.result.now
+    c.check_alternates.new.seen) c.listing_part-value.ensures.part
+    (subst (λ (l : List StoredRow). FindsIndexes before spec (rows_of l) c.listing_part-value.result.now
     (length spec.alternates) c.check_pages.new.seen c.check_alternates.new.seen) c.deref.ensures.value
-    (subst (λ (p : List (Option Sector)). FindsIndexes p spec (rows_of c.deref.result.now) c.value-value.result.now
+    (subst
+    (λ (p : List (Option Sector)). FindsIndexes p spec (rows_of c.deref.result.now) c.listing_part-value.result.now
     (length spec.alternates) c.check_pages.new.seen c.check_alternates.new.seen) (same_too ∙ same) indexes)) in
-    finds_file before c.args.generation entry file.name.items spec rows c.next_arrival-next.result
+    let finds = finds_file before c.args.generation entry file.name.items spec rows c.next_arrival-next.result
     (tree_levels tree found.levels) c.args.seen.now c.check_pages.new.seen c.check_alternates.new.seen heading layout
-    (root_told entry c.key.result.now c.value-value.result.now c.key.ensures c.value-value.ensures tree.root
+    (root_told entry c.key.result.now c.listing_part-value.result.now c.key.ensures c.listing_part-value.ensures.part
+    tree.root
     (c.new-tree.ensures.root ∙ c.prime_root.ensures))
-    found.holds found.marks listed c.in_ok-rows.ensures.are ascend there
+    found.holds found.marks listed c.in_ok-rows.ensures.are ascend there in
+    let to = goal.at.returns-clause-file g c in
+    finds_counted finds (counted_as c.value.ensures (mark_read g to.After-is_counted)
+    (rows_counted g to.After-is_counted) (c.is_counted.ensures.yes c.if-not-is_counted.false))
 
 pub returns-in_err-check_pages-clause-damaged : goal.returns-in_err-check_pages-clause-damaged
 returns-in_err-check_pages-clause-damaged g c = λ honest agrees refused.
-    let entry : Entry = c.args.entry.now in
+    let entry : Entry = without_count c.args.entry.now in
     let file = c.in-Some.file in
     let spec = spec_of file in
     let before : List (Option Sector) =
@@ -112,24 +178,26 @@ returns-in_err-check_pages-clause-damaged g c = λ honest agrees refused.
     let few = (c.map_bounds.ensures.open c.args.pages.now (g.D.Device.state c.args.device.now).disk.present
     c.requires.open c.requires.unspent).1 in
     let small : length before ≤ 2 ^ 20 = omega (arith, few) in
-    let heading = heading_read entry c.key.result.now c.value-value.result.now c.key.ensures c.value-value.ensures
+    let heading =
+    heading_read entry c.key.result.now c.listing_part-value.result.now c.key.ensures c.listing_part-value.ensures.part
     c.args.generation c.in_ok-file.field-0 file c.next_arrival-next.result c.in-Some.is c.in_ok-file.ensures.some
     c.next_arrival-next.ensures (c.is_next.ensures.yes c.if-not-is_next.false) in
     let tree : RootedTree = c.new-tree.result in
     let layout : tree.layout ≡ layout_under spec Prime =
     c.new-tree.ensures.layout ∙ c.tree_layout-layout.ensures.layout in
-    let root = root_told entry c.key.result.now c.value-value.result.now c.key.ensures c.value-value.ensures tree.root
+    let root = root_told entry c.key.result.now c.listing_part-value.result.now c.key.ensures
+    c.listing_part-value.ensures.part tree.root
     (c.new-tree.ensures.root ∙ c.prime_root.ensures) in
     let from = rw refused at c.from_residual-in_err-check_pages.ensures.1 in
     let fault : c.in_err-check_pages.field-0.0 ≡ Damaged = sym from in
     let told : c.check_pages.result ≡ Err Damaged = c.in_err-check_pages.was ∙ ap Err fault in
-    no_tree_there before c.args.generation entry small c.requires.generation file.name.items spec
+    none_counted (no_tree_there before c.args.generation entry small c.requires.generation file.name.items spec
     c.next_arrival-next.result heading tree layout root c.args.seen.now
-    (λ levels holds unmarked. c.check_pages.ensures.damaged honest agrees told levels holds unmarked)
+    (λ levels holds unmarked. c.check_pages.ensures.damaged honest agrees told levels holds unmarked))
 
 pub returns-in_err-rows-clause-damaged : goal.returns-in_err-rows-clause-damaged
 returns-in_err-rows-clause-damaged g c = λ honest agrees refused.
-    let entry : Entry = c.args.entry.now in
+    let entry : Entry = without_count c.args.entry.now in
     let file = c.in-Some.file in
     let spec = spec_of file in
     let before : List (Option Sector) =
@@ -137,13 +205,15 @@ returns-in_err-rows-clause-damaged g c = λ honest agrees refused.
     let few = (c.map_bounds.ensures.open c.args.pages.now (g.D.Device.state c.args.device.now).disk.present
     c.requires.open c.requires.unspent).1 in
     let small : length before ≤ 2 ^ 20 = omega (arith, few) in
-    let heading = heading_read entry c.key.result.now c.value-value.result.now c.key.ensures c.value-value.ensures
+    let heading =
+    heading_read entry c.key.result.now c.listing_part-value.result.now c.key.ensures c.listing_part-value.ensures.part
     c.args.generation c.in_ok-file.field-0 file c.next_arrival-next.result c.in-Some.is c.in_ok-file.ensures.some
     c.next_arrival-next.ensures (c.is_next.ensures.yes c.if-not-is_next.false) in
     let tree : RootedTree = c.new-tree.result in
     let layout : tree.layout ≡ layout_under spec Prime =
     c.new-tree.ensures.layout ∙ c.tree_layout-layout.ensures.layout in
-    let root = root_told entry c.key.result.now c.value-value.result.now c.key.ensures c.value-value.ensures tree.root
+    let root = root_told entry c.key.result.now c.listing_part-value.result.now c.key.ensures
+    c.listing_part-value.ensures.part tree.root
     (c.new-tree.ensures.root ∙ c.prime_root.ensures) in
     let from = rw refused at c.from_residual-in_err-rows.ensures.1 in
     let fault : c.in_err-rows.field-0.0 ≡ Damaged = sym from in
@@ -151,16 +221,16 @@ returns-in_err-rows-clause-damaged g c = λ honest agrees refused.
     let one = c.check_pages.ensures.looks in
     let same = pages_kept g.D.Device (c.check_pages.result ≡ Err Device) c.args.pages.now c.check_pages.new.pages
     c.args.device.now c.check_pages.new.device one honest in
-    no_rows_there before c.args.generation entry small c.requires.generation file.name.items spec
+    none_counted (no_rows_there before c.args.generation entry small c.requires.generation file.name.items spec
     c.next_arrival-next.result heading tree layout root c.args.seen.now
     (λ levels holds.
     let there_now =
     subst (λ (p : List (Option Sector)). IsTreeOrEmpty tree.layout p tree.root levels) (sym same) holds in
-    c.read_rows.ensures.damaged (one.only.honest.0 honest) (one.agrees honest agrees) levels there_now told)
+    c.read_rows.ensures.damaged (one.only.honest.0 honest) (one.agrees honest agrees) levels there_now told))
 
 pub returns-in_err-check_alternates-clause-damaged : goal.returns-in_err-check_alternates-clause-damaged
 returns-in_err-check_alternates-clause-damaged g c = λ honest agrees refused.
-    let entry : Entry = c.args.entry.now in
+    let entry : Entry = without_count c.args.entry.now in
     let file = c.in-Some.file in
     let spec = spec_of file in
     let before : List (Option Sector) =
@@ -168,13 +238,15 @@ returns-in_err-check_alternates-clause-damaged g c = λ honest agrees refused.
     let few = (c.map_bounds.ensures.open c.args.pages.now (g.D.Device.state c.args.device.now).disk.present
     c.requires.open c.requires.unspent).1 in
     let small : length before ≤ 2 ^ 20 = omega (arith, few) in
-    let heading = heading_read entry c.key.result.now c.value-value.result.now c.key.ensures c.value-value.ensures
+    let heading =
+    heading_read entry c.key.result.now c.listing_part-value.result.now c.key.ensures c.listing_part-value.ensures.part
     c.args.generation c.in_ok-file.field-0 file c.next_arrival-next.result c.in-Some.is c.in_ok-file.ensures.some
     c.next_arrival-next.ensures (c.is_next.ensures.yes c.if-not-is_next.false) in
     let tree : RootedTree = c.new-tree.result in
     let layout : tree.layout ≡ layout_under spec Prime =
     c.new-tree.ensures.layout ∙ c.tree_layout-layout.ensures.layout in
-    let root = root_told entry c.key.result.now c.value-value.result.now c.key.ensures c.value-value.ensures tree.root
+    let root = root_told entry c.key.result.now c.listing_part-value.result.now c.key.ensures
+    c.listing_part-value.ensures.part tree.root
     (c.new-tree.ensures.root ∙ c.prime_root.ensures) in
     let from = rw refused at c.from_residual-in_err-check_alternates.ensures.1 in
     let fault : c.in_err-check_alternates.field-0.0 ≡ Damaged = sym from in
@@ -199,15 +271,16 @@ returns-in_err-check_alternates-clause-damaged g c = λ honest agrees refused.
     subst (λ (l : List StoredRow). RowsAscend spec.organization (rows_of l)) (sym c.deref.ensures.value) ascend in
     let never = c.check_alternates.ensures.damaged passed (two.only.honest.0 (one.only.honest.0 honest))
     (two.agrees (one.only.honest.0 honest) (one.agrees honest agrees)) told in
-    no_pairs_there before c.args.generation entry small c.requires.generation file.name.items
+    none_counted (no_pairs_there before c.args.generation entry small c.requires.generation file.name.items
     spec c.next_arrival-next.result heading tree layout root c.args.seen.now c.check_pages.new.seen rows found.levels
     found.holds found.marks listed c.in_ok-rows.ensures.are ascend
     (subst (λ (v : List ℕ). NoIndexes before spec rows v (length spec.alternates) c.check_pages.new.seen)
-    c.value-value.ensures
-    (subst (λ (l : List StoredRow). NoIndexes before spec (rows_of l) c.value-value.result.now (length spec.alternates)
+    c.listing_part-value.ensures.part
+    (subst (λ (l : List StoredRow).
+    NoIndexes before spec (rows_of l) c.listing_part-value.result.now (length spec.alternates)
     c.check_pages.new.seen) c.deref.ensures.value
-    (subst (λ (p : List (Option Sector)). NoIndexes p spec (rows_of c.deref.result.now) c.value-value.result.now
-    (length spec.alternates) c.check_pages.new.seen) (same_too ∙ same) never)))
+    (subst (λ (p : List (Option Sector)). NoIndexes p spec (rows_of c.deref.result.now) c.listing_part-value.result.now
+    (length spec.alternates) c.check_pages.new.seen) (same_too ∙ same) never))))
 
 pub check_alternates-requires-clause-rows : goal.check_alternates-requires-clause-rows
 check_alternates-requires-clause-rows g c =

@@ -4,6 +4,7 @@ use Rattle.station.specs.State.{State}
 use Rattle.file_recovery.specs.Recovered.{RefusedTrees, IsReadCause}
 use Rattle.file_bytes.specs.Stored.{files_of}
 use Rattle.file_recovery.proofs.ReadTrees.{trees_there, no_trees, refused_of, cause_of}
+use Rattle.file_recovery.proofs.Reopened.{synced_then_read}
 use Rattle.file_recovery.proofs.TwoStores.{ok_so, trees_refused, trees_cause}
 use Rattle.file_recovery.proofs.recovering.recover_trees.Goals as goal
 
@@ -16,6 +17,12 @@ returns-in-Err-clause-refused g c = λ honest.
 pub returns-in-Err-clause-opens : goal.returns-in-Err-clause-opens
 returns-in-Err-clause-opens g c = λ honest files holds.
     subst IsReadCause (sym c.to_fault.ensures) (cause_of c.in-Err.error (c.in-Err.ensures.opens honest holds.0 holds.1))
+
+pub returns-clause-only : goal.returns-clause-only
+returns-clause-only g c =
+    let opened = c.in-Ok.ensures in
+    synced_then_read g.D.Device _ _ c.args.device.now c.open.new.device c.read_volume.new.device opened.honest
+    opened.sectors opened.failures opened.state c.read_volume.ensures.only
 
 pub returns-clause-holds : goal.returns-clause-holds
 returns-clause-holds g c = λ honest.

@@ -23,7 +23,8 @@ pub returns-in_err-draft-clause-moments : goal.returns-in_err-draft-clause-momen
 returns-in_err-draft-clause-moments g c = λ honest rests.
     let old = g.D.Device.state c.args.device.now in
     stays (g.D.Device.history c.args.device.now) old _ (at_rest (volume_of c.args.volume.now)
-    (next_map (map_of old.disk.present (volume_of c.args.volume.now)) c.args.changes.now c.args.catalog) old rests)
+    (next_map (map_of old.disk.present (volume_of c.args.volume.now)) c.args.changes.now c.args.mark c.args.catalog) old
+    rests)
 
 pub returns-in_err-two_phase_write-clause-moments : goal.returns-in_err-two_phase_write-clause-moments
 returns-in_err-two_phase_write-clause-moments g c = λ honest rests.
@@ -35,7 +36,8 @@ returns-in_err-two_phase_write-clause-moments g c = λ honest rests.
     weakens (g.D.Device.history c.args.device.now) (g.D.Device.history c.two_phase_write.new.device)
     (g.D.Device.state c.two_phase_write.new.device) _ _
     (amid_maps_as v w old.disk.present c.deref.result.now c.args.changes.now c.root_bytes_of-bytes.result rests.reads
-    plan c.root_bytes_of-bytes.ensures c.args.catalog c.in_ok-draft.ensures.next.catalog old.events)
+    plan c.root_bytes_of-bytes.ensures c.args.mark c.args.catalog c.in_ok-draft.ensures.next.mark
+    c.in_ok-draft.ensures.next.catalog old.events)
     (c.two_phase_write.ensures.moments honest rests.settled)
 
 pub returns-clause-moments : goal.returns-clause-moments
@@ -48,7 +50,8 @@ returns-clause-moments g c = λ honest rests.
     weakens (g.D.Device.history c.args.device.now) (g.D.Device.history c.two_phase_write.new.device)
     (g.D.Device.state c.two_phase_write.new.device) _ _
     (amid_maps_as v w old.disk.present c.deref.result.now c.args.changes.now c.root_bytes_of-bytes.result rests.reads
-    plan c.root_bytes_of-bytes.ensures c.args.catalog c.in_ok-draft.ensures.next.catalog old.events)
+    plan c.root_bytes_of-bytes.ensures c.args.mark c.args.catalog c.in_ok-draft.ensures.next.mark
+    c.in_ok-draft.ensures.next.catalog old.events)
     (c.two_phase_write.ensures.moments honest rests.settled)
 
 pub returns-clause-committed : goal.returns-clause-committed
@@ -70,7 +73,8 @@ returns-clause-map g c = λ honest rests.
     let plan : IsPlan v w c.deref.result.now c.args.changes.now = subst
     (λ (b : List Block). IsPlan v w b c.args.changes.now) (sym c.deref.ensures.value) c.in_ok-draft.ensures.plan in
     now_is_as v w old.disk.present c.deref.result.now c.args.changes.now c.root_bytes_of-bytes.result rests.reads
-    plan c.root_bytes_of-bytes.ensures c.args.catalog c.in_ok-draft.ensures.next.catalog
+    plan c.root_bytes_of-bytes.ensures c.args.mark c.args.catalog c.in_ok-draft.ensures.next.mark
+    c.in_ok-draft.ensures.next.catalog
     (g.D.Device.state c.two_phase_write.new.device).disk (c.in_ok-two_phase_write.ensures.durable honest)
 
 pub returns-clause-sound : goal.returns-clause-sound
@@ -79,6 +83,7 @@ returns-clause-sound g c =
     let marked : c.mark_turns.new.used ≡ use_after c.next_volume.new.volume.used c.in_ok-draft.draft.turns.items =
     c.mark_turns.ensures.used ∙ ap (use_after c.next_volume.new.volume.used) c.deref-2.ensures.value in
     record {
+      mark = after.mark;
       generation = after.generation;
       least = after.least;
       most = after.most;

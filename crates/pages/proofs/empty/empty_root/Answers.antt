@@ -10,5 +10,11 @@ returns c =
     let cut : take c.map_count_of.result blanks ≡ replicate (map_count c.args.sectors) 0
     = ap (λ (n : ℕ). take n blanks) c.map_count_of.ensures
     ∙ take-replicate {X = ℕ} (map_count c.args.sectors) 900 0 (omega (arith, c.requires.most)) in
-    subst (λ (l : List ℕ). SpellsRoot (record { generation = 0; sectors = c.args.sectors; catalog = 0; maps = l })
+    subst (λ (l : List ℕ). SpellsRoot (record {
+      mark = 1;
+      generation = 0;
+      sectors = c.args.sectors;
+      catalog = 0;
+      maps = l;
+    })
     c.root_bytes_with.result) cut c.root_bytes_with.ensures

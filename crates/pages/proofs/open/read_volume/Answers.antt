@@ -48,6 +48,7 @@ returns-clause-reads g c = λ honest.
     let within = c.in_ok-root.ensures.within in
     let present = (g.D.Device.state c.args.device.now).disk.present in
     let m : List ℕ → VolumeMap = λ sectors. record {
+      mark = root.mark;
       generation = root.generation;
       sectors = root.sectors;
       catalog = root.catalog;
@@ -85,6 +86,7 @@ returns-clause-sound g c =
     let table = c.in_ok-table.table in
     let within = c.in_ok-root.ensures.within in
     let m : List ℕ → List Bool → VolumeMap = λ sectors used. record {
+      mark = root.mark;
       generation = root.generation;
       sectors = root.sectors;
       catalog = root.catalog;
@@ -107,7 +109,8 @@ returns-clause-sound g c =
     let some : 0 < length table.items = omega (arith, maps, count, within.least) in
     subst (λ (sectors : List ℕ). IsSound (m sectors c.in_ok-used-2.used)) (sym c.in_ok-table-2.ensures)
     (subst (λ (used : List Bool). IsSound (m table.items used)) (sym c.in_ok-used-2.ensures)
-    (sound_now (m table.items c.mark_names-2.new.used.items) within.generation within.least within.most within.maps
+    (sound_now (m table.items c.mark_names-2.new.used.items) within.mark within.generation within.least within.most
+    within.maps
     count all_marked (c.mark_names-2.ensures.count ∙ c.mark_names.ensures.count ∙ c.in_ok-used.ensures.count)
     (sym (get_or_read table.items 0 c.index-first.result.now some c.index-first.ensures 0) ∙ c.if-first-ne0.false)
     (c.count_free-free.ensures ∙ ap unused_count c.deref-4.ensures.value)))

@@ -4,6 +4,7 @@ use Rattle.pages.proofs.payload.root_bytes_of.Goals as goal
 
 pub returns : goal.returns
 returns c = subst (λ (l : List ℕ). SpellsRoot (record {
+  mark = c.args.volume.now.mark;
   generation = c.args.volume.now.generation;
   sectors = c.args.volume.now.sectors;
   catalog = c.args.volume.now.catalog;

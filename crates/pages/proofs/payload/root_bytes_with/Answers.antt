@@ -1,13 +1,19 @@
-use Rattle.std.proofs.Common.{drop, refl}
+use Rattle.std.proofs.Common.{◌++◌, ◌∙◌, ℕ, List, drop, ap, refl}
+use Rattle.byteorder.specs.Endian.{big_bytes}
+use Rattle.roots.specs.Root.{own_mark}
 use Rattle.pages.proofs.Payloads.{spells}
 use Rattle.pages.proofs.payload.root_bytes_with.Goals as goal
 
 pub returns : goal.returns
-returns c = spells (record {
-  mark = 0;
-  generation = c.args.generation;
-  sectors = c.args.sectors;
-  payload = drop 20 c.payload_bytes-bytes.result;
-}) c.args.catalog c.args.maps.now (drop 20 c.payload_bytes-bytes.result) c.put_head.new.bytes
-    refl refl c.payload_bytes-bytes.ensures c.requires.generation c.requires.least c.requires.most c.requires.maps
-    c.put_head.ensures
+returns c =
+    let payload : List ℕ = drop 20 c.payload_bytes-bytes.result in
+    spells (record {
+      mark = own_mark c.args.mark;
+      generation = c.args.generation;
+      sectors = c.args.sectors;
+      payload = payload;
+    }) c.args.mark c.args.catalog c.args.maps.now payload c.put_head.new.bytes refl c.requires.mark refl
+    c.payload_bytes-bytes.ensures c.requires.generation c.requires.least c.requires.most c.requires.maps
+    (c.put_head.ensures
+    ∙ ap (λ (m : List ℕ). m ++ big_bytes 8 c.args.generation ++ big_bytes 4 c.args.sectors ++ payload)
+    c.mark_bytes.ensures)

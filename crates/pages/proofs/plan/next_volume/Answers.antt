@@ -14,6 +14,7 @@ returns-clause-plan c =
     let changes = c.args.changes.now in
     let last = c.stage_maps.new.volume in
     let after : VolumeMap = record {
+      mark = c.args.mark;
       generation = last.generation + 1;
       sectors = last.sectors;
       catalog = c.args.catalog;
@@ -34,9 +35,9 @@ returns-clause-plan c =
     c.stage_changes.new.draft changes staged c.in_ok-stage_changes.ensures.maps) in
     let done = subst (λ (n : ℕ). IsMappedDraft (volume_of m) last c.stage_maps.new.draft changes n)
     c.in_ok-stage_changes.ensures.size.maps mapped in
-    is_plan m last after c.stage_maps.new.draft changes c.args.catalog c.requires.sound done (same_size_then
+    is_plan m last after c.stage_maps.new.draft changes c.args.mark c.args.catalog c.requires.sound done (same_size_then
     m c.stage_changes.new.volume last c.in_ok-stage_changes.ensures.size c.in_ok-stage_maps.ensures.size) refl refl refl
-    refl refl refl refl
+    refl refl refl refl refl c.requires.mark
 
 pub returns-clause-sound : goal.returns-clause-sound
 returns-clause-sound c =
@@ -44,6 +45,7 @@ returns-clause-sound c =
     let changes = c.args.changes.now in
     let last = c.stage_maps.new.volume in
     let after : VolumeMap = record {
+      mark = c.args.mark;
       generation = last.generation + 1;
       sectors = last.sectors;
       catalog = c.args.catalog;
@@ -64,10 +66,10 @@ returns-clause-sound c =
     c.stage_changes.new.draft changes staged c.in_ok-stage_changes.ensures.maps) in
     let done = subst (λ (n : ℕ). IsMappedDraft (volume_of m) last c.stage_maps.new.draft changes n)
     c.in_ok-stage_changes.ensures.size.maps mapped in
-    is_sound_after m last after c.stage_maps.new.draft changes c.args.catalog c.requires.sound done (same_size_then
+    is_sound_after m last after c.stage_maps.new.draft changes c.args.mark c.args.catalog c.requires.sound done
+    (same_size_then
     m c.stage_changes.new.volume last c.in_ok-stage_changes.ensures.size c.in_ok-stage_maps.ensures.size) refl refl refl
-    refl refl refl refl
-    (omega (arith, c.if-volume-ge-GENERATIONS.false))
+    refl refl refl refl refl c.requires.known (omega (arith, c.if-volume-ge-GENERATIONS.false))
 
 pub returns-in_err-stage_changes-clause-full : goal.returns-in_err-stage_changes-clause-full
 returns-in_err-stage_changes-clause-full c = λ full.

@@ -1,13 +1,19 @@
 use Rattle.std.proofs.Common.{inr, ⊎_elim, sym, ap, subst, ◌∙◌}
 use Rattle.roots.specs.Reading.{roots_in}
-use Rattle.pages.specs.Layout.{known_marks}
+use Rattle.pages.specs.Layout.{known_families}
 use Rattle.pages.specs.Pages.{committed_of}
 use Rattle.pages.proofs.Roots.{behind}
 use Rattle.file_recovery.proofs.Foreign.{half_is_foreign}
 use Rattle.file_recovery.proofs.Reopened.{same_present}
 use Rattle.volume_commands.specs.Faults.{IsReadFailure, IsReadError}
-use Rattle.volume_commands.proofs.States.{trees_states, only_refused, read_cause, read_error}
+use Rattle.volume_commands.proofs.States.{trees_states, only_opened, only_refused, read_cause, read_error}
 use Rattle.volume_commands.proofs.volume_state.read_state.Goals as goal
+
+pub returns-in-Ok-clause-only : goal.returns-in-Ok-clause-only
+returns-in-Ok-clause-only g c =
+    let of = c.in-Ok.ensures in
+    only_opened g.D.Device _ _ c.args.device.now c.open.new.device c.read_trees.new.device of.honest of.sectors
+    of.failures of.state c.read_trees.ensures.only
 
 pub returns-in-Ok-clause-state : goal.returns-in-Ok-clause-state
 returns-in-Ok-clause-state g c = λ honest files holds.
@@ -33,7 +39,7 @@ returns-in-Ok-clause-opens g c = λ honest files holds.
     (λ trees.
     let own = behind image trees.1.0.root trees.1.1.root in
     c.read_trees.ensures.opens (c.in-Ok.ensures.honest.0 honest) own.roots
-    (ap (roots_in known_marks 1) same ∙ own.reads))
+    (ap (roots_in known_families) same ∙ own.reads))
     (λ half. absurd (c.in-Ok.ensures.foreign honest (half_is_foreign image files half)))
     holds
 

@@ -9,7 +9,7 @@ use Rattle.pages.proofs.page_map.PageMap.change.Goals as goal
 
 pub returns-clause-keeps : goal.returns-clause-keeps
 returns-clause-keeps c = record {
-  committed = record { volume = refl; spent = refl };
+  committed = record { volume = refl; mark = refl; spent = refl };
   catalog = refl;
   is_open = λ before is.
       let ready = before is in
@@ -18,6 +18,8 @@ returns-clause-keeps c = record {
         pages = c.in_ok-set_change.ensures.bounds (length c.args.self.now.volume.table) c.requires.page.1 ready.pages;
         once = c.in_ok-set_change.ensures.once ready.once;
         placed = c.in_ok-set_change.ensures.placed;
+        mark = ready.mark;
+        known = ready.known;
       };
   agrees = λ disk agrees.
       let pages = pages_in disk.present c.args.self.now.volume.table in

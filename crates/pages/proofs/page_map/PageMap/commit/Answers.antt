@@ -20,8 +20,8 @@ returns-then-self-clause-moments g c = λ honest agrees.
     stays (g.D.Device.history c.args.device.now) old _ (at_rest (committed_of c.args.self.now)
     (next_generation (map_now c.args.self.now old.disk.present)) old agrees.committed)
 
-pub returns-then-self-2-clause-moments : goal.returns-then-self-2-clause-moments
-returns-then-self-2-clause-moments g c = λ honest agrees.
+pub returns-then-self-3-clause-moments : goal.returns-then-self-3-clause-moments
+returns-then-self-3-clause-moments g c = λ honest agrees.
     let old = g.D.Device.state c.args.device.now in
     stays (g.D.Device.history c.args.device.now) old _ (at_rest (committed_of c.args.self.now)
     (next_generation (map_now c.args.self.now old.disk.present)) old agrees.committed)

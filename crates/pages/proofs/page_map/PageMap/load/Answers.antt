@@ -49,7 +49,14 @@ returns-clause-agrees g c = λ honest agrees.
 
 pub returns-clause-open : goal.returns-clause-open
 returns-clause-open g c = λ unspent. let ready = c.requires.open unspent in
-    record { sound = ready.sound; pages = ready.pages; once = ready.once; placed = ready.placed }
+    record {
+      sound = ready.sound;
+      pages = ready.pages;
+      once = ready.once;
+      placed = ready.placed;
+      mark = ready.mark;
+      known = ready.known;
+    }
 
 pub returns-clause-changed : goal.returns-clause-changed
 returns-clause-changed g c = λ has.

@@ -9,10 +9,17 @@ use Rattle.pages.proofs.page_map.PageMap.note_use.Goals as goal
 
 pub returns-clause-keeps : goal.returns-clause-keeps
 returns-clause-keeps c = record {
-  committed = record { volume = refl; spent = refl };
+  committed = record { volume = refl; mark = refl; spent = refl };
   catalog = refl;
   is_open = λ before is. let ready =
-      before is in record { sound = ready.sound; pages = ready.pages; once = ready.once; placed = ready.placed };
+      before is in record {
+        sound = ready.sound;
+        pages = ready.pages;
+        once = ready.once;
+        placed = ready.placed;
+        mark = ready.mark;
+        known = ready.known;
+      };
   agrees = λ disk agrees.
       let pages = pages_in disk.present c.args.self.now.volume.table in
       let changed = changed_pages c.args.self.now.changes.items in

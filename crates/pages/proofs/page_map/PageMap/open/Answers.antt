@@ -1,4 +1,4 @@
-use Rattle.std.proofs.Common.{◌≡◌, ◌⊎◌, ℕ, [], sym, subst, arith, ap, ◌∙◌}
+use Rattle.std.proofs.Common.{◌≡◌, ◌⊎◌, inr, ℕ, [], refl, sym, subst, arith, ap, ◌∙◌}
 use Rattle.std.specs.Prelude.{Result, Err}
 use Rattle.std.proofs.lemmas.Result.{err_from_is_err_and}
 use Rattle.station.specs.Disk.{Sector}
@@ -33,3 +33,9 @@ returns-in_err-volume-clause-opens g c = λ honest m holds.
     let told = err_from_is_err_and c.from_residual.result c.from_residual.ensures.1 in
     refused_so c.in_err-volume.field-0.0 c.from_residual.result (c.in_err-volume.ensures.opens honest m holds)
     (told.1 ∙ ap Err told.2)
+
+pub returns-in_err-passed-clause-opens : goal.returns-in_err-passed-clause-opens
+returns-in_err-passed-clause-opens g c = λ honest m holds.
+    let told =
+    err_from_is_err_and c.from_residual-in_err-passed.result c.from_residual-in_err-passed.ensures.1 in
+    refused_so Memory c.from_residual-in_err-passed.result (inr refl) (told.1 ∙ ap Err told.2)

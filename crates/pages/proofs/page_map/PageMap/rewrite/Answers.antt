@@ -15,7 +15,7 @@ returns-clause-keeps c =
     let before : List Change = c.args.self.now.changes.items in
     let same = c.reserve_change.ensures.items in
     record {
-      committed = record { volume = refl; spent = refl };
+      committed = record { volume = refl; mark = refl; spent = refl };
       catalog = refl;
       is_open = λ old is.
           let ready = old is in
@@ -26,6 +26,8 @@ returns-clause-keeps c =
             once = c.in_ok-set_change.ensures.once
                 (subst (λ (l : List Change). NamesOnce (changed_pages l)) (sym same) ready.once);
             placed = c.in_ok-set_change.ensures.placed;
+            mark = ready.mark;
+            known = ready.known;
           };
       agrees = λ disk agrees.
           let pages = pages_in disk.present table in
