@@ -50,4 +50,5 @@ pub mod Moving
 pub mod MovingRows
 pub mod ListedFile
 pub mod RowCounts
+pub mod Migrating
 mod TakenRow

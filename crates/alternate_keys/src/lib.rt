@@ -16,6 +16,7 @@ mod found_rows;
 mod leave;
 mod listing;
 mod look;
+mod migrate;
 mod move_pairs;
 mod new_row;
 mod old_row;
@@ -37,6 +38,7 @@ mod stored;
 mod taken_row;
 mod values;
 
+pub use migrate::migrate;
 pub use opening::format;
 pub use search_start::SearchStart;
 pub use store::PagedStore;

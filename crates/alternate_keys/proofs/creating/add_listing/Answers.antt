@@ -144,7 +144,8 @@ returns-in_err-insert_among-clause-damaged g c = λ honest agrees files holds no
     let at = goal.at.returns-in_err-insert_among-clause-damaged g c in
     let looks = c.is_full.ensures.looks in
     c.insert_among.ensures.damaged (looks.only.honest.0 honest) (looks.agrees honest agrees) []
-    (flat_map trees_of holds.kept) (map (catalog_entry (mark_of c.args.pages.now)) holds.kept) (stands g at.After-insert_among honest files holds)
+    (flat_map trees_of holds.kept) (map (catalog_entry (mark_of c.args.pages.now)) holds.kept)
+    (stands g at.After-insert_among honest files holds)
     (refused_by_call c.in_err-insert_among.was c.from_residual-in_err-insert_among.ensures.1 refused)
 
 pub returns-then-not-branch-clause-damaged : goal.returns-then-not-branch-clause-damaged
@@ -153,7 +154,8 @@ returns-then-not-branch-clause-damaged g c = λ honest agrees files holds none r
     let looks = c.is_full.ensures.looks in
     none_or_some (ap (entry_with (map (catalog_entry (mark_of c.args.pages.now)) holds.kept)) c.pad_name.ensures ∙ none)
     (c.in_ok-insert_among.ensures.there (looks.only.honest.0 honest) (looks.agrees honest agrees) []
-    (flat_map trees_of holds.kept) (map (catalog_entry (mark_of c.args.pages.now)) holds.kept) (stands g at.After-insert_among honest files holds)
+    (flat_map trees_of holds.kept) (map (catalog_entry (mark_of c.args.pages.now)) holds.kept)
+    (stands g at.After-insert_among honest files holds)
     (ap Ok c.if-not-branch.true))
 
 pub returns-clause-added : goal.returns-clause-added
