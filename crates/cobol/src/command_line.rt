@@ -33,6 +33,7 @@ pub fn command_line<'a>(alloc: Global) -> Result<Command<'a>, AllocError> {
         .subcommand(copy_line(alloc)?)?
         .subcommand(stat_line(alloc)?)?
         .subcommand(load_line(alloc)?)?
+        .subcommand(migrate_line(alloc)?)?
         .subcommand(unload_line(alloc)?)?
         .subcommand(compile_line(alloc)?)?
         .subcommand(run_line(alloc)?)?
@@ -81,6 +82,13 @@ fn load_line<'a>(alloc: Global) -> Result<Command<'a>, AllocError> {
         .after_help("Example:\n  cobol load SHOP STOCK < stock.rows")
         .arg(required(alloc, "VOLUME", "A volume that `format` made"))?
         .arg(required(alloc, "NAME", FILE_NAME))
+}
+
+fn migrate_line<'a>(alloc: Global) -> Result<Command<'a>, AllocError> {
+    Command::new(alloc, "migrate")
+        .about("Gives a volume of an earlier format the newest one; its files stay")
+        .after_help("Example:\n  cobol migrate SHOP")
+        .arg(required(alloc, "VOLUME", "A volume that `format` made"))
 }
 
 fn unload_line<'a>(alloc: Global) -> Result<Command<'a>, AllocError> {

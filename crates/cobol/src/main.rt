@@ -17,6 +17,7 @@ mod host_station;
 mod layout_command;
 mod list_command;
 mod load_command;
+mod migrate_command;
 mod numbers;
 mod progress;
 mod run_command;
