@@ -26,7 +26,7 @@ use Rattle.volume_format.specs.Pairs.{IsPrimePair, IsUnder}
 use Rattle.volume_format.proofs.Keeping.{prime_bytes}
 use Rattle.file_bytes.proofs.Several.{same_number}
 use Rattle.volume_format.proofs.Order.{keys_in_order}
-use Rattle.volume_format.proofs.Places.{place_within}
+use Rattle.records.proofs.Places.{place_within}
 use Rattle.alternate_keys.specs.NewRow.{row_with}
 use Rattle.alternate_keys.proofs.Arrivals.{arrival_at}
 use Rattle.alternate_keys.proofs.NewRows.{part_long, bytes_long}

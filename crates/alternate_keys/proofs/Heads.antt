@@ -16,7 +16,7 @@ use Rattle.records.specs.Rows.{prime_place, no_key}
 use Rattle.volume_format.specs.Catalog.{Listing, listing_bytes}
 use Rattle.file_bytes.specs.Description.{spec_bytes, key_bytes, filled_to, organization_byte}
 use Rattle.file_bytes.specs.Rows.{prime_key_length}
-use Rattle.volume_format.proofs.Places.{place_within}
+use Rattle.records.proofs.Places.{place_within}
 use Rattle.volume_format.proofs.Small.{short_record}
 
 -- the length of a key at its place of the list

@@ -12,7 +12,7 @@ use Rattle.records.specs.declared.key.KeyOfReference.TheVariants.{Prime}
 use Rattle.records.specs.Spec.{Spec, is_spec}
 use Rattle.records.specs.Rows.{part, prime_place, named_pair}
 use Rattle.file_bytes.specs.Rows.{prime_key, prime_key_length}
-use Rattle.volume_format.proofs.Places.{place_within}
+use Rattle.records.proofs.Places.{place_within}
 
 pub bytes_long : (n x : ℕ) → length (big_bytes n x) ≡ n
 bytes_long zero x = refl

@@ -26,7 +26,7 @@ use Rattle.records.proofs.Ascending.{pair_total}
 use Rattle.records.proofs.Maps.{bytes_same, same_itself}
 use Rattle.volume_format.specs.Trees.{entry_under, AreOf}
 use Rattle.volume_format.proofs.Comes.{in_cons}
-use Rattle.volume_format.proofs.Places.{spec as spec_with}
+use Rattle.records.proofs.Places.{spec as spec_with}
 use Rattle.volume_format.proofs.Small.{spec_keys}
 use Rattle.file_recovery.specs.Rows.{IsPairOf}
 use Rattle.file_recovery.proofs.Entered.{entry_made}

@@ -20,7 +20,7 @@ use Rattle.records.specs.Rows.{Row, Pair, bytes_cmp, part, pair_cmp, pair_under,
 use Rattle.records.specs.Spec.{Spec, is_spec, are_keys}
 use Rattle.records.specs.Stores.{IsKey}
 use Rattle.volume_format.specs.Trees.{entry_under, key_under}
-use Rattle.volume_format.proofs.Places.{spec as spec_with}
+use Rattle.records.proofs.Places.{spec as spec_with}
 use Rattle.volume_format.proofs.Small.{spec_keys}
 use Rattle.file_recovery.specs.Rows.{IsPairOf, PrimesAscend, no_row, prime_at}
 use Rattle.file_recovery.proofs.Entered.{entry_made}

@@ -7,7 +7,7 @@ pub fn next_is_newest()
     ensures reads_back { ReadsBack }
 {}
 
-/// The roots of an image stand in it, each in the sector of its parity, within the bounds of a volume and with a mark that is known.
+/// The roots of an image are roots that it has: each is in the sector of its parity, within the bounds of a volume and with a mark that is known.
 /// The newest has a mark of the reader's own family.
 pub fn roots_stand()
     ensures { RootsStand }

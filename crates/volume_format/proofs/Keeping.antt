@@ -12,7 +12,7 @@ use Rattle.records.specs.Spec.{Spec}
 use Rattle.records.specs.Rows.{Row, part, place_of, prime_place, named_pair}
 use Rattle.records.specs.Files.{File, IsRow, IsRowNumber, IsByte, IsArrival, IsFile}
 use Rattle.volume_format.specs.Pairs.{IsPrimePair, IsUnder}
-use Rattle.volume_format.proofs.Places.{place_within}
+use Rattle.records.proofs.Places.{place_within}
 
 part_long : (place : KeyPlace) (n : ℕ) (bytes : List ℕ) → place.offset + place.length ≤ n → length bytes ≡ n
     → length (part place bytes) ≡ place.length

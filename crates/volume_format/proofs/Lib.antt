@@ -1,4 +1,3 @@
-pub mod Places
 pub mod Small
 pub mod Names
 pub mod Roots

@@ -13,7 +13,7 @@ use Rattle.btree_pages.specs.Keys.{key_cmp}
 use Rattle.records.specs.Spec.{is_letter, is_name}
 use Rattle.records.specs.Rows.{bytes_cmp}
 use Rattle.file_bytes.specs.Description.{padded_name, filled_to}
-use Rattle.volume_format.proofs.Places.{both}
+use Rattle.records.proofs.Places.{both}
 
 below_first : (n y : ℕ) (ys : List ℕ) → 1 ≤ n → 1 ≤ y → key_cmp (replicate n 0) (y ∷ ys) ≡ Less
 below_first zero y ys some letter = absurd (omega arith)

@@ -14,7 +14,7 @@ use Rattle.records.specs.Rows.{place_of, no_key}
 use Rattle.records.specs.Stores.{IsKey}
 use Rattle.btree_pages.specs.RowLayouts.{IsRowLayout}
 use Rattle.volume_format.specs.Trees.{layout_under}
-use Rattle.volume_format.proofs.Places.{both, all_places, spec as spec_with}
+use Rattle.records.proofs.Places.{both, all_places, spec as spec_with}
 
 pub short_record : (s : Spec) → is_spec s ≡ true → s.record_length ≤ 1000
 short_record s is = leb-true s.record_length 1000

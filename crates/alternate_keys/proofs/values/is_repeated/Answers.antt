@@ -12,7 +12,7 @@ use Rattle.records.specs.Spec.{Spec}
 use Rattle.records.specs.Rows.{part, place_of, same_bytes, no_key}
 use Rattle.records.specs.Changes.{repeats}
 use Rattle.records.specs.Stores.{spec_of}
-use Rattle.volume_format.proofs.Places.{place_within}
+use Rattle.records.proofs.Places.{place_within}
 use Rattle.alternate_keys.specs.Moved.{is_new}
 use Rattle.alternate_keys.specs.Placed.{listed_tree}
 use Rattle.alternate_keys.specs.Seen.{HasPairs}
