@@ -4,6 +4,9 @@ use Rattle.std.specs.Prelude.{Option}
 use Rattle.std.proofs.lemmas.List.{length-map, length-drop, take_all, drop_at, take-append-drop, length-take-le}
 use Rattle.byteorder.specs.Endian.{big_bytes}
 use Rattle.station.specs.Disk.{Sector}
+use Rattle.pages.specs.Layout.{version_of}
+use Rattle.pages.specs.declared.volume_mark.VolumeMark.{VolumeMark}
+use Rattle.pages.specs.declared.volume_mark.VolumeMark.TheVariants.{Second}
 use Rattle.btree.specs.Entries.{Entry}
 use Rattle.records.specs.Files.{NamedFile, IsNamed}
 use Rattle.records.specs.Rows.{Row}
@@ -39,6 +42,9 @@ counted_as {value} {own} {mark} {own_mark} {count} value_is mark_is count_is is 
 -- the bytes from one on
 pub rest_is : (n : ℕ) (xs : List ℕ) → take (length xs - n) (drop n xs) ≡ drop n xs
 rest_is n xs = let long = length-drop n xs in take_all (length xs - n) (drop n xs) (omega (arith, long))
+
+pub never_first : {mark : VolumeMark} → mark ≡ Second → version_of mark ≡ 0 → ⊥
+never_first second first = let clash : 0 ≡ 1 = sym first ∙ ap version_of second in absurd (omega (arith, clash))
 
 -- a value of either mark
 pub first_counted : (mark : ℕ) (value : List ℕ) (rows : ℕ) → mark ≡ 0 → length value ≡ value_length mark

@@ -1,5 +1,6 @@
 //! A file with its trees, by its entry in the catalog.
 ghost use Rattle.std.specs.Prelude.{◌≡◌, ◌≢◌, ◌≤◌, ◌<◌, ◌^◌, true, false, length, take, Err, IfOk, IfErr};
+ghost use Rattle.pages.specs.Layout.{version_of};
 ghost use Rattle.pages.specs.Pages.{mark_of, is_spent, sectors_of, IsOpen};
 ghost use Rattle.btree.specs.Calls.{OnPages};
 ghost use Rattle.btree.specs.Entries.{HasLengths};
@@ -14,7 +15,7 @@ use crate::listing::{is_same, read_listing};
 use crate::reading::read_rows;
 use btree::{Entry, Tree};
 use file_bytes::StoredFile;
-use pages::{PageMap, map_bounds};
+use pages::{PageMap, VolumeMark, map_bounds};
 use records::{KeyOfReference, StoreFault};
 use station::Device;
 use std::alloc::Global;
@@ -78,14 +79,18 @@ fn is_next(next: u64, generation: u64) -> bool
 }
 
 /// Whether a value of the catalog says this number of rows, which on a volume with the first mark none says.
-fn is_counted(mark: usize, value: &[u8], rows: usize) -> bool
-    requires { length value.now ≡ value_length mark }
-    ensures yes { result ≡ true → value.now ≡ catalog_value mark (take 83 value.now) rows }
-    ensures no { result ≡ false → value.now ≢ catalog_value mark (take 83 value.now) rows }
+fn is_counted(mark: VolumeMark, value: &[u8], rows: usize) -> bool
+    requires { length value.now ≡ value_length (version_of mark) }
+    ensures yes { result ≡ true
+        → value.now ≡ catalog_value (version_of mark) (take 83 value.now) rows }
+    ensures no { result ≡ false
+        → value.now ≢ catalog_value (version_of mark) (take 83 value.now) rows }
 {
-    if mark == 0 {
-        return true;
+    match mark {
+        VolumeMark::First => true,
+        VolumeMark::Second => {
+            let spelled = (rows as u64).to_be_bytes();
+            is_same(&value[LISTING_BYTES..], &spelled)
+        }
     }
-    let spelled = (rows as u64).to_be_bytes();
-    is_same(&value[LISTING_BYTES..], &spelled)
 }

@@ -117,3 +117,26 @@ module _ (base : List Sector) (sectors : ℕ) (bytes : Sector) (all : length bas
   pub empty_committed : (d : Disk) → d ≡ idle_disk image → IsCommitted (empty_volume sectors) d
   empty_committed d is =
       subst (IsCommitted (empty_volume sectors)) (sym is) (record { settled = refl; reads = empty_reads })
+
+-- the root of a new volume, whose map sectors are as many zeros
+pub spells_empty : (sectors count : ℕ) (bytes : Sector) → sectors ≤ 921600 → count ≡ map_count sectors
+    → SpellsRoot (record {
+      mark = 1;
+      generation = 0;
+      sectors = sectors;
+      catalog = 0;
+      maps = take count (replicate 900 0);
+    }) bytes
+    → SpellsRoot (empty_volume sectors).root bytes
+spells_empty sectors count bytes most counted spells =
+    let cut : take count (blanks 900) ≡ blanks (map_count sectors)
+    = ap (λ (n : ℕ). take n (blanks 900)) counted
+    ∙ take-replicate {X = ℕ} (map_count sectors) 900 0 (omega (arith, most)) in
+    subst (λ (l : List ℕ). SpellsRoot (record {
+      mark = 1;
+      generation = 0;
+      sectors = sectors;
+      catalog = 0;
+      maps = l;
+    })
+    bytes) cut spells

@@ -70,12 +70,11 @@ reads_now image m used root count entries marked all first = record {
   };
 }
 
-pub sound_now : (m : VolumeMap) → m.mark < 2 → m.generation < 2 ^ 63 → 1024 ≤ m.sectors → m.sectors ≤ 921600
+pub sound_now : (m : VolumeMap) → m.generation < 2 ^ 63 → 1024 ≤ m.sectors → m.sectors ≤ 921600
     → length m.maps.items ≡ map_count m.sectors → length m.table ≡ 1024 * length m.maps.items
     → IsMarked (m.maps.items ++ m.table) m.used → length m.used ≡ m.sectors → get_or m.table 0 0 ≡ 0
     → m.free ≡ unused_count m.used → IsSound m
-sound_now m mark generation least most maps count marked all first free = record {
-  mark = mark;
+sound_now m generation least most maps count marked all first free = record {
   generation = generation;
   least = least;
   most = most;

@@ -14,7 +14,9 @@ use Rattle.roots.specs.declared.root.Root.{Root}
 use Rattle.roots.specs.Root.{own_mark, mark_in, is_blank, put_at, root_bytes}
 use Rattle.roots.proofs.Spelled.{reads_back}
 use Rattle.byteorder.specs.Endian.{big_bytes}
-use Rattle.pages.specs.Layout.{words, number_bytes, map_count, known_families}
+use Rattle.pages.specs.Layout.{words, number_bytes, map_count, version_of, known_families}
+use Rattle.pages.specs.declared.volume_mark.VolumeMark.{VolumeMark}
+use Rattle.pages.specs.declared.volume_mark.VolumeMark.TheVariants.{First, Second}
 use Rattle.pages.specs.Payload.{payload_words, own_bytes, SpellsRoot}
 use Rattle.pages.proofs.Roots.{spelled_payload}
 use Rattle.pages.proofs.Words.{words-spelled}
@@ -64,6 +66,10 @@ filled catalog count maps blank first last same few low lows is_blank is_first i
     (All-cons (λ (n : ℕ). n < 2 ^ 32) (length maps) (maps ++ replicate (1017 - length maps) 0) (omega (arith, few))
     (All-append (λ (n : ℕ). n < 2 ^ 32) maps (replicate (1017 - length maps) 0) lows
     (All-replicate (λ (n : ℕ). n < 2 ^ 32) (1017 - length maps) 0 (omega arith)))))
+
+pub version_low : (mark : VolumeMark) → version_of mark < 2
+version_low First = omega arith
+version_low Second = omega arith
 
 -- the bytes of a root begin with its mark
 begins : (version : ℕ) (root : Root) → version < 2

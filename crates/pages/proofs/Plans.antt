@@ -13,7 +13,7 @@ use Rattle.pages.specs.declared.draft.Draft.{Draft}
 use Rattle.pages.specs.declared.draft.UseChange.{UseChange}
 use Rattle.pages.specs.declared.volume.VolumeMap.{VolumeMap}
 use Rattle.pages.specs.Image.{Volume, names, IsPlace, IsFree, pages_in, map_at, map_part}
-use Rattle.pages.specs.Layout.{map_count}
+use Rattle.pages.specs.Layout.{map_count, version_of}
 use Rattle.pages.specs.Use.{IsUse, use_after}
 use Rattle.pages.specs.Plan.{IsPlan}
 use Rattle.pages.specs.Volumes.{volume_of, IsSound, IsSoundAfter, IsDraft, IsMappedDraft, IsFresh, IsNext, SameSize}
@@ -62,7 +62,7 @@ module _ (m staged : VolumeMap) (after : VolumeMap) (d : Draft) (changes : List 
     IsSound m) (done : IsMappedDraft (volume_of m) staged d changes (length m.maps.items)) (size : SameSize m staged)
     (same_maps : after.maps ≡ staged.maps) (same_table : after.table ≡ staged.table) (same_used : after.used
     ≡ staged.used) (same_free : after.free ≡ staged.free) (same_sectors : after.sectors ≡ staged.sectors)
-    (generation : after.generation ≡ staged.generation + 1) (is_mark : after.mark ≡ mark)
+    (generation : after.generation ≡ staged.generation + 1) (is_mark : version_of after.mark ≡ mark)
     (is_catalog : after.catalog ≡ catalog) where
   abbrev v : Volume
   v = volume_of m
@@ -89,7 +89,7 @@ module _ (m staged : VolumeMap) (after : VolumeMap) (d : Draft) (changes : List 
   count : length after.table ≡ 1024 * length after.maps.items
   count = ap length table_is ∙ size.table ∙ sound.count ∙ ap (λ (n : ℕ). 1024 * n) (sym (ap length maps_is ∙ size.maps))
 
-  pub is_plan : m.mark ≤ mark → IsPlan v (volume_of after) d.blocks.items changes
+  pub is_plan : version_of m.mark ≤ mark → IsPlan v (volume_of after) d.blocks.items changes
   is_plan rises = record {
     mark = omega (arith, rises, is_mark);
     generation = generation ∙ ap (λ (n : ℕ). n + 1) size.generation;
@@ -120,9 +120,8 @@ module _ (m staged : VolumeMap) (after : VolumeMap) (d : Draft) (changes : List 
     free = same_free ∙ size.free;
   }
 
-  pub is_sound_after : mark < 2 → m.generation + 1 < 2 ^ 63 → IsSoundAfter after d.turns.items
-  is_sound_after known last = record {
-    mark = omega (arith, is_mark, known);
+  pub is_sound_after : m.generation + 1 < 2 ^ 63 → IsSoundAfter after d.turns.items
+  is_sound_after last = record {
     generation = omega (arith, generation, size.generation, last);
     least = omega (arith, sectors_is, sound.least);
     most = omega (arith, sectors_is, sound.most);

@@ -10,10 +10,17 @@ use Rattle.roots.specs.declared.pair.RootsFault.{RootsFault}
 use Rattle.roots.specs.declared.pair.RootsFault.TheVariants.{ForeignMark}
 use Rattle.roots.specs.Root.{Family}
 use Rattle.roots.specs.Reading.{roots_in}
+use Rattle.pages.specs.declared.volume_mark.VolumeMark.{VolumeMark}
+use Rattle.pages.specs.declared.volume_mark.VolumeMark.TheVariants.{First, Second}
 
 -- the marks of a volume of pages, and those of the other format
 abbrev pub known_families : List Family
 known_families = (codes "COBVOL01" ∷ codes "COBVOL02" ∷ []) ∷ (codes "COBHALF1" ∷ []) ∷ []
+
+-- the index of a mark among the marks of a volume of pages
+abbrev pub version_of : VolumeMark → ℕ
+version_of First = 0
+version_of Second = 1
 
 -- the numbers of four bytes
 unfoldable pub words : List ℕ → List ℕ

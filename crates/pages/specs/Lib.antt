@@ -15,3 +15,4 @@ pub mod Found
 pub mod Marked
 pub mod Empty
 pub mod Pages
+pub mod Commits

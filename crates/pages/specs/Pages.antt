@@ -3,7 +3,7 @@ use Rattle.std.specs.Prelude.{◌≡◌, ◌≢◌, ◌⊎◌, ◌<◌, ◌≤�
 use Rattle.std.specs.Prelude.{slice_index_or}
 use Rattle.std.specs.List.{All}
 use Rattle.station.specs.Disk.{Disk, Sector}
-use Rattle.pages.specs.Layout.{map_count}
+use Rattle.pages.specs.Layout.{map_count, version_of}
 use Rattle.pages.specs.Image.{Volume, Map, IsImageOf, NamesOnce, pages_in, IsCommitted}
 use Rattle.pages.specs.Changes.{pages_after, changed_pages, ArePlaced}
 use Rattle.pages.specs.Use.{free_count}
@@ -21,7 +21,7 @@ committed_of p = volume_of p.volume
 -- the map, over the image of the last commit, with what was changed since
 abbrev pub map_now : PageMap → List Sector → Map
 map_now p image = record {
-  mark = p.mark;
+  mark = version_of p.mark;
   generation = p.volume.generation;
   catalog = p.catalog;
   pages = pages_after (pages_in image p.volume.table) p.changes.items;
@@ -48,7 +48,7 @@ catalog_of p = p.catalog
 
 -- the mark of the next commit: 0 for the first mark of a volume of pages, 1 for the second
 abbrev pub mark_of : PageMap → ℕ
-mark_of p = p.mark
+mark_of p = version_of p.mark
 
 abbrev pub is_spent : PageMap → Bool
 is_spent p = p.spent
@@ -87,7 +87,8 @@ needed_of p = needed_sectors (committed_of p) p.changes.items
 
 -- a page, the page of the catalog's root, or the mark was changed
 abbrev pub HasChanges : PageMap → Type 0
-HasChanges p = (changed_pages_of p ≡ []) × (p.catalog ≡ p.volume.catalog) × (p.mark ≡ p.volume.mark) → ⊥
+HasChanges p = (changed_pages_of p ≡ []) × (p.catalog ≡ p.volume.catalog) × (mark_of p ≡ version_of p.volume.mark)
+    → ⊥
 
 -- the next commit writes, and too few sectors are free for it, or no generation is left
 abbrev pub IsFull : PageMap → Type 0
@@ -98,8 +99,7 @@ pub record IsReady (p : PageMap) : Type 0 where
   pub pages : All (λ (c : Change). (0 < c.page) × (c.page < length p.volume.table)) p.changes.items
   pub once : NamesOnce (changed_pages p.changes.items)
   pub placed : ArePlaced p.changes.items p.places
-  pub mark : p.volume.mark ≤ p.mark
-  pub known : p.mark < 2
+  pub mark : version_of p.volume.mark ≤ mark_of p
 
 -- what every call keeps: until it is spent, the volume in memory is sound
 abbrev pub IsOpen : PageMap → Type 0
@@ -118,7 +118,7 @@ pub record SamePages (m n : Map) : Type 0 where
 -- what is committed is the same, the mark of the next commit, and what is spent
 pub record SameCommitted (old new : PageMap) : Type 0 where
   pub volume : new.volume ≡ old.volume
-  pub mark : new.mark ≡ old.mark
+  pub mark : mark_of new ≡ mark_of old
   pub spent : new.spent ≡ old.spent
 
 -- what a call that only reads leaves: the map, what was changed of it, and what is committed

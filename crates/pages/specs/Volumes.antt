@@ -1,10 +1,10 @@
 -- A volume in memory.
 use Rattle.std.specs.List.{All, list_any}
-use Rattle.std.specs.Prelude.{◌≡◌, ◌≢◌, ◌⊎◌, ◌<◌, ◌≤◌, ◌+◌, ◌*◌, ◌^◌, ◌/◌, ◌==◌, not, map, take, replicate, Bool, true}
+use Rattle.std.specs.Prelude.{◌≡◌, ◌≢◌, ◌⊎◌, ◌<◌, ◌≤◌, ◌+◌, ◌*◌, ◌^◌, ◌/◌, ◌==◌, not, map, replicate, Bool, true}
 use Rattle.std.specs.Prelude.{false, ℕ, List, [], ◌∷◌, ◌++◌, length, slice_index, slice_index_or, slice_set, Contains}
 use Rattle.station.specs.Disk.{Sector}
 use Rattle.station.specs.declared.blocks.Block.{Block}
-use Rattle.pages.specs.Layout.{map_count}
+use Rattle.pages.specs.Layout.{map_count, version_of}
 use Rattle.pages.specs.Image.{Volume, names, IsPlace, NamesOnce}
 use Rattle.pages.specs.Use.{IsUse, use_after, turns_of, free_count}
 use Rattle.pages.specs.Changes.{mapped_after}
@@ -19,7 +19,7 @@ use Rattle.pages.specs.declared.change.Change.{Change}
 abbrev pub volume_of : VolumeMap → Volume
 volume_of m = record {
   root = record {
-    mark = m.mark;
+    mark = version_of m.mark;
     generation = m.generation;
     sectors = m.sectors;
     catalog = m.catalog;
@@ -30,7 +30,6 @@ volume_of m = record {
 
 -- what is named is within the volume, each sector once, and the use is right
 pub record IsSound (m : VolumeMap) : Type 0 where
-  pub mark : m.mark < 2
   pub generation : m.generation < 2 ^ 63
   pub least : 1024 ≤ m.sectors
   pub most : m.sectors ≤ 921600
@@ -141,7 +140,7 @@ pub record IsFresh (maps first : ℕ) (d : Draft) : Type 0 where
 
 -- the next generation, with this mark and this page of the catalog's root
 pub record IsNext (old new : VolumeMap) (version page : ℕ) : Type 0 where
-  pub mark : new.mark ≡ version
+  pub mark : version_of new.mark ≡ version
   pub generation : new.generation ≡ old.generation + 1
   pub sectors : new.sectors ≡ old.sectors
   pub catalog : new.catalog ≡ page
@@ -152,7 +151,6 @@ pub record IsNext (old new : VolumeMap) (version page : ℕ) : Type 0 where
 
 -- sound, once these turns are marked
 pub record IsSoundAfter (m : VolumeMap) (turns : List UseChange) : Type 0 where
-  pub mark : m.mark < 2
   pub generation : m.generation < 2 ^ 63
   pub least : 1024 ≤ m.sectors
   pub most : m.sectors ≤ 921600

@@ -7,8 +7,9 @@ ghost use Rattle.pages.specs.Image.{IsImageOf, IsCommitted};
 ghost use Rattle.pages.specs.Payload.{SpellsRoot};
 ghost use Rattle.pages.specs.Empty.{empty_map, empty_volume};
 
-use crate::payload::{NEW_MARK, root_bytes_with};
+use crate::payload::root_bytes_with;
 use crate::root::map_count_of;
+use crate::volume_mark::VolumeMark;
 use station::{Device, DeviceError};
 
 /// Writes zeros to sector 1 and the root of generation 0 to sector 0, and syncs. What the device held before is gone.
@@ -38,5 +39,6 @@ fn empty_root(sectors: u32) -> [u8; 4096]
     ensures { SpellsRoot (empty_volume sectors).root result }
 {
     let maps = [0; 900];
-    root_bytes_with(NEW_MARK, 0, sectors, 0, &maps[..map_count_of(sectors)])
+    let maps = &maps[..map_count_of(sectors)];
+    root_bytes_with(VolumeMark::Second, 0, sectors, 0, maps)
 }

@@ -23,8 +23,10 @@ mod sector_use;
 mod stage;
 mod table;
 mod volume;
+mod volume_mark;
 
 pub use empty::format;
 pub use error::PagesError;
 pub use laws::{few_free, few_needed, map_bounds, map_is_own, needed_by, one_map};
 pub use page_map::PageMap;
+pub use volume_mark::{HALF_MARKS, PAGE_MARKS, VolumeMark};

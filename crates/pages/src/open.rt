@@ -18,6 +18,7 @@ use crate::root::read_root;
 use crate::sector_use::SectorUse;
 use crate::table::SectorTable;
 use crate::volume::{VolumeMap, count_free};
+use crate::volume_mark::mark_at;
 use station::Device;
 use std::alloc::{AllocError, Global};
 
@@ -49,7 +50,7 @@ pub(crate) fn read_volume<D: Device>(alloc: Global, device: &mut D) -> Result<Vo
     let used = SectorUse::new(alloc, used)?;
     let table = SectorTable::new(alloc, table, root.maps.len())?;
     Ok(VolumeMap {
-        mark: root.mark,
+        mark: mark_at(root.mark),
         generation: root.generation,
         sectors: root.sectors,
         catalog: root.catalog,

@@ -1,16 +1,15 @@
 //! The pages of a volume, as their user sees them: a finite map from page numbers to pages, beside the page of the catalog's root.
 ghost use Rattle.std.specs.Prelude.{◌≡◌, ◌⊎◌, ◌+◌, ◌^◌, is_some, IfSome, IsOkUnless, if◌then◌else◌, ◌<◌, ◌≤◌, ◌↔◌, Err, Some, None, true, false, replicate, List, [], length, slice_set, map, IsOk, IfOk, IfErr, OnOk, OnErr};
 ghost use Rattle.station.specs.Disk.{Sector};
-ghost use Rattle.station.specs.State.{state_after_sync, SameConsole};
+ghost use Rattle.station.specs.State.{state_after_sync};
 ghost use Rattle.station.specs.History.{Through};
 ghost use Rattle.station.specs.Calls.{OnlyReads};
 ghost use Rattle.station.specs.Failures.{Blames};
 ghost use Rattle.station.specs.Opening.{IsOpening};
-ghost use Rattle.station.specs.Blocks.{CrashLeaves};
-ghost use Rattle.pages.specs.Layout.{IsForeign};
+ghost use Rattle.pages.specs.Layout.{IsForeign, version_of};
 ghost use Rattle.pages.specs.Image.{Map, IsImageOf, IsDamaged, map_of};
 ghost use Rattle.pages.specs.Errors.{RefusesImage, IsOpenError, IsReadError, FailsWithError};
-ghost use Rattle.pages.specs.Changes.{BeforeOrAfter, ChangesPage};
+ghost use Rattle.pages.specs.Changes.{ChangesPage};
 ghost use Rattle.pages.specs.Errors.{IsEditRefusal, IsAllocateRefusal, IsCommitRefusal};
 ghost use Rattle.pages.specs.Use.{free_count};
 
@@ -27,6 +26,7 @@ use crate::error::PagesError;
 use crate::open::open_volume;
 use crate::page_bytes::PageBytes;
 use crate::volume::VolumeMap;
+use crate::volume_mark::VolumeMark;
 use lru::LruCache;
 use station::Device;
 use std::alloc::Global;
@@ -51,7 +51,7 @@ pub struct PageMap {
     /// A place in memory for the page that comes into the cache next.
     spare: Option<PageBytes>,
     catalog: u32,
-    mark: usize,
+    mark: VolumeMark,
     spent: bool,
 }
 
@@ -60,8 +60,9 @@ impl PageMap {
     ghost use Rattle.std.specs.Map.{lookup};
     ghost use Rattle.std.specs.Prelude.{Ok, nat_eq, option_copied, Contains, IsSome};
     ghost use Rattle.lru.specs.LruCache.{lru_cache, promoted};
-    ghost use Rattle.pages.specs.Cache.{Recalls, Loads, Gathers, cache_without};
+    ghost use Rattle.pages.specs.Cache.{Recalls, Loads, cache_without};
     ghost use Rattle.station.specs.Disk.{Disk};
+    ghost use Rattle.pages.specs.Commits.{map_on, IfDiskAgrees, IfUnchanged, IsAsCommitted, GathersChanges, LeavesOldOrNew, DoesNothing, KeepsConsole, IsRefusalForRoom};
 
     /// Opens the volume of a device. It syncs first, and writes nothing. The cache holds at most `capacity` pages, from 1 to 4,096.
     pub fn open<D: Device>(
@@ -149,19 +150,17 @@ impl PageMap {
         self.catalog = page;
     }
 
-    /// The mark that the next commit gives the volume: 0 for the first mark of a volume of pages, 1 for the second.
-    pub fn mark(&self) -> usize
-        ensures is { result ≡ mark_of self.now }
-        ensures known { IsOpen self.now → is_spent self.now ≡ false → result < 2 }
+    /// The mark that the next commit gives the volume.
+    pub fn mark(&self) -> VolumeMark
+        ensures is { version_of result ≡ mark_of self.now }
     {
         self.mark
     }
 
     /// Sets the mark, to this one or a later one. It is a change, like that of a page.
-    pub fn set_mark(&mut self, mark: usize)
-        requires later { mark_of self.old ≤ mark }
-        requires known { mark < 2 }
-        ensures mark { mark_of self.new ≡ mark }
+    pub fn set_mark(&mut self, mark: VolumeMark)
+        requires later { mark_of self.old ≤ version_of mark }
+        ensures mark { mark_of self.new ≡ version_of mark }
         ensures catalog { catalog_of self.new ≡ catalog_of self.old }
         ensures pages { (image : List Sector)
             → (map_now self.new image).pages ≡ (map_now self.old image).pages }
@@ -554,53 +553,38 @@ impl PageMap {
         ensures sectors { D.sectors device.new ≡ D.sectors device.old }
         ensures failures { Blames (result ≡ Err PagesError.Device) (D.failures device.old)
             (D.failures device.new) }
-        ensures console { D.is_honest device.old
-            → SameConsole (D.state device.old) (D.state device.new) }
+        ensures console { KeepsConsole D.Device device.old device.new }
 
         // At each moment a crash leaves the map of the last commit, or this one.
-        ensures moments { D.is_honest device.old → Agrees self.old (D.state device.old).disk →
-            Through (D.history device.old) (D.history device.new) (D.state device.new)
-            (CrashLeaves (D.state device.old).events
-            (BeforeOrAfter (map_of (D.state device.old).disk.present (committed_of self.old))
-            (next_generation (map_now self.old (D.state device.old).disk.present)))) }
+        ensures moments { LeavesOldOrNew D.Device self.old device.old device.new }
 
         // After `Ok` the disk holds this one.
-        ensures agrees { D.is_honest device.old → Agrees self.old (D.state device.old).disk
-            → OnOk result (Agrees self.new (D.state device.new).disk) }
-        ensures map { D.is_honest device.old → Agrees self.old (D.state device.old).disk
-            → OnOk result (SamePages (map_now self.old (D.state device.old).disk.present)
-            (map_now self.new (D.state device.new).disk.present)) }
-        ensures committed { OnOk result ((image : List Sector)
-            → map_now self.new image ≡ map_of image (committed_of self.new)) }
+        ensures agrees { IfDiskAgrees D.Device self.old device.old
+            (OnOk result (Agrees self.new (D.state device.new).disk)) }
+        ensures map { IfDiskAgrees D.Device self.old device.old (OnOk result (SamePages
+            (map_on D.Device self.old device.old) (map_on D.Device self.new device.new))) }
+        ensures committed { OnOk result (IsAsCommitted self.new) }
         ensures changed_pages { OnOk result (changed_pages_of self.new ≡ []) }
         ensures filled { OnOk result (filled_of self.new ≡ 0) }
         ensures mark { mark_of self.new ≡ mark_of self.old }
         ensures unspent { OnOk result (is_spent self.new ≡ false) }
 
         // Where something was changed, it is the map of the next generation, and else nothing is other than before.
-        ensures advances { D.is_honest device.old → Agrees self.old (D.state device.old).disk
-            → HasChanges self.old → OnOk result (map_now self.new (D.state device.new).disk.present
-            ≡ next_generation (map_now self.old (D.state device.old).disk.present)) }
+        ensures advances { IfDiskAgrees D.Device self.old device.old (HasChanges self.old
+            → OnOk result (map_on D.Device self.new device.new
+            ≡ next_generation (map_on D.Device self.old device.old))) }
         ensures rests { (HasChanges self.old → ⊥) → is_spent self.old ≡ false
             → self.new ≡ self.old }
 
         // With nothing changed nothing is done.
-        ensures nothing { changed_pages_of self.old ≡ []
-            → catalog_of self.old ≡ (committed_of self.old).root.catalog
-            → mark_of self.old ≡ (committed_of self.old).root.mark → D.is_honest device.old
-            → (D.state device.new ≡ D.state device.old)
-            × (D.history device.new ≡ D.history device.old) }
-        ensures idle { is_spent self.old ≡ false → changed_pages_of self.old ≡ []
-            → catalog_of self.old ≡ (committed_of self.old).root.catalog
-            → mark_of self.old ≡ (committed_of self.old).root.mark → IsOk result }
+        ensures nothing { IfUnchanged self.old (DoesNothing D.Device device.old device.new) }
+        ensures idle { is_spent self.old ≡ false → IfUnchanged self.old (IsOk result) }
 
         // `Full` tells that too few sectors are free, or that no generation is left, and then nothing was done.
         ensures full { result ≡ Err PagesError.Full → IsFull self.old }
-        ensures told { is_spent self.old ≡ false → IsFull self.old
-            → (result ≡ Err PagesError.Full) ⊎ (result ≡ Err PagesError.Memory) }
+        ensures told { is_spent self.old ≡ false → IsFull self.old → IsRefusalForRoom result }
         ensures unchanged { result ≡ Err PagesError.Full
-            → D.is_honest device.old → (D.state device.new ≡ D.state device.old)
-            × (D.history device.new ≡ D.history device.old) }
+            → DoesNothing D.Device device.old device.new }
         ensures open { IsOpen self.new }
         ensures same_sectors { sectors_of self.new ≡ sectors_of self.old }
         ensures refused { OnErr result (is_spent self.new ≡ true) }
@@ -608,8 +592,7 @@ impl PageMap {
         ensures spent { (result ≡ Err PagesError.Spent) ↔ (is_spent self.old ≡ true) }
 
         // The pages that were changed come into the cache, so far as memory and its capacity allow.
-        ensures gathers { OnOk result ((image : List Sector) → Gathers (changed_pages_of self.old)
-            (map_now self.old image).pages (cache_of self.old) (cache_of self.new)) }
+        ensures gathers { OnOk result (GathersChanges self.old self.new) }
         ensures cache { OnErr result (cache_of self.new ≡ cache_of self.old) }
         ensures capacity { (cache_of self.new).cap ≡ (cache_of self.old).cap }
     {

@@ -1,38 +1,29 @@
 //! The root sector of a volume of pages.
 ghost use Rattle.std.specs.Prelude.{◌≡◌, ◌<◌, ◌≤◌, ◌+◌, ◌*◌, ◌^◌, length, drop};
 ghost use Rattle.roots.specs.Root.{put_at};
-ghost use Rattle.pages.specs.Layout.{words, number_bytes, map_count};
+ghost use Rattle.pages.specs.Layout.{words, number_bytes, map_count, version_of};
 ghost use Rattle.pages.specs.Payload.{payload_words, own_bytes, SpellsRoot};
 ghost use Rattle.pages.specs.Volumes.{volume_of};
 
 use crate::volume::VolumeMap;
+use crate::volume_mark::{PAGE_MARKS, VolumeMark};
 use byteorder::{BigEndian, ByteOrder};
 use roots::{PAYLOAD_AT, put_head};
 
-/// The marks of a volume of pages, in the order of their introduction.
-pub(crate) const FAMILY: [[u8; 8]; 2] = [*b"COBVOL01", *b"COBVOL02"];
-
-/// The index of the mark of a new volume.
-pub(crate) const NEW_MARK: usize = 1;
-
-/// The marks of the other format.
-pub(crate) const FOREIGN_FAMILY: [[u8; 8]; 1] = [*b"COBHALF1"];
-
 /// The bytes of a root sector.
 pub(crate) fn root_bytes_with(
-    mark: usize,
+    mark: VolumeMark,
     generation: u64,
     sectors: u32,
     catalog: u32,
     maps: &[u32],
 ) -> [u8; 4096]
-    requires mark { mark < 2 }
     requires generation { generation < 2 ^ 63 }
     requires least { 1024 ≤ sectors }
     requires most { sectors ≤ 921600 }
     requires maps { length maps.now ≡ map_count sectors }
     ensures { SpellsRoot (record {
-      mark = mark;
+      mark = version_of mark;
       generation = generation;
       sectors = sectors;
       catalog = catalog;
@@ -45,16 +36,17 @@ pub(crate) fn root_bytes_with(
 }
 
 /// The bytes of a mark.
-fn mark_bytes(mark: usize) -> [u8; 8]
-    requires { mark < 2 }
-    ensures { result ≡ own_bytes mark }
+fn mark_bytes(mark: VolumeMark) -> [u8; 8]
+    ensures { result ≡ own_bytes (version_of mark) }
 {
-    FAMILY[mark]
+    match mark {
+        VolumeMark::First => PAGE_MARKS[0],
+        VolumeMark::Second => PAGE_MARKS[1],
+    }
 }
 
 /// The bytes of the root sector of a volume.
 pub(crate) fn root_bytes_of(volume: &VolumeMap) -> [u8; 4096]
-    requires mark { volume.now.mark < 2 }
     requires generation { volume.now.generation < 2 ^ 63 }
     requires least { 1024 ≤ volume.now.sectors }
     requires most { volume.now.sectors ≤ 921600 }

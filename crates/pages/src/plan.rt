@@ -3,6 +3,7 @@ ghost use Rattle.std.specs.Prelude.{◌≡◌, ◌<◌, ◌≤◌, ◌+◌, ◌^
 ghost use Rattle.std.specs.List.{All};
 ghost use Rattle.pages.specs.Errors.{IsPlanError};
 ghost use Rattle.pages.specs.Plan.{IsPlan};
+ghost use Rattle.pages.specs.Layout.{version_of};
 ghost use Rattle.pages.specs.Image.{NamesOnce};
 ghost use Rattle.pages.specs.Changes.{changed_pages};
 ghost use Rattle.pages.specs.Needed.{LacksSectors, needed_sectors};
@@ -15,6 +16,7 @@ use crate::error::PagesError;
 use crate::sector_use::SectorUse;
 use crate::stage::{stage_changes, stage_maps};
 use crate::volume::VolumeMap;
+use crate::volume_mark::VolumeMark;
 use roots::GENERATIONS;
 use std::alloc::{AllocError, Global};
 
@@ -38,19 +40,18 @@ pub(crate) fn next_volume<'a>(
     alloc: Global,
     volume: &mut VolumeMap,
     changes: &'a [Change],
-    mark: usize,
+    mark: VolumeMark,
     catalog: u32,
 ) -> Result<Draft<'a>, PagesError>
     requires sound { IsSound volume.old }
-    requires mark { volume.old.mark ≤ mark }
-    requires known { mark < 2 }
+    requires mark { version_of volume.old.mark ≤ version_of mark }
     requires pages { All (λ c. (0 < c.page) × (c.page < length volume.old.table)) changes.now }
     requires once { NamesOnce (changed_pages changes.now) }
     ensures cause { IsPlanError result }
     ensures plan { IfOk result (λ draft.
         IsPlan (volume_of volume.old) (volume_of volume.new) draft.blocks.items changes.now) }
     ensures sectors { volume.new.sectors ≡ volume.old.sectors }
-    ensures next { OnOk result (IsNext volume.old volume.new mark catalog) }
+    ensures next { OnOk result (IsNext volume.old volume.new (version_of mark) catalog) }
     ensures sound { IfOk result (λ draft. IsSoundAfter volume.new draft.turns.items) }
     ensures full { result ≡ Err PagesError.Full → LacksSectors (volume_of volume.old) changes.now }
     ensures room { OnOk result (¬ (LacksSectors (volume_of volume.old) changes.now)) }

@@ -7,7 +7,7 @@ ghost use Rattle.pages.specs.Found.{found_root, IsFoundWithin};
 ghost use Rattle.pages.specs.Errors.{RefusesImage, IsOpenError};
 
 use crate::error::PagesError;
-use crate::payload::{FAMILY, FOREIGN_FAMILY};
+use crate::volume_mark::{HALF_MARKS, PAGE_MARKS};
 use byteorder::{BigEndian, ByteOrder};
 use roots::{Root, read_roots};
 use station::Device;
@@ -95,7 +95,7 @@ pub(crate) fn read_root<D: Device>(alloc: Global, device: &mut D) -> Result<Foun
         → IfErr result (λ error. RefusesImage (D.state device.old).disk.present error) }
     ensures cause { IsOpenError result }
 {
-    let roots = read_roots(device, &[&FAMILY, &FOREIGN_FAMILY])?;
+    let roots = read_roots(device, &[&PAGE_MARKS, &HALF_MARKS])?;
     if !is_sound_beside(alloc, &roots.older)? {
         return Err(PagesError::Damaged);
     }

@@ -4,6 +4,7 @@ ghost use Rattle.pages.specs.Runs.{unused_count};
 
 use crate::sector_use::SectorUse;
 use crate::table::SectorTable;
+use crate::volume_mark::VolumeMark;
 
 /// Pages and map sectors that a map names.
 pub(crate) const MAP_ENTRIES: usize = 1024;
@@ -11,8 +12,7 @@ pub(crate) const MAP_ENTRIES: usize = 1024;
 /// The newest root, the sector of each page, and which sectors are used.
 #[derive(Drop)]
 pub(crate) struct VolumeMap {
-    /// The index of its mark: 0 for the first mark of a volume of pages, 1 for the second.
-    pub mark: usize,
+    pub mark: VolumeMark,
     pub generation: u64,
     pub sectors: u32,
     /// The page of the catalog's root, 0 for none.

@@ -3,7 +3,7 @@
 //! Each call asserts first what `pages` asks of its caller. No test has a `?`: what a row expects to work is asserted, since each `?`
 //! in a test is one more path on which everything has to be let go, and proved so.
 use crate::image::{changed, image_of, sector_bytes};
-use pages::{PageMap, PagesError, format};
+use pages::{PageMap, PagesError, VolumeMark, format};
 use station::{Device, MemoryStation};
 use std::alloc::{AllocError, Global};
 use std::marker::Model;
@@ -133,14 +133,16 @@ impl Volume {
     }
 
     /// The mark that the next commit writes.
-    pub fn mark(&self) -> usize {
+    pub fn mark(&self) -> VolumeMark {
         self.pages.mark()
     }
 
     /// Sets the mark to the second one.
-    pub fn set_second_mark(&mut self, rt: &impl Abort) {
-        assert!(rt; self.pages.mark() <= 1);
-        self.pages.set_mark(1);
+    pub fn set_second_mark(&mut self) {
+        match self.pages.mark() {
+            VolumeMark::First => self.pages.set_mark(VolumeMark::Second),
+            VolumeMark::Second => {}
+        }
     }
 
     /// Commits what was changed.

@@ -2,7 +2,7 @@
 use crate::asserted::{holds, same, same_in};
 use crate::image::{SECTORS, image_of, map_of, root, sector_bytes, station_with, word_at};
 use crate::opened::{Volume, blank_station, counts_of, filled, new_volume, refusal, works};
-use pages::PagesError;
+use pages::{PagesError, VolumeMark};
 use std::alloc::Global;
 use std::process::Abort;
 
@@ -199,8 +199,8 @@ fn a_commit_of_the_catalog(rt: HostRuntime) {
 fn a_commit_of_the_mark(rt: HostRuntime) {
     let station = station_with(&rt, rt.alloc(), 1, &[]);
     let mut volume = Volume::open(&rt, rt.alloc(), station);
-    same(&rt, volume.mark(), 0);
-    volume.set_second_mark(&rt);
+    same(&rt, volume.mark(), VolumeMark::First);
+    volume.set_second_mark();
     let before = volume.counts();
     works(&rt, volume.commit(&rt));
     same(&rt, volume.since(before), (1, 2));
@@ -208,11 +208,13 @@ fn a_commit_of_the_mark(rt: HostRuntime) {
     holds(&rt, older == root(b"COBVOL01", 1, SECTORS, 1, &[4, 5]));
     holds(&rt, newest == root(b"COBVOL02", 2, SECTORS, 1, &[4, 5]));
     volume.reopen(&rt, rt.alloc());
-    same(&rt, (volume.mark(), volume.free_sectors()), (1, 1494));
+    same(&rt, volume.mark(), VolumeMark::Second);
+    same(&rt, volume.free_sectors(), 1494);
     works(&rt, volume.edit(&rt, 2, 1));
     works(&rt, volume.commit(&rt));
     volume.reopen(&rt, rt.alloc());
-    same(&rt, (volume.mark(), volume.has(&rt, 2)), (1, Some(1)));
+    same(&rt, volume.mark(), VolumeMark::Second);
+    same(&rt, volume.has(&rt, 2), Some(1));
 }
 
 // Sectors that a commit leaves after are free for the next: page, map and root change places.

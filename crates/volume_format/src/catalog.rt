@@ -1,16 +1,18 @@
 //! The tree of the catalog.
 ghost use Rattle.std.specs.Prelude.{◌≡◌, ◌≤◌, length, take};
+ghost use Rattle.pages.specs.Layout.{version_of};
 ghost use Rattle.volume_format.specs.Catalog.{catalog_layout};
 
 use crate::listing::{LISTING_BYTES, value_bytes};
 use btree::{Entry, Tree};
 use btree_pages::RowLayout;
 use file_bytes::NAME_BYTES;
+use pages::VolumeMark;
 use std::alloc::Global;
 
 /// The tree of the catalog with this root, on a volume with this mark.
-pub fn catalog_tree(alloc: Global, mark: usize, root: u32) -> Tree
-    ensures layout { result.layout ≡ catalog_layout mark }
+pub fn catalog_tree(alloc: Global, mark: VolumeMark, root: u32) -> Tree
+    ensures layout { result.layout ≡ catalog_layout (version_of mark) }
     ensures root { result.root ≡ root }
 {
     let layout = RowLayout {

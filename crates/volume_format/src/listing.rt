@@ -2,11 +2,13 @@
 ghost use Rattle.std.specs.Prelude.{◌≡◌, ◌<◌, ◌+◌, ◌*◌, ◌++◌, length, drop, OnOk, IfOk, IsOkUnless};
 ghost use Rattle.std.specs.List.{flat_map};
 ghost use Rattle.byteorder.specs.Endian.{big_bytes, big_number};
+ghost use Rattle.pages.specs.Layout.{version_of};
 ghost use Rattle.records.specs.Stores.{spec_of};
 ghost use Rattle.volume_format.specs.Catalog.{listing_bytes, catalog_value, value_length};
 
 use byteorder::{BigEndian, ByteOrder};
 use file_bytes::{push_description, push_zeros};
+use pages::VolumeMark;
 use records::{FileSpec, StoreFault};
 use std::alloc::Global;
 
@@ -30,44 +32,47 @@ const ROOT_BYTES: usize = 4;
 const ROOTS_BYTES: usize = 28;
 
 /// How many bytes a value of the catalog has on a volume with this mark.
-pub fn value_bytes(mark: usize) -> usize
-    ensures { result ≡ value_length mark }
+pub fn value_bytes(mark: VolumeMark) -> usize
+    ensures { result ≡ value_length (version_of mark) }
 {
-    if mark == 0 {
-        LISTING_BYTES
-    } else {
-        LISTING_BYTES + ROWS_BYTES
+    match mark {
+        VolumeMark::First => LISTING_BYTES,
+        VolumeMark::Second => LISTING_BYTES + ROWS_BYTES,
     }
 }
 
-/// A value of the catalog on a volume with this mark: a listing, and the number of the file's rows where the mark is the second.
+/// A value of the catalog on a volume with this mark. The listing comes first. With the second mark the number of the file's rows
+/// is after the listing.
 pub fn spell_value(
     alloc: Global,
-    mark: usize,
+    mark: VolumeMark,
     listing: &[u8],
     rows: u64,
 ) -> Result<Vec<u8>, StoreFault>
     ensures bytes { IfOk result
-        (λ bytes. bytes.items ≡ catalog_value mark listing.now rows) }
+        (λ bytes. bytes.items ≡ catalog_value (version_of mark) listing.now rows) }
     ensures memory { IsOkUnless result StoreFault.Memory }
 {
     let mut out = Vec::from_slice(alloc, listing)?;
-    if mark > 0 {
-        out.extend_from_slice(&rows.to_be_bytes())?;
+    match mark {
+        VolumeMark::First => Ok(out),
+        VolumeMark::Second => {
+            out.extend_from_slice(&rows.to_be_bytes())?;
+            Ok(out)
+        }
     }
-    Ok(out)
 }
 
 /// The number of rows in a value of the catalog, 0 on a volume with the first mark.
-pub fn stored_rows(mark: usize, value: &[u8]) -> u64
-    requires { length value.now ≡ value_length mark }
-    ensures first { mark ≡ 0 → result ≡ 0 }
-    ensures second { 0 < mark → result ≡ big_number 8 (drop 83 value.now) }
+pub fn stored_rows(mark: VolumeMark, value: &[u8]) -> u64
+    requires { length value.now ≡ value_length (version_of mark) }
+    ensures first { version_of mark ≡ 0 → result ≡ 0 }
+    ensures second { 0 < version_of mark → result ≡ big_number 8 (drop 83 value.now) }
 {
-    if mark == 0 {
-        return 0;
+    match mark {
+        VolumeMark::First => 0,
+        VolumeMark::Second => BigEndian::read_u64(&value[LISTING_BYTES..]),
     }
-    BigEndian::read_u64(&value[LISTING_BYTES..])
 }
 
 /// The 83 bytes of a listing: the pages of its trees' roots, and the arrival that the next WRITE gives.

@@ -4,6 +4,7 @@ use Rattle.std.specs.List.{All}
 use Rattle.byteorder.specs.Endian.{big_number}
 use Rattle.station.specs.Disk.{Sector}
 use Rattle.std.proofs.lemmas.List.{length-map}
+use Rattle.pages.specs.Layout.{version_of}
 use Rattle.pages.specs.Pages.{map_now, mark_of}
 use Rattle.btree_pages.specs.Keys.{Ascend}
 use Rattle.btree.specs.Entries.{Entry, entries_of}
@@ -35,7 +36,7 @@ use Rattle.file_recovery.proofs.checked_file.check_file.Goals as goal
 use Rattle.file_recovery.proofs.checked_file.check_file.Goals.{After-is_counted}
 
 -- the words for what is counted
-mark_read : (g : Over) (c : After-is_counted g) → c.mark.result ≡ mark_of c.args.pages.now
+mark_read : (g : Over) (c : After-is_counted g) → version_of c.mark.result ≡ mark_of c.args.pages.now
 mark_read g c = c.mark.ensures.is ∙ c.read_rows.ensures.looks.unchanged.committed.mark
     ∙ c.check_pages.ensures.looks.unchanged.committed.mark
 

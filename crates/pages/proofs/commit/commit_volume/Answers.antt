@@ -2,6 +2,7 @@ use Rattle.std.proofs.Common.{◌≡◌, ◌<◌, ℕ, List, sym, ◌∙◌, ap,
 use Rattle.station.specs.Blocks.{SectorsAre}
 use Rattle.station.specs.declared.blocks.Block.{Block}
 use Rattle.station.proofs.Spans.{stays, weakens}
+use Rattle.pages.specs.Layout.{version_of}
 use Rattle.pages.specs.Image.{names}
 use Rattle.pages.specs.Plan.{IsPlan}
 use Rattle.pages.specs.Changes.{next_map}
@@ -23,8 +24,8 @@ pub returns-in_err-draft-clause-moments : goal.returns-in_err-draft-clause-momen
 returns-in_err-draft-clause-moments g c = λ honest rests.
     let old = g.D.Device.state c.args.device.now in
     stays (g.D.Device.history c.args.device.now) old _ (at_rest (volume_of c.args.volume.now)
-    (next_map (map_of old.disk.present (volume_of c.args.volume.now)) c.args.changes.now c.args.mark c.args.catalog) old
-    rests)
+    (next_map (map_of old.disk.present (volume_of c.args.volume.now)) c.args.changes.now
+    (version_of c.args.mark) c.args.catalog) old rests)
 
 pub returns-in_err-two_phase_write-clause-moments : goal.returns-in_err-two_phase_write-clause-moments
 returns-in_err-two_phase_write-clause-moments g c = λ honest rests.
@@ -36,7 +37,7 @@ returns-in_err-two_phase_write-clause-moments g c = λ honest rests.
     weakens (g.D.Device.history c.args.device.now) (g.D.Device.history c.two_phase_write.new.device)
     (g.D.Device.state c.two_phase_write.new.device) _ _
     (amid_maps_as v w old.disk.present c.deref.result.now c.args.changes.now c.root_bytes_of-bytes.result rests.reads
-    plan c.root_bytes_of-bytes.ensures c.args.mark c.args.catalog c.in_ok-draft.ensures.next.mark
+    plan c.root_bytes_of-bytes.ensures (version_of c.args.mark) c.args.catalog c.in_ok-draft.ensures.next.mark
     c.in_ok-draft.ensures.next.catalog old.events)
     (c.two_phase_write.ensures.moments honest rests.settled)
 
@@ -50,7 +51,7 @@ returns-clause-moments g c = λ honest rests.
     weakens (g.D.Device.history c.args.device.now) (g.D.Device.history c.two_phase_write.new.device)
     (g.D.Device.state c.two_phase_write.new.device) _ _
     (amid_maps_as v w old.disk.present c.deref.result.now c.args.changes.now c.root_bytes_of-bytes.result rests.reads
-    plan c.root_bytes_of-bytes.ensures c.args.mark c.args.catalog c.in_ok-draft.ensures.next.mark
+    plan c.root_bytes_of-bytes.ensures (version_of c.args.mark) c.args.catalog c.in_ok-draft.ensures.next.mark
     c.in_ok-draft.ensures.next.catalog old.events)
     (c.two_phase_write.ensures.moments honest rests.settled)
 
@@ -73,7 +74,7 @@ returns-clause-map g c = λ honest rests.
     let plan : IsPlan v w c.deref.result.now c.args.changes.now = subst
     (λ (b : List Block). IsPlan v w b c.args.changes.now) (sym c.deref.ensures.value) c.in_ok-draft.ensures.plan in
     now_is_as v w old.disk.present c.deref.result.now c.args.changes.now c.root_bytes_of-bytes.result rests.reads
-    plan c.root_bytes_of-bytes.ensures c.args.mark c.args.catalog c.in_ok-draft.ensures.next.mark
+    plan c.root_bytes_of-bytes.ensures (version_of c.args.mark) c.args.catalog c.in_ok-draft.ensures.next.mark
     c.in_ok-draft.ensures.next.catalog
     (g.D.Device.state c.two_phase_write.new.device).disk (c.in_ok-two_phase_write.ensures.durable honest)
 
@@ -83,7 +84,6 @@ returns-clause-sound g c =
     let marked : c.mark_turns.new.used ≡ use_after c.next_volume.new.volume.used c.in_ok-draft.draft.turns.items =
     c.mark_turns.ensures.used ∙ ap (use_after c.next_volume.new.volume.used) c.deref-2.ensures.value in
     record {
-      mark = after.mark;
       generation = after.generation;
       least = after.least;
       most = after.most;

@@ -1,9 +1,11 @@
 use Rattle.std.proofs.Common.{◌≡◌, ◌<◌, ◌+◌, ◌*◌, ◌/◌, ◌∙◌, ℕ, Bool, List, [], ◌++◌, length, get_or, ap, sym, subst}
 use Rattle.std.proofs.Common.{arith, ⊎_elim}
+use Rattle.std.specs.Prelude.{Some}
 use Rattle.std.specs.List.{All}
 use Rattle.std.proofs.lemmas.List.Elements.{All-from_get_or, Contains-get_or}
 use Rattle.std.proofs.lemmas.List.{get_or_read}
 use Rattle.station.specs.State.{State}
+use Rattle.pages.specs.Layout.{newest}
 use Rattle.pages.specs.Image.{Reads, map_at, map_part}
 use Rattle.pages.specs.Marked.{IsMarked, AreNames}
 use Rattle.pages.specs.Found.{found_root}
@@ -48,7 +50,7 @@ returns-clause-reads g c = λ honest.
     let within = c.in_ok-root.ensures.within in
     let present = (g.D.Device.state c.args.device.now).disk.present in
     let m : List ℕ → VolumeMap = λ sectors. record {
-      mark = root.mark;
+      mark = c.mark_at.result;
       generation = root.generation;
       sectors = root.sectors;
       catalog = root.catalog;
@@ -69,9 +71,17 @@ returns-clause-reads g c = λ honest.
     let all_marked : IsMarked (root.maps.items ++ table.items) c.mark_names-2.new.used.items =
     subst (λ (l : List ℕ). IsMarked (root.maps.items ++ l) c.mark_names-2.new.used.items) c.deref-3.ensures.value
     (c.mark_names-2.ensures.marked c.if-not-mark_names-2.false root.maps.items marked) in
+    let newest_is : newest present ≡ Some (volume_of (m table.items)).root =
+    subst (λ (n : ℕ). newest present ≡ Some (record {
+      mark = n;
+      generation = root.generation;
+      sectors = root.sectors;
+      catalog = root.catalog;
+      maps = root.maps.items;
+    })) (sym c.mark_at.ensures) (c.in_ok-root.ensures.root honest) in
     let some : 0 < length table.items = omega (arith, maps, count, within.least) in
     subst (λ (sectors : List ℕ). Reads present (volume_of (m sectors))) (sym c.in_ok-table-2.ensures)
-    (reads_now present (m table.items) c.mark_names-2.new.used.items (c.in_ok-root.ensures.root honest) count
+    (reads_now present (m table.items) c.mark_names-2.new.used.items newest_is count
     (subst (λ (l : List ℕ). (i : ℕ) → i < length l → map_at present (get_or l i 0) ≡ map_part table.items i)
     c.deref-2.ensures.value
     (subst (λ (s : State). (i : ℕ) → i < length c.deref-2.result.now
@@ -86,7 +96,7 @@ returns-clause-sound g c =
     let table = c.in_ok-table.table in
     let within = c.in_ok-root.ensures.within in
     let m : List ℕ → List Bool → VolumeMap = λ sectors used. record {
-      mark = root.mark;
+      mark = c.mark_at.result;
       generation = root.generation;
       sectors = root.sectors;
       catalog = root.catalog;
@@ -109,9 +119,9 @@ returns-clause-sound g c =
     let some : 0 < length table.items = omega (arith, maps, count, within.least) in
     subst (λ (sectors : List ℕ). IsSound (m sectors c.in_ok-used-2.used)) (sym c.in_ok-table-2.ensures)
     (subst (λ (used : List Bool). IsSound (m table.items used)) (sym c.in_ok-used-2.ensures)
-    (sound_now (m table.items c.mark_names-2.new.used.items) within.mark within.generation within.least within.most
-    within.maps
-    count all_marked (c.mark_names-2.ensures.count ∙ c.mark_names.ensures.count ∙ c.in_ok-used.ensures.count)
+    (sound_now (m table.items c.mark_names-2.new.used.items) within.generation within.least within.most
+    within.maps count all_marked (c.mark_names-2.ensures.count ∙ c.mark_names.ensures.count
+    ∙ c.in_ok-used.ensures.count)
     (sym (get_or_read table.items 0 c.index-first.result.now some c.index-first.ensures 0) ∙ c.if-first-ne0.false)
     (c.count_free-free.ensures ∙ ap unused_count c.deref-4.ensures.value)))
 

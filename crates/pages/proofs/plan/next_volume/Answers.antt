@@ -1,5 +1,6 @@
 use Rattle.std.proofs.Common.{◌≡◌, ◌∙◌, ◌+◌, ◌<◌, inl, ⊎_elim, ℕ, Bool, List, length, refl, ap, subst, arith}
 use Rattle.pages.specs.Volumes.{volume_of, unused_below, IsFresh, IsMappedDraft, IsCounted}
+use Rattle.pages.specs.Layout.{version_of}
 use Rattle.pages.specs.Use.{free_count}
 use Rattle.pages.specs.Needed.{filled_count, written_below}
 use Rattle.pages.specs.declared.volume.VolumeMap.{VolumeMap}
@@ -35,7 +36,7 @@ returns-clause-plan c =
     c.stage_changes.new.draft changes staged c.in_ok-stage_changes.ensures.maps) in
     let done = subst (λ (n : ℕ). IsMappedDraft (volume_of m) last c.stage_maps.new.draft changes n)
     c.in_ok-stage_changes.ensures.size.maps mapped in
-    is_plan m last after c.stage_maps.new.draft changes c.args.mark c.args.catalog c.requires.sound done (same_size_then
+    is_plan m last after c.stage_maps.new.draft changes (version_of c.args.mark) c.args.catalog c.requires.sound done (same_size_then
     m c.stage_changes.new.volume last c.in_ok-stage_changes.ensures.size c.in_ok-stage_maps.ensures.size) refl refl refl
     refl refl refl refl refl c.requires.mark
 
@@ -66,10 +67,10 @@ returns-clause-sound c =
     c.stage_changes.new.draft changes staged c.in_ok-stage_changes.ensures.maps) in
     let done = subst (λ (n : ℕ). IsMappedDraft (volume_of m) last c.stage_maps.new.draft changes n)
     c.in_ok-stage_changes.ensures.size.maps mapped in
-    is_sound_after m last after c.stage_maps.new.draft changes c.args.mark c.args.catalog c.requires.sound done
+    is_sound_after m last after c.stage_maps.new.draft changes (version_of c.args.mark) c.args.catalog c.requires.sound done
     (same_size_then
     m c.stage_changes.new.volume last c.in_ok-stage_changes.ensures.size c.in_ok-stage_maps.ensures.size) refl refl refl
-    refl refl refl refl refl c.requires.known (omega (arith, c.if-volume-ge-GENERATIONS.false))
+    refl refl refl refl refl (omega (arith, c.if-volume-ge-GENERATIONS.false))
 
 pub returns-in_err-stage_changes-clause-full : goal.returns-in_err-stage_changes-clause-full
 returns-in_err-stage_changes-clause-full c = λ full.

@@ -19,7 +19,6 @@ returns-clause-keeps c = record {
         once = c.in_ok-set_change.ensures.once ready.once;
         placed = c.in_ok-set_change.ensures.placed;
         mark = ready.mark;
-        known = ready.known;
       };
   agrees = λ disk agrees.
       let pages = pages_in disk.present c.args.self.now.volume.table in

@@ -1,11 +1,14 @@
-use Rattle.std.proofs.Common.{◌≡◌, ◌<◌, ℕ, List, [], ap, sym, subst, ◌∙◌, rules, Global}
+use Rattle.std.proofs.Common.{◌≡◌, ◌<◌, ℕ, List, [], refl, ap, sym, subst, ◌∙◌, rules, Global}
+use Rattle.std.specs.Prelude.{Option}
 use Rattle.std.specs.List.{All}
 use Rattle.std.specs.declared.vec.Vec.{Vec}
 use Rattle.std.proofs.lemmas.List.{length-map}
 use Rattle.station.specs.Disk.{Sector}
 use Rattle.station.proofs.Spans.{stays}
-use Rattle.pages.specs.Image.{Map, pages_in, page_at}
-use Rattle.pages.specs.Changes.{pages_after, changed_pages}
+use Rattle.pages.specs.Layout.{version_of}
+use Rattle.pages.specs.Image.{Map, IsCommitted, pages_in, page_at}
+use Rattle.pages.specs.Changes.{pages_after, changed_pages, next_map}
+use Rattle.pages.specs.Commits.{map_on, volume_on, LeavesEither}
 use Rattle.pages.specs.Cache.{KeepsChanges, Gathers}
 use Rattle.pages.specs.declared.change.Change.{Change}
 use Rattle.pages.proofs.Caches.{gathers, after_commit}
@@ -20,11 +23,15 @@ returns-then-self-clause-moments g c = λ honest agrees.
     stays (g.D.Device.history c.args.device.now) old _ (at_rest (committed_of c.args.self.now)
     (next_generation (map_now c.args.self.now old.disk.present)) old agrees.committed)
 
-pub returns-then-self-3-clause-moments : goal.returns-then-self-3-clause-moments
-returns-then-self-3-clause-moments g c = λ honest agrees.
+pub returns-then-eq-clause-moments : goal.returns-then-eq-clause-moments
+returns-then-eq-clause-moments g c = λ honest agrees.
     let old = g.D.Device.state c.args.device.now in
     stays (g.D.Device.history c.args.device.now) old _ (at_rest (committed_of c.args.self.now)
     (next_generation (map_now c.args.self.now old.disk.present)) old agrees.committed)
+
+abbrev map_with : ℕ → ℕ → ℕ → List (Option Sector) → Map
+map_with mark generation catalog pages =
+    record { mark = mark; generation = generation; catalog = catalog; pages = pages }
 
 -- what was changed comes into the cache
 gathered : (g : Over) (c : goal.After-self-2-1 g) (image : List Sector)
@@ -60,3 +67,46 @@ returns-clause-agrees g c = λ honest agrees.
       cache = after_commit pages after changes c.replace-changes.new.dest.items c.args.self.now.cache
           c.keep_changes.new.cache next none (gathered g c present) agrees.cache;
     }
+
+-- the map that the disk holds then is the next one
+mapped : (g : Over) (c : goal.After-self-2-1 g) → g.D.Device.is_honest c.args.device.now
+    → IsCommitted (committed_of c.args.self.now) (g.D.Device.state c.args.device.now).disk
+    → pages_in (g.D.Device.state c.commit_volume.new.device).disk.present c.commit_volume.new.volume.table
+    ≡ (map_on g.D.Device c.args.self.now c.args.device.now).pages
+mapped g c honest committed =
+    ap (λ (m : Map). m.pages) (c.in_ok-commit_volume.ensures.map honest committed)
+    ∙ ap (pages_after (pages_in (g.D.Device.state c.args.device.now).disk.present c.args.self.now.volume.table))
+    c.deref.ensures.value
+
+pub returns-in_err-commit_volume-clause-moments : goal.returns-in_err-commit_volume-clause-moments
+returns-in_err-commit_volume-clause-moments g c = λ honest agrees.
+    let self = c.args.self.now in
+    let before = volume_on g.D.Device self.volume c.args.device.now in
+    subst (λ (l : List Change). LeavesEither g.D.Device before (next_map before l (version_of self.mark) self.catalog)
+    c.args.device.now c.commit_volume.new.device) c.deref.ensures.value
+    (c.commit_volume.ensures.moments honest agrees.committed)
+
+pub returns-clause-moments : goal.returns-clause-moments
+returns-clause-moments g c = λ honest agrees.
+    let self = c.args.self.now in
+    let before = volume_on g.D.Device self.volume c.args.device.now in
+    subst (λ (l : List Change). LeavesEither g.D.Device before (next_map before l (version_of self.mark) self.catalog)
+    c.args.device.now c.commit_volume.new.device) c.deref.ensures.value
+    (c.commit_volume.ensures.moments honest agrees.committed)
+
+pub returns-clause-map : goal.returns-clause-map
+returns-clause-map g c = λ honest agrees.
+    let after = pages_in (g.D.Device.state c.commit_volume.new.device).disk.present c.commit_volume.new.volume.table in
+    let none : c.replace-changes.new.dest.items ≡ [] = search rules in
+    record { mark = refl; catalog = refl; pages = ap (pages_after after) none ∙ mapped g c honest agrees.committed }
+
+pub returns-clause-advances : goal.returns-clause-advances
+returns-clause-advances g c = λ honest agrees changed.
+    let self = c.args.self.now in
+    let after = pages_in (g.D.Device.state c.commit_volume.new.device).disk.present c.commit_volume.new.volume.table in
+    let none : c.replace-changes.new.dest.items ≡ [] = search rules in
+    ap
+    (λ (p : List (Option Sector)). map_with (version_of self.mark) c.commit_volume.new.volume.generation self.catalog p)
+    (ap (pages_after after) none ∙ mapped g c honest agrees.committed)
+    ∙ ap (λ (n : ℕ). map_with (version_of self.mark) n self.catalog (map_on g.D.Device self c.args.device.now).pages)
+    c.in_ok-commit_volume.ensures.next.0

@@ -55,7 +55,6 @@ returns-clause-open g c = λ unspent. let ready = c.requires.open unspent in
       once = ready.once;
       placed = ready.placed;
       mark = ready.mark;
-      known = ready.known;
     }
 
 pub returns-clause-changed : goal.returns-clause-changed

@@ -18,7 +18,6 @@ returns-clause-keeps c = record {
         once = ready.once;
         placed = ready.placed;
         mark = ready.mark;
-        known = ready.known;
       };
   agrees = λ disk agrees.
       let pages = pages_in disk.present c.args.self.now.volume.table in

@@ -27,7 +27,6 @@ returns-clause-keeps c =
                 (subst (λ (l : List Change). NamesOnce (changed_pages l)) (sym same) ready.once);
             placed = c.in_ok-set_change.ensures.placed;
             mark = ready.mark;
-            known = ready.known;
           };
       agrees = λ disk agrees.
           let pages = pages_in disk.present table in

@@ -1,0 +1,71 @@
+-- What a commit does, in words of the map of pages and of the device.
+use Rattle.std.specs.Prelude.{◌≡◌, ◌⊎◌, List, [], Result, Err}
+use Rattle.station.specs.Disk.{Sector}
+use Rattle.station.specs.State.{SameConsole}
+use Rattle.station.specs.History.{Through}
+use Rattle.station.specs.Blocks.{CrashLeaves}
+use Rattle.station.specs.declared.device.Device.{Ghosts as Devices}
+use Rattle.pages.specs.Image.{Map, IsCommitted, map_of}
+use Rattle.pages.specs.Changes.{BeforeOrAfter}
+use Rattle.pages.specs.Cache.{Gathers}
+use Rattle.pages.specs.Volumes.{volume_of}
+use Rattle.pages.specs.Pages.{committed_of, map_now, changed_pages_of, catalog_of, mark_of, cache_of, next_generation}
+use Rattle.pages.specs.Pages.{Agrees}
+use Rattle.pages.specs.declared.error.PagesError.{PagesError}
+use Rattle.pages.specs.declared.error.PagesError.TheVariants.{Full, Memory}
+use Rattle.pages.specs.declared.page_map.PageMap.{PageMap}
+use Rattle.pages.specs.declared.volume.VolumeMap.{VolumeMap}
+
+-- nothing was changed since the last commit: no page, not the page of the catalog's root, and not the mark
+abbrev pub IfUnchanged : PageMap → Type 0 → Type 0
+IfUnchanged p claim = changed_pages_of p ≡ [] → catalog_of p ≡ (committed_of p).root.catalog
+    → mark_of p ≡ (committed_of p).root.mark → claim
+
+-- the map is that of the last commit
+abbrev pub IsAsCommitted : PageMap → Type 0
+IsAsCommitted p = (image : List Sector) → map_now p image ≡ map_of image (committed_of p)
+
+-- the changed pages come into the cache
+abbrev pub GathersChanges : PageMap → PageMap → Type 0
+GathersChanges old new = (image : List Sector)
+    → Gathers (changed_pages_of old) (map_now old image).pages (cache_of old) (cache_of new)
+
+-- a refusal for lack of sectors or generations, or of memory
+abbrev pub IsRefusalForRoom : {T : Type 0} → Result T PagesError → Type 0
+IsRefusalForRoom result = (result ≡ Err Full) ⊎ (result ≡ Err Memory)
+
+module _ {D : Type 0} (device : Devices D) where
+  -- the map, over what the device's disk holds
+  abbrev pub map_on : PageMap → D → Map
+  map_on p now = map_now p (device.state now).disk.present
+
+  -- the map that the disk holds of a volume
+  abbrev pub volume_on : VolumeMap → D → Map
+  volume_on m now = map_of (device.state now).disk.present (volume_of m)
+
+  -- if the device is honest, and its disk holds what was committed of the map
+  abbrev pub IfDiskAgrees : PageMap → D → Type 0 → Type 0
+  IfDiskAgrees p now claim = device.is_honest now → Agrees p (device.state now).disk → claim
+
+  -- if the device is honest, and its disk holds the volume
+  abbrev pub IfDiskHolds : VolumeMap → D → Type 0 → Type 0
+  IfDiskHolds m now claim = device.is_honest now → IsCommitted (volume_of m) (device.state now).disk → claim
+
+  -- at each moment of a call a crash leaves one map or the other
+  abbrev pub LeavesEither : Map → Map → D → D → Type 0
+  LeavesEither before after old new = Through (device.history old) (device.history new) (device.state new)
+      (CrashLeaves (device.state old).events (BeforeOrAfter before after))
+
+  -- at each moment of a commit a crash leaves the map of the last commit, or this one
+  abbrev pub LeavesOldOrNew : PageMap → D → D → Type 0
+  LeavesOldOrNew p old new = IfDiskAgrees p old
+      (LeavesEither (map_of (device.state old).disk.present (committed_of p)) (next_generation (map_on p old)) old new)
+
+  -- on an honest device nothing was done
+  abbrev pub DoesNothing : D → D → Type 0
+  DoesNothing old new = device.is_honest old → (device.state new ≡ device.state old)
+      × (device.history new ≡ device.history old)
+
+  -- on an honest device nothing was printed or read
+  abbrev pub KeepsConsole : D → D → Type 0
+  KeepsConsole old new = device.is_honest old → SameConsole (device.state old) (device.state new)
