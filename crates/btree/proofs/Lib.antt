@@ -49,4 +49,6 @@ pub mod There
 pub mod Stepping
 pub mod Passing
 pub mod Ascending
+pub mod Building
+pub mod Counting
 mod Examples

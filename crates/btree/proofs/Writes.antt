@@ -169,7 +169,7 @@ pub is_low : (pages : List (Option Sector)) (page : ℕ) → IsIn pages page →
 is_low pages page there =
     ⊎_elim (λ low. low) (λ past. absurd (there (get_or_past pages page None past))) (cases_lt page (length pages))
 
-node_is : (layout : RowLayout) (kind : Kind) (node : Node) → node.layout ≡ layout → node.kind ≡ kind
+pub node_is : (layout : RowLayout) (kind : Kind) (node : Node) → node.layout ≡ layout → node.kind ≡ kind
     → node ≡ node_of layout kind node.rows
 node_is layout kind node same_layout same_kind =
     ap (λ (f : RowLayout). node_of f node.kind node.rows) same_layout

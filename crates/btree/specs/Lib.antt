@@ -20,3 +20,4 @@ pub mod Removals
 pub mod Clears
 pub mod Steps
 pub mod Sought
+pub mod Builds

@@ -156,7 +156,7 @@ fn children_of<D: Device>(
 
 /// The pages of the level below that of these pages, none below the leaves, and no more than there are page numbers. The first page
 /// tells the level's kind, and leaves but the first aren't read.
-fn below<D: Device>(
+pub(crate) fn below<D: Device>(
     alloc: Global,
     pages: &mut PageMap,
     device: &mut D,

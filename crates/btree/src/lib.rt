@@ -3,8 +3,10 @@
 //! Promise: each call is the operation on the ascending list of entries, and pages outside the tree stay as they are.
 #![tactic(auto)]
 
+mod build;
 mod child;
 mod clear;
+mod count;
 mod descend;
 mod enter_leaf;
 mod entry;

@@ -34,7 +34,7 @@ pub(crate) fn first_leaf(
 {
     let mut leaf = TreePage::new(layout, Kind::Leaf);
     leaf.insert(0, key, value);
-    let page = put_new(pages, leaf)?;
+    let page = put_new(pages, &leaf)?;
     Ok(page)
 }
 
@@ -65,15 +65,15 @@ pub(crate) fn new_root(
     let mut top = TreePage::new(layout, Kind::Inner);
     top.insert_child(0, split.left.key(0), split.page);
     top.insert_child(1, right.node.key(0), right.page);
-    let page = put_new(pages, top)?;
+    let page = put_new(pages, &top)?;
     Ok(page)
 }
 
 /// Puts a node on a page that wasn't in the map.
-fn put_new(pages: &mut PageMap, node: TreePage) -> Result<u32, PagesError>
+pub(crate) fn put_new(pages: &mut PageMap, node: &TreePage) -> Result<u32, PagesError>
     requires open { IsOpen pages.old }
     ensures some { IfOk result (λ page. 0 < page) }
-    ensures pages { IfOk result (PutsNew pages.old pages.new node) }
+    ensures pages { IfOk result (PutsNew pages.old pages.new node.now) }
     ensures changed_pages { FewChanged 1 pages.old pages.new }
     ensures filled { FewFilled 1 pages.old pages.new }
     ensures keeps { KeepsCommitted pages.old pages.new }

@@ -10,7 +10,7 @@ use Rattle.btree.proofs.put_new.put_new.Goals as goal
 
 pub returns-clause-pages : goal.returns-clause-pages
 returns-clause-pages c = λ image lengths enough.
-    let node = c.args.node in
+    let node = c.args.node.now in
     let old = pages_of_map c.args.pages.now image in
     write_new node.layout node.kind old (pages_of_map c.edit.new.self image) c.in_ok-page.page (replicate 4096 0)
     c.bytes-spelled.result node.rows
