@@ -25,3 +25,5 @@ pub mod Inspects
 pub mod HeldIntegers
 pub mod ShortNumbers
 pub mod PlainDigits
+pub mod HalfUnits
+pub mod Newest

@@ -1,28 +1,31 @@
 -- Numbers of 64 bits: their order with integers, their whole parts, and what items keep of them.
 use Rattle.std.proofs.Common.{◌≡◌, ℕ, suc, ◌+◌, ◌-◌, ◌*◌, ◌/◌, ◌^◌, ◌<◌, Bool, false, sym, ◌∙◌, ap, subst, arith, ℤ}
 use Rattle.std.proofs.Common.{pos, negsuc, neg_ℤ, ◌*ℤ◌, unsigned_abs, if◌then◌else◌, nat_lt, Result, Ok, ◌%◌, ◌==◌}
-use Rattle.std.proofs.Common.{int_div, Some, None}
+use Rattle.std.proofs.Common.{int_div, Some, None, inl, inr}
 use Rattle.std.specs.Ordering.{int_cmp}
 use Rattle.std.specs.declared.cmp.Ordering.{Ordering}
-use Rattle.std.proofs.lemmas.Bool.{le-leb, lt-ltb}
+use Rattle.std.proofs.lemmas.Bool.{cases_lt, le-leb, le-ltb, lt-ltb}
 use Rattle.decimal18.specs.Fraction.{Fraction, aligned_coefficient, absolute, signed_integer, is_negative}
 use Rattle.decimal18.specs.Arithmetic.{size_error}
 use Rattle.decimal18.specs.Order.{order}
-use Rattle.decimal18.specs.Receiver.{carry, digits_at, fitted_decimal}
+use Rattle.decimal18.specs.Receiver.{carry, digits_at, fitted_decimal, low_digits}
 use Rattle.decimal18.specs.declared.size_error.Size.{Size}
 use Rattle.decimal18.specs.declared.receiver.Rounding.{Rounding}
+use Rattle.decimal18.specs.declared.receiver.Rounding.TheVariants.{Truncated}
 use Rattle.decimal18.specs.Digits.{digit_text, integer_of}
 use Rattle.decimal18.proofs.SumLaws.{div_one}
 use Rattle.std.proofs.lemmas.Nat.{mod_below}
-use Rattle.decimal18.proofs.Receivers.{fitted_by}
+use Rattle.std.proofs.Math.Nat.{mod-eq_of_lt}
+use Rattle.decimal18.proofs.Receivers.{fitted_by, low_by}
 use Rattle.decimal18.proofs.Signs.{signed_itself}
 use Rattle.items.specs.declared.usage.Usage.{Usage}
 use Rattle.items.specs.declared.usage.Usage.TheVariants as usage
 use Rattle.items.specs.declared.usage.OperationalSign.TheVariants as sign
 use Rattle.items.specs.declared.numeric.Numeric.{Numeric}
-use Rattle.items.specs.Numbers.{usage_is_signed, usage_length, length_of}
+use Rattle.items.specs.Numbers.{is_signed, usage_is_signed, usage_length, length_of}
 use Rattle.items.specs.Values.{bytes_of, spelled_in}
 use Rattle.items.specs.declared.item.Kind.{Kind}
+use Rattle.edited_move.specs.Moves.{received_number}
 use Rattle.source_tree.specs.Evaluated.{◌>>=◌, evaluation_of}
 use Rattle.source_tree.specs.References.{ItemPlace, storage_with}
 use Rattle.source_tree.specs.Computed.{ArithmeticValue}
@@ -71,6 +74,38 @@ fitted_same x n digits scale rounding same own small =
     then Ok (record { coefficient = signed_integer (is_negative x.coefficient) m; scale = scale }) else size_error)
     (lt-ltb m (10 ^ digits) less)
     ∙ ap (λ (z : ℤ). Ok (record { coefficient = z; scale = scale })) (signed_itself x.coefficient ∙ sym same)
+
+abbrev given : Fraction → Result Fraction Size
+given f = Ok f
+
+same_given : (f g : Fraction) → given f ≡ given g → f ≡ g
+same_given f g e = cc
+
+-- What fits is all that a receiver takes of a number where no size error is told.
+pub fitted_low : (x f : Fraction) (digits scale : ℕ) (rounding : Rounding)
+    → fitted_decimal x digits scale rounding ≡ Ok f → low_digits x digits scale rounding ≡ f
+fitted_low x f digits scale rounding is =
+    let m : ℕ = digits_at (unsigned_abs x.coefficient) x.scale scale rounding in
+    let held : ℕ → Fraction =
+    λ n. record { coefficient = signed_integer (is_negative x.coefficient) n; scale = scale } in
+    let chosen : Bool → Result Fraction Size = λ b. if b then given (held m) else size_error in
+    let fitted : chosen (nat_lt m (10 ^ digits)) ≡ given f = sym (fitted_by x digits scale rounding) ∙ is in
+    elim (cases_lt m (10 ^ digits)) [
+      | inl below ↦
+          low_by x digits scale rounding ∙ ap held (mod-eq_of_lt below)
+          ∙ same_given (held m) f (sym (ap chosen (lt-ltb m (10 ^ digits) below)) ∙ fitted)
+      | inr above ↦
+          let none : size_error ≡ given f = sym (ap chosen (le-ltb m (10 ^ digits) above)) ∙ fitted in
+          absurd cc
+    ]
+
+-- So a numeric item receives a number that fits as it keeps it.
+pub received_fitted : (n : Numeric) (x : Fraction) (z : ℤ)
+    → fitted_decimal x n.digits n.scale Truncated ≡ Ok (record { coefficient = z; scale = n.scale })
+    → bytes_of n (held_by n (at_scale n z)) ≡ bytes_of n (received_number n x)
+received_fitted n x z is =
+    ap (λ (f : Fraction). bytes_of n (if is_signed n then f else absolute f))
+    (sym (fitted_low x (at_scale n z) n.digits n.scale Truncated is))
 
 -- What an unsigned item in DISPLAY usage holds is digits alone.
 pub unsigned_bytes : (n : Numeric) (z : ℤ) → n.usage ≡ usage.Display sign.Unsigned

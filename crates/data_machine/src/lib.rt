@@ -25,6 +25,7 @@ mod parts;
 mod place_instructions;
 mod receiving;
 mod relative_keys;
+mod rescaling;
 mod seen;
 mod sender;
 mod short;

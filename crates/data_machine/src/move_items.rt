@@ -11,6 +11,8 @@ ghost use Rattle.items.specs.Faults.{Writes};
 ghost use Rattle.edited_move.specs.Moves.{moved_bytes, received_number, IsPlainKind};
 
 use crate::fitting::put_number;
+use crate::short::Short;
+use crate::short_fitting::{plain_number, put_short, short_fitted};
 use decimal18::{Dec, Rounding};
 use items::{DataFault, Figurative, Item, Kind, Numeric, number, put_padded};
 
@@ -33,11 +35,48 @@ pub fn move_numbers(
     ensures { Writes result bytes.old bytes.new (option_map (λ x.
         bytes_of receiver.now (received_number receiver.now x)) (value_of sender.now from.now)) }
 {
-    let Some(x) = number(*sender, from) else {
+    match plain_number(*sender, from) {
+        Some(x) => {
+            move_short(x, *receiver, bytes);
+            Ok(())
+        }
+        None => move_any(*sender, from, *receiver, bytes),
+    }
+}
+
+/// The same, whatever form the sender has.
+#[inline(always)]
+fn move_any(
+    sender: Numeric,
+    from: &[u8],
+    receiver: Numeric,
+    bytes: &mut [u8],
+) -> Result<(), DataFault>
+    requires sender { IsNumeric sender }
+    requires receiver { IsNumeric receiver }
+    requires from { length from.now ≡ length_of sender }
+    requires length { length bytes.old ≡ length_of receiver }
+    ensures { Writes result bytes.old bytes.new (option_map (λ x.
+        bytes_of receiver (received_number receiver x)) (value_of sender from.now)) }
+{
+    let Some(x) = number(sender, from) else {
         return Err(DataFault);
     };
-    move_number(x, *receiver, bytes);
+    cut_number(x, receiver, bytes);
     Ok(())
+}
+
+/// Moves a number of 64 bits to a numeric item: at once if it fits.
+#[inline(always)]
+fn move_short(x: Short, receiver: Numeric, bytes: &mut [u8])
+    requires receiver { IsNumeric receiver }
+    requires length { length bytes.old ≡ length_of receiver }
+    ensures { bytes.new ≡ bytes_of receiver (received_number receiver x) }
+{
+    match short_fitted(x, receiver.digits, receiver.scale, false) {
+        Some(coefficient) => put_short(receiver, coefficient, bytes),
+        None => move_number(x.decimal(), receiver, bytes),
+    }
 }
 
 /// Writes characters from the left, with spaces after them: those that fill the bytes are copied in the caller's own code.
@@ -105,10 +144,20 @@ pub fn is_copy(from: &Item, receiver: &Item) -> bool
     }
 }
 
-/// Moves a number to a numeric item: it is cut and stored in the caller's own code.
+/// Moves a number to a numeric item, cut to its digits.
+#[inline(never)]
+fn move_number(x: Dec, receiver: Numeric, bytes: &mut [u8])
+    requires receiver { IsNumeric receiver }
+    requires length { length bytes.old ≡ length_of receiver }
+    ensures { bytes.new ≡ bytes_of receiver (received_number receiver x) }
+{
+    cut_number(x, receiver, bytes);
+}
+
+/// The same in the caller's own code.
 #[inline(always)]
 #[tactic(auto, unfolding(decimal18::specs::Receiver::low_digits))]
-fn move_number(x: Dec, receiver: Numeric, bytes: &mut [u8])
+fn cut_number(x: Dec, receiver: Numeric, bytes: &mut [u8])
     requires receiver { IsNumeric receiver }
     requires length { length bytes.old ≡ length_of receiver }
     ensures { bytes.new ≡ bytes_of receiver (received_number receiver x) }

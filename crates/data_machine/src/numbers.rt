@@ -11,6 +11,7 @@ ghost use Rattle.data_machine.specs.Subscripts.{IsEvaluated, ReachesWithin};
 
 use crate::data::Data;
 use crate::seen::{part_of, seen};
+use crate::superinstruction_work::item_of;
 use data_instructions::{DataTables, NumberIndex, ProgramFault};
 use decimal18::Dec;
 use items::{Kind, number};
@@ -68,13 +69,9 @@ impl Data {
         ensures keeps { KeepsRoom self.old self.new }
     {
         let place = self.places.pop();
-        let one = &tables.items.as_slice()[place.item.number as usize];
+        let one = item_of(tables, place.item);
         let part = part_of(one, place.length);
-        let one = seen(one, &part);
-        let bytes = self.areas.bytes(one, place.offset);
-        let number = number_in(one.item.kind, bytes).ok_or(ProgramFault::Data)?;
-        self.numbers.push(Some(number));
-        Ok(())
+        self.push_at(seen(one, &part), place.offset)
     }
 
     /// `index`: the newest place becomes that of the occurrence which the newest number names, or fault 91; fault 90 where

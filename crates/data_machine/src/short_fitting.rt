@@ -13,31 +13,39 @@ ghost use Rattle.data_machine.specs.KeptAtScale.{at_scale, FitsDigits, bytes_at_
 ghost use Rattle.data_machine.specs.Writing.{with_part};
 
 use crate::fitting::rounding;
-use crate::short::{Short, short_coefficient};
+use crate::rescaling::{rescaled, signed};
+use crate::short::Short;
 use crate::short_arithmetic::short_result;
 use data_instructions::DataItem;
 use decimal18::{Dec, number_after, put_digits, short_power};
 use items::{Kind, Numeric, OperationalSign, Usage, number, store};
 use source_tree::Operator;
 
-/// The number in the bytes of a numeric item, if they hold one; at once where digits alone are one.
+/// The number in the bytes of a numeric item, if they hold one. Bytes that are all digits take a shorter way.
 #[inline(always)]
 pub(crate) fn short_number(item: Numeric, bytes: &[u8]) -> Option<Short>
     requires item { IsNumeric item }
     requires length { length bytes.now ≡ length_of item }
     ensures { result ≡ value_of item bytes.now }
 {
-    if let Usage::Display(sign) = item.usage {
-        if let OperationalSign::Unsigned = sign {
-            return unsigned_number(item, bytes);
-        }
-        if let OperationalSign::Trailing = sign {
-            return trailing_number(item, bytes);
-        }
+    match item.usage {
+        Usage::Display(OperationalSign::Unsigned) => unsigned_number(item, bytes),
+        Usage::Display(OperationalSign::Trailing) => trailing_number(item, bytes),
+        _ => any_number(item, bytes),
     }
-    match number(item, bytes) {
-        Some(x) => Some(Short::held(item, x)),
-        None => None,
+}
+
+/// The number in the bytes of an item in DISPLAY usage, if they are digits alone.
+#[inline(always)]
+pub(crate) fn plain_number(item: Numeric, bytes: &[u8]) -> Option<Short>
+    requires item { IsNumeric item }
+    requires length { length bytes.now ≡ length_of item }
+    ensures { IfSome result (λ x. Some x ≡ value_of item bytes.now) }
+{
+    match item.usage {
+        Usage::Display(OperationalSign::Unsigned) => unsigned_number(item, bytes),
+        Usage::Display(OperationalSign::Trailing) => positive_number(item, bytes),
+        _ => None,
     }
 }
 
@@ -77,15 +85,37 @@ fn positive_number(item: Numeric, bytes: &[u8]) -> Option<Short>
     requires length { length bytes.now ≡ length_of item }
     ensures { IfSome result (λ x. Some x ≡ value_of item bytes.now) }
 {
+    if !ends_in_digit(bytes) {
+        return None;
+    }
     match number_after(0, bytes) {
         Some(digits) => Some(whole_number(digits, item.scale)),
         None => None,
     }
 }
 
+/// The last byte is a digit, which carries no minus. Else the digits before it are not read in vain.
+#[inline(always)]
+fn ends_in_digit(bytes: &[u8]) -> bool {
+    match bytes {
+        [.., last] => last.is_ascii_digit(),
+        [] => false,
+    }
+}
+
 /// The same number, with whatever sign.
 #[inline(never)]
 fn marked_number(item: Numeric, bytes: &[u8]) -> Option<Short>
+    requires item { IsNumeric item }
+    requires length { length bytes.now ≡ length_of item }
+    ensures { result ≡ value_of item bytes.now }
+{
+    any_number(item, bytes)
+}
+
+/// The number in the bytes of a numeric item, if they hold one.
+#[inline(always)]
+fn any_number(item: Numeric, bytes: &[u8]) -> Option<Short>
     requires item { IsNumeric item }
     requires length { length bytes.now ≡ length_of item }
     ensures { result ≡ value_of item bytes.now }
@@ -103,40 +133,13 @@ fn whole_number(digits: u64, scale: u8) -> Short
     requires scale { scale ≤ 18 }
     ensures { result ≡ record { coefficient = pos digits; scale = scale } }
 {
-    Short::new(signed(digits), scale)
+    Short::new(signed(false, digits), scale)
 }
 
-/// The same integer with a sign.
-#[inline(always)]
-fn signed(digits: u64) -> i64
-    requires { digits < 10 ^ 18 }
-    ensures { result ≡ pos digits }
-{
-    digits as i64
-}
-
-/// The coefficient that a receiver of so many digits, scale of them decimals, keeps of a number that fits.
-#[inline(never)]
-#[tactic(auto, using(decimal18::proofs::Powers::power_le))]
-fn rescaled(coefficient: i64, from: u8, digits: u8, scale: u8, rounded: bool) -> Option<i64>
-    requires from { from ≤ 18 }
-    requires digits { digits ≤ 18 }
-    requires decimals { scale ≤ digits }
-    ensures fits { IfSome result
-        (λ n. fitted_decimal (record { coefficient = coefficient; scale = from }) digits scale
-        (rounding_of rounded) ≡ Ok (record { coefficient = n; scale = scale })) }
-    ensures digits { IfSome result (λ n. unsigned_abs n < 10 ^ digits) }
-{
-    match Dec::short(coefficient, from).fit(digits, scale, rounding(rounded)) {
-        Ok(fits) => Some(short_coefficient(fits)),
-        Err(_) => None,
-    }
-}
-
-/// The same, at once where the number has the receiver's scale.
+/// The coefficient that a receiver of so many digits, `scale` of them decimals, keeps of a number that fits.
 #[inline(always)]
 #[tactic(auto, using(crate::proofs::ShortNumbers::fitted_same))]
-fn short_fitted(x: Short, digits: u8, scale: u8, rounded: bool) -> Option<i64>
+pub(crate) fn short_fitted(x: Short, digits: u8, scale: u8, rounded: bool) -> Option<i64>
     requires digits { digits ≤ 18 }
     requires decimals { scale ≤ digits }
     ensures fits { IfSome result (λ n. fitted_decimal x digits scale (rounding_of rounded)
@@ -145,7 +148,7 @@ fn short_fitted(x: Short, digits: u8, scale: u8, rounded: bool) -> Option<i64>
 {
     let coefficient = x.coefficient();
     if x.scale() != scale {
-        return rescaled(coefficient, x.scale(), digits, scale, rounded);
+        return rescaled(coefficient, x.scale(), digits, scale, rounding(rounded));
     }
     if coefficient.unsigned_abs() < short_power(digits) {
         Some(coefficient)
@@ -216,7 +219,7 @@ fn held_coefficient(item: Numeric, coefficient: i64) -> i64
 
 /// Writes a coefficient at the item's scale; without S the absolute value.
 #[inline(always)]
-fn put_short(item: Numeric, coefficient: i64, bytes: &mut [u8])
+pub(crate) fn put_short(item: Numeric, coefficient: i64, bytes: &mut [u8])
     requires item { IsNumeric item }
     requires length { length bytes.old ≡ length_of item }
     requires digits { unsigned_abs coefficient < 10 ^ item.digits }

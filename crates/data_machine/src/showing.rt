@@ -10,6 +10,7 @@ ghost use Rattle.data_machine.specs.Lines.{HasLineRoom, HasTextRoom};
 
 use crate::data::Data;
 use crate::seen::{part_of, seen};
+use crate::superinstruction_work::item_of;
 use data_instructions::{DataTables, ProgramFault, TextIndex};
 
 impl Data {
@@ -23,12 +24,9 @@ impl Data {
         ensures keeps { KeepsRoom self.old self.new }
     {
         let place = self.places.pop();
-        let one = &tables.items.as_slice()[place.item.number as usize];
+        let one = item_of(tables, place.item);
         let part = part_of(one, place.length);
-        let one = seen(one, &part);
-        let bytes = self.areas.bytes(one, place.offset);
-        self.line.append_shown(one.item, bytes)?;
-        Ok(())
+        self.append_at(seen(one, &part), place.offset)
     }
 
     /// `append` of a text of the table.

@@ -1,0 +1,11 @@
+       IDENTIFICATION DIVISION.
+       PROGRAM-ID. ROW.
+       DATA DIVISION.
+       WORKING-STORAGE SECTION.
+       01 G.
+           05 T PIC XXX VALUE "12 ".
+           05 N REDEFINES T PIC S9(3).
+       77 R PIC S9(5)V9 COMP.
+       PROCEDURE DIVISION.
+           DISPLAY "A".
+           MOVE N TO R.
