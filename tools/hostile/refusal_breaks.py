@@ -7,7 +7,7 @@ from hostile.refusing import WITHOUT_WORDS, Refusing, count_up
 from power_cuts.parallel import folder_in_memory
 from power_cuts.product import NOTHING, Failure, Ran
 
-COMPILE, RUN, _, LIST, DUMP = refusal_trials.FEW
+COMPILE, RUN, _, LIST, DUMP, MIGRATION = refusal_trials.FEW
 REFUSED = Ran(4, b"", b"refused 83\n")
 
 
@@ -83,6 +83,8 @@ BREAKS = [
     ("a line of a run is cut", RUN, cuts_a_line), ("the statements of a run are lost", RUN, loses_all_statements),
     ("list writes to the volume", LIST, writes_to_the_volume), ("a refused list shows a part", LIST, shows_a_part_of_the_list),
     ("a refused dump shows a part of a line", DUMP, cuts_a_line),
+    ("a refused migration writes to the volume", MIGRATION, writes_to_the_volume),
+    ("a refused migration ends as done", MIGRATION, ends_as_done),
 ]
 
 

@@ -2,17 +2,18 @@
 import shutil
 
 from hostile.alternate_keys import DATA, NAME, ROW, AlternateKeys
-from hostile.refused_commands import SECTORS, ConsoleTrial, MakingTrial, RunTrial, VolumeTrial
-from power_cuts.cases import Case, make_halves
+from hostile.refused_commands import SECTORS, ConsoleTrial, MakingTrial, MigrationTrial, RunTrial, VolumeTrial
+from power_cuts.cases import Case, make_earlier, make_halves
 from power_cuts.product import Failure
 
 LAYOUTS = ("trees", "halves")
 SOURCES = ("size_errors", "perform_overlapping_ranges", "duplicates_in_order")
 CONSOLE = f"{DATA}/console_lines"
 ROWS = 100
-FEW = ["compile duplicates_in_order", "run over trees", "run over halves", "list of trees", "dump of trees"]
+MIGRATION = "migration of trees"
+FEW = ["compile duplicates_in_order", "run over trees", "run over halves", "list of trees", "dump of trees", MIGRATION]
 ALL = ["format", *(f"compile {source}" for source in SOURCES), "run with a console",
-       *(f"{what} {layout}" for layout in LAYOUTS for what in ("run over", "second run over", "list of", "dump of"))]
+       *(f"{what} {layout}" for layout in LAYOUTS for what in ("run over", "second run over", "list of", "dump of")), MIGRATION]
 
 
 def make(name, product):
@@ -48,6 +49,8 @@ def of_a_volume(name, product, layout):
     must(product, "format", volume, SECTORS)
     if layout == "halves":
         make_halves(volume, int(SECTORS))
+    if name == MIGRATION:
+        make_earlier(volume)
     must(product, "compile", f"{ROW}.cob", image)
     first = AlternateKeys()
     first.compare_with_row()
@@ -56,6 +59,8 @@ def of_a_volume(name, product, layout):
     must(product, "run", image, volume)
     if name.startswith("second run "):
         return RunTrial(product, name, volume, image, AlternateKeys(first.states[-1]))
+    if name == MIGRATION:
+        return MigrationTrial(product, name, volume)
     if name.startswith("list "):
         return VolumeTrial(product, name, volume, "list", volume)
     return VolumeTrial(product, name, volume, "dump", volume, NAME)

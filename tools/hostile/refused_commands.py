@@ -8,7 +8,7 @@ from collections import Counter
 
 from hostile.reading import ReadingProgram
 from hostile.refusing import judge
-from power_cuts.checking import examine, holds, summary
+from power_cuts.checking import examine, files_of, holds, summary
 from power_cuts.product import NOTHING, Failure, Ran, read
 
 SECTORS = "1024"
@@ -82,6 +82,24 @@ class VolumeTrial(Trial):
             raise Failure(f"{self.command} is refused, and shows {ran.out[:200]}")
         if read(self.volume) != self.before:
             raise Failure(f"{self.command} changes the volume")
+
+
+class MigrationTrial(Trial):
+    """`migrate` over a copy of a volume with the earlier mark. If it is refused, the copy has its old bytes."""
+
+    def __init__(self, product, name, volume):
+        self.original, self.volume, self.expected = volume, f"{product.folder}/copy", None
+        super().__init__(product, name, "migrate", self.volume)
+        if self.whole != Ran(0, b"", b""):
+            raise Failure(f"{name}: {self.whole}")
+        self.expected = read(self.volume)
+
+    def prepare(self, number):
+        shutil.copyfile(self.original, self.volume)
+
+    def examine(self, ran, end):
+        if read(self.volume) != (self.expected if end == "whole" else read(self.original)):
+            raise Failure(f"migrate ends with {ran.status} {ran.err}, and leaves {summary(files_of(self.volume))}")
 
 
 class ConsoleTrial(Trial):

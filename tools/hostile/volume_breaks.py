@@ -59,6 +59,22 @@ def refused_run_writes(ran, words):
     return ran
 
 
+def migration_takes_damage(ran, words):
+    return Ran(0, b"", b"") if ran == DAMAGED else ran
+
+
+def refused_migration_writes(ran, words):
+    if ran == DAMAGED:
+        write_a_byte(words[1])
+    return ran
+
+
+def migration_loses_a_root(ran, words):
+    with open(words[1], "r+b") as file:
+        file.write(bytes(4096))
+    return ran
+
+
 def run_traps(ran, words):
     return Ran(-4, b"", b"") if ran == DAMAGED else ran
 
@@ -68,6 +84,9 @@ BREAKS = [
     ("list writes", ("list",), list_writes), ("dump takes a damaged volume", ("dump",), dump_takes_damage),
     ("a run shows a row less", ("run",), run_shows_a_row_less), ("a refused run shows something", ("run",), run_shows_before_it_refuses),
     ("a refused run writes", ("run",), refused_run_writes), ("a signal ends a run", ("run",), run_traps),
+    ("a migration takes a damaged volume", ("migrate",), migration_takes_damage),
+    ("a refused migration writes", ("migrate",), refused_migration_writes),
+    ("a migration loses a root", ("migrate",), migration_loses_a_root),
 ]
 RULES = ("ascends", "is_index", "reaches_all")
 

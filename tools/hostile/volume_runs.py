@@ -1,4 +1,4 @@
-"""Volumes that were changed at random: `list`, `dump` and runs next to the reader of the format."""
+"""Volumes that were changed at random: `list`, `dump`, runs and migrations next to the reader of the format."""
 import os
 import shutil
 
@@ -7,14 +7,16 @@ from hostile.field_changes import FieldChange
 from hostile.fields import Fields
 from hostile.reading import ReadingProgram
 from power_cuts.answers import check_answer
-from power_cuts.cases import Case
+from power_cuts.cases import Case, make_earlier
 from power_cuts.checking import examine, files_of, summary
 from power_cuts.product import Failure, Ran
 from power_cuts.scratch import Scratch
-from power_cuts.volume import HostFile, is_openable
+from power_cuts.volume import TREES, HostFile, is_openable, newest_root, read_volume
 
 CHANGES = 200
-DAMAGED = Ran(4, b"", b"refused 82\n")
+DAMAGED, FULL = Ran(4, b"", b"refused 82\n"), Ran(4, b"", b"refused 81\n")
+# The seeds of each so many of which the last one has the earlier mark, if its volume is of trees.
+EARLIER = 4
 
 
 def run_volumes(program, seed, folder):
@@ -32,6 +34,8 @@ def run_volumes(program, seed, folder):
 
 def make_volume(case):
     case.make_volume(share_of_halves=0.5)
+    if case.seed % EARLIER == EARLIER - 1 and not case.figures["volumes of halves"]:
+        make_earlier(case.volume)
     for _ in range(case.random.choice([1, 3])):
         run_program(case)
     if case.random.random() < 0.5:
@@ -58,6 +62,7 @@ class ChangedVolumes:
         self.case, self.product, self.random = case, case.product, case.random
         self.scratch = Scratch(case.volume, f"{case.folder}/cut")
         self.fields, self.lengths = Fields(self.scratch), entry_lengths(case.content)
+        self.is_earlier = read_volume(case.volume, newest_root).mark == TREES[0]
         self.reading = ReadingProgram(case.content) if case.content else None
         if self.reading:
             case.compile_text(self.reading.text)
@@ -70,7 +75,10 @@ class ChangedVolumes:
         self.count(found)
         if self.reading:
             self.read_by_a_run(found)
-        if self.random.random() < 0.2:
+        if self.is_earlier:
+            self.migrate(found)
+            self.scratch.build()
+        elif self.random.random() < 0.2:
             self.write_by_a_run(found)
             self.scratch.build()
         self.scratch.restore()
@@ -148,3 +156,19 @@ class ChangedVolumes:
             raise Failure("a run over a sound volume reports damage")
         if examine(self.product, self.scratch.path).refused:
             raise Failure(f"after {ran.status} {ran.err} the volume is damaged: {summary(files_of(self.scratch.path))}")
+
+    # Migrations
+
+    def migrate(self, found):
+        """A damaged volume is refused, and a sound one has the same files afterwards. A refused volume stays as it was."""
+        ran = self.product.do("migrate", self.scratch.path)
+        self.case.figures["migrations"] += 1
+        if found.refused or ran == FULL:
+            self.must_be("migrate", DAMAGED if found.refused else FULL, ran)
+            return self.must_be_unchanged("a refused migration")
+        self.must_be("migrate", Ran(0, b"", b""), ran)
+        files = files_of(self.scratch.path)
+        if files != found.files:
+            raise Failure(f"a migration leaves {summary(files)}, not {summary(found.files)}")
+        if read_volume(self.scratch.path, newest_root).mark != TREES[-1]:
+            raise Failure("a migration leaves the earlier mark")

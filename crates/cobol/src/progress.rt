@@ -18,12 +18,6 @@ impl Reasons for Stderr {
     }
 }
 
-impl Reasons for &mut Vec<u8> {
-    fn is_watched(&self) -> bool {
-        false
-    }
-}
-
 /// The percentage of a volume that is written, in one line that is printed again and again.
 #[derive(Drop)]
 pub struct Progress {

@@ -88,3 +88,14 @@ fn writers_that_fail(rt: HostRuntime) {
         dump_with_room(&rt, rt.alloc(), room);
     }
 }
+
+// A writer that fails when it is flushed has taken the whole dump.
+#[test]
+fn writer_that_fails_at_flush(rt: HostRuntime) {
+    let alloc = rt.alloc();
+    let mut out = NarrowWriter::that_fails_at_flush(alloc);
+    let mut station = volume_of_two(&rt, alloc);
+    let answer = dump_volume(alloc, &mut station, b"SALES", &mut out);
+    holds(&rt, answer == Err(VolumeError::Output));
+    same(&rt, out.taken.as_slice(), DUMP);
+}

@@ -86,6 +86,16 @@ fn writers_that_fail(rt: HostRuntime) {
     }
 }
 
+// A writer that fails when it is flushed has taken the whole listing.
+#[test]
+fn writer_that_fails_at_flush(rt: HostRuntime) {
+    let alloc = rt.alloc();
+    let mut out = NarrowWriter::that_fails_at_flush(alloc);
+    let answer = list_volume(alloc, &mut volume_of_three(&rt, alloc), &mut out);
+    same(&rt, answer, Err(VolumeError::Output));
+    same(&rt, out.taken.as_slice(), LISTING);
+}
+
 fn list_with_failure(rt: &impl Abort, alloc: Global, call: u64) {
     let mut station = volume_of_three(rt, alloc);
     station.fail_at(call);

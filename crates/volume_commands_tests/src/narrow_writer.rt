@@ -1,4 +1,4 @@
-//! A writer that takes a few bytes at a time, and fails once it is full.
+//! A writer that takes a few bytes at a time, and fails once it is full, or when it is flushed.
 use std::alloc::Global;
 use std::io;
 use std::io::{Error, ErrorKind, Write};
@@ -10,6 +10,7 @@ const STEP: usize = 7;
 pub struct NarrowWriter {
     pub taken: Vec<u8>,
     room: usize,
+    fails_at_flush: bool,
 }
 
 impl NarrowWriter {
@@ -18,6 +19,16 @@ impl NarrowWriter {
         NarrowWriter {
             taken: Vec::new(alloc),
             room,
+            fails_at_flush: false,
+        }
+    }
+
+    /// A writer that takes all bytes, and fails when it is flushed.
+    pub fn that_fails_at_flush(alloc: Global) -> NarrowWriter {
+        NarrowWriter {
+            taken: Vec::new(alloc),
+            room: usize::MAX,
+            fails_at_flush: true,
         }
     }
 }
@@ -34,6 +45,9 @@ impl Write for NarrowWriter {
     }
 
     fn flush(&mut self) -> io::Result<()> {
+        if self.fails_at_flush {
+            return Err(Error::from(ErrorKind::Other));
+        }
         Ok(())
     }
 }

@@ -15,32 +15,12 @@ mod damage_tests;
 #[cfg(test)]
 mod disturbance;
 #[cfg(test)]
-mod drawing;
-#[cfg(test)]
 mod later_run_tests;
 #[cfg(test)]
-mod met;
-#[cfg(test)]
-mod model;
-#[cfg(test)]
-mod model_connectors;
-#[cfg(test)]
-mod model_files;
-#[cfg(test)]
-mod model_told;
-#[cfg(test)]
-mod program_text;
-#[cfg(test)]
 mod programs;
-#[cfg(test)]
-mod random_program;
-#[cfg(test)]
-mod random_tests;
 #[cfg(test)]
 mod stop_tests;
 #[cfg(test)]
 mod told;
 #[cfg(test)]
 mod volume;
-#[cfg(test)]
-mod words;

@@ -1,0 +1,25 @@
+       IDENTIFICATION DIVISION.
+       PROGRAM-ID. SALES.
+       ENVIRONMENT DIVISION.
+       INPUT-OUTPUT SECTION.
+       FILE-CONTROL.
+           SELECT OPTIONAL F ASSIGN TO "SALES" ORGANIZATION INDEXED
+               ACCESS DYNAMIC RECORD KEY K
+               ALTERNATE RECORD KEY A WITH DUPLICATES STATUS S.
+       DATA DIVISION.
+       FILE SECTION.
+       FD F.
+       01 R.
+          02 K PIC X(4).
+          02 A PIC X(6).
+          02 FILLER PIC X(70).
+       WORKING-STORAGE SECTION.
+       01 S PIC XX.
+       01 L PIC X(80).
+       PROCEDURE DIVISION.
+       MAIN.
+           OPEN I-O F.
+           ACCEPT L.
+           WRITE R FROM L.
+           DISPLAY S.
+           CLOSE F.

@@ -1,0 +1,9 @@
+       IDENTIFICATION DIVISION.
+       PROGRAM-ID. TODAY.
+       DATA DIVISION.
+       WORKING-STORAGE SECTION.
+       01 D PIC 9(6).
+       PROCEDURE DIVISION.
+       MAIN.
+           ACCEPT D FROM DATE.
+           DISPLAY D.

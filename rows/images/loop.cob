@@ -1,0 +1,10 @@
+       IDENTIFICATION DIVISION.
+       PROGRAM-ID. LOOP.
+       PROCEDURE DIVISION.
+           PERFORM 258 TIMES
+               DISPLAY "A" NO ADVANCING
+           END-PERFORM
+
+
+           STOP RUN.
+

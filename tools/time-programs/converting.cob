@@ -1,0 +1,17 @@
+       IDENTIFICATION DIVISION.
+       PROGRAM-ID. CONVERT.
+      * 26 letters are converted 1,000 times in 10,000 characters.
+       DATA DIVISION.
+       WORKING-STORAGE SECTION.
+       01  T PIC X(10000).
+       01  UPPER-CASE PIC X(26) VALUE "ABCDEFGHIJKLMNOPQRSTUVWXYZ".
+       01  LOWER-CASE PIC X(26) VALUE "abcdefghijklmnopqrstuvwxyz".
+       PROCEDURE DIVISION.
+       MAIN.
+           MOVE ALL "A LINE OF TEXT, " TO T.
+           PERFORM CONVERT-TEXT 500 TIMES.
+           DISPLAY T (1:16).
+           STOP RUN.
+       CONVERT-TEXT.
+           INSPECT T CONVERTING UPPER-CASE TO LOWER-CASE.
+           INSPECT T CONVERTING LOWER-CASE TO UPPER-CASE.
