@@ -4,14 +4,14 @@ A break changes the traced calls of a run, or what the model says."""
 import shutil
 from dataclasses import replace
 
-from power_cuts.cases import Case, Cuts
+from power_cuts.cases import Case, Cuts, Still, make_earlier_volume
 from power_cuts.product import Failure
 from power_cuts.trace import Show, Sync, Write, trace_run
 
 
 def self_test(program, seed, folder):
     """Of each break a pair: a line that says whether it was reported, and whether that is right."""
-    for name, must_fail, attempt in Run(Case(program, seed, folder)).attempts():
+    for name, must_fail, attempt in (attempt for run in (Run, Migration) for attempt in run(Case(program, seed, folder)).attempts()):
         failure = reported(attempt)
         is_right = (failure is not None) == must_fail
         yield f"{'right' if is_right else 'WRONG'}: {name}: {failure or 'nothing is reported'}"[:220], is_right
@@ -132,3 +132,21 @@ class Run:
     def with_another_byte(self):
         self.with_changed_states(lambda file: replace(file, rows=tuple(
             row._replace(record=row.record[:-1] + b"~") for row in file.rows)))
+
+
+class Migration(Run):
+    """A traced migration of a volume with files."""
+
+    def __init__(self, case):
+        self.case = case
+        make_earlier_volume(case)
+        case.write(40)
+        self.program = Still(case.content)
+        shutil.copyfile(case.volume, case.before)
+        self.events = trace_run([case.product.program, "migrate", case.volume], case.volume, case.folder)[1]
+
+    def attempts(self):
+        yield "the migration as it was", False, lambda: self.follow(self.events)
+        yield "no sync of the migration reaches the disk", True, lambda: self.follow([it for it in self.events if not isinstance(it, Sync)])
+        yield "the migration writes the root before the sync of its pages", True, lambda: self.follow(self.roots_early())
+        yield "a page of the new catalog is not written", True, lambda: self.follow(self.without_a_page())

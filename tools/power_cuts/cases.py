@@ -10,7 +10,7 @@ from power_cuts.model import Files
 from power_cuts.product import Failure, Product
 from power_cuts.programs import Program, random_program, random_shape
 from power_cuts.trace import Show, trace_run
-from power_cuts.volume import HALVES, SECTOR, Key
+from power_cuts.volume import HALVES, SECTOR, TREES, Key, free_sectors, newest_root, printed, read_volume
 
 NAMES = [b"STOCK", b"A", b"SALES-OF-THE-YEAR", b"A B\\C", b"ZZZZZZZZZZZZZZZZZZZZZZZZZZZZZZ"]
 SIZES = [1024, 1024, 1024, 1025, 1500, 2048, 2100]
@@ -56,6 +56,13 @@ class Case:
         self.figures["file statements"] += len(program.states) - 1
 
     # Runs without a cut
+
+    def write(self, steps):
+        """A random program changes the files."""
+        program = self.next_program(steps)
+        self.run_whole(program)
+        self.content = program.files.now()
+        self.confirm(self.content)
 
     def fill(self, rows):
         """A long run that writes so many rows, or as many as the volume takes, and one that changes some of them at times."""
@@ -111,11 +118,14 @@ class Case:
         this one left, or with one of those images."""
         program = self.next_program(steps)
         self.compile(program)
+        self.cut_command(program, ["run", self.image, self.volume], with_fault)
+
+    def cut_command(self, program, words, with_fault):
+        """The same of a command that does what a program does."""
         shutil.copyfile(self.volume, self.before)
         fault = (self.random.choice(FAULTS), self.random.randint(1, 30)) if with_fault else None
-        self.note = f"a run with cuts, fault {fault}"
-        words = [self.product.program, "run", self.image, self.volume]
-        ran, events = trace_run(words, self.volume, self.folder, fault)
+        self.note = f"{words[0]} with cuts, fault {fault}"
+        ran, events = trace_run([self.product.program, *words], self.volume, self.folder, fault)
         allowed = [(4, b"refused 80\n"), (4, b"refused 85\n")] if fault else []
         self.check_end(ran, program, allowed)
         self.figures["calls"] += len(events)
@@ -125,6 +135,30 @@ class Case:
         if self.random.random() < 0.4:
             self.content = cuts.restart()
 
+    def migrate(self, with_fault):
+        """Migrates the volume with such cuts, and then what was left without a cut. The files stay."""
+        self.cut_command(Still(self.content), ["migrate", self.volume], with_fault)
+        self.figures["migrations"] += 1
+        self.figures["migrations to be done again"] += read_volume(self.volume, newest_root).mark == TREES[0]
+        self.note, self.doubtful, self.others = "a migration without a cut", {}, []
+        self.must("migrate", self.volume)
+        shutil.copyfile(self.volume, self.before)
+        self.must("migrate", self.volume)
+        if not are_same(self.volume, self.before):
+            raise Failure("a second migration changes the volume")
+        self.confirm(self.content)
+        self.confirm_stat()
+
+    def confirm_stat(self):
+        """`stat` prints the newest mark, the free sectors and the numbers of rows."""
+        root, free = read_volume(self.volume, newest_root), read_volume(self.volume, free_sectors)
+        head = b"mark %s\ngeneration %d\nsectors %d\nfree %d\nfiles %d\n"
+        expected = head % (TREES[-1], root.generation, root.sectors, free, len(self.content))
+        expected += b"".join(b"rows %s %d\n" % (printed(file.name), len(file.rows)) for file in self.content)
+        ran = self.product.do("stat", self.volume)
+        if (ran.status, ran.out, ran.err) != (0, expected, b""):
+            raise Failure(f"stat prints {ran.out[:400]}, not {expected[:400]}")
+
     def next_program(self, steps):
         random = self.random
         if random.random() < 0.1:
@@ -132,6 +166,18 @@ class Case:
             self.shapes[i] = random_shape(random, self.shapes[i].name)
         shapes = random.sample(self.shapes, len(self.shapes)) + random.sample(self.shapes, random.random() < 0.15)
         return random_program(random, Files.of(self.content), shapes, steps)
+
+
+class Still:
+    """What a command does that shows nothing and keeps these files."""
+
+    shown = b""
+
+    def __init__(self, content):
+        self.states = [content]
+
+    def states_after(self, count):
+        return range(1)
 
 
 class Cuts:
@@ -213,15 +259,25 @@ class Cuts:
     def compare_whole(self):
         """The calls that were traced are all that changed the volume."""
         with self.disk.holding(self.disk.newest()):
-            with open(self.path, "rb") as one, open(self.case.volume, "rb") as two:
-                if one.read() != two.read():
-                    raise Failure("the volume isn't what the traced calls wrote")
+            if not are_same(self.path, self.case.volume):
+                raise Failure("the volume isn't what the traced calls wrote")
 
 
 def make_halves(volume, sectors):
     """Makes a new volume one of halves without files, which no command makes."""
     with open(volume, "r+b") as file:
         file.write((HALVES[0] + bytes(8) + sectors.to_bytes(4, "big")).ljust(SECTOR, b"\0"))
+
+
+def make_earlier(volume):
+    """Makes a new volume of trees one with the earlier mark, which no command makes."""
+    with open(volume, "r+b") as file:
+        file.write(TREES[0])
+
+
+def are_same(one, other):
+    with open(one, "rb") as first, open(other, "rb") as second:
+        return first.read() == second.read()
 
 
 def large_shape(random, name):
@@ -265,6 +321,28 @@ def run_case(program, seed, folder):
             case.fill(random.choice([30, 100, 300]))
         for _ in range(random.choice([1, 2, 2, 3])):
             case.cut(random.choice([8, 15, 30]), with_fault=random.random() < 0.3)
+    except Failure as failure:
+        return case, failure
+    return case, None
+
+
+def make_earlier_volume(case):
+    """Makes a volume with the earlier mark and files, on which random programs ran."""
+    case.make_volume(share_of_halves=0)
+    make_earlier(case.volume)
+    for _ in range(case.random.choice([0, 1, 2, 3])):
+        case.write(case.random.choice([8, 30, 60]))
+    if case.random.random() < 0.2:
+        case.fill(case.random.choice([30, 100, 300]))
+
+
+def run_migration(program, seed, folder):
+    """A case of a volume that is migrated, and of a run on it afterwards, both with cuts."""
+    case = Case(program, seed, folder)
+    try:
+        make_earlier_volume(case)
+        case.migrate(with_fault=case.random.random() < 0.3)
+        case.cut(15, with_fault=False)
     except Failure as failure:
         return case, failure
     return case, None

@@ -24,6 +24,7 @@ use Rattle.volume_format.proofs.Names.{names_in_order}
 use Rattle.alternate_keys.specs.Created.{empty_file_trees}
 use Rattle.alternate_keys.specs.Listed.{catalog_at}
 use Rattle.alternate_keys.proofs.Empties.{forest_with, empty_grow, empty_pages, empty_is, empty_says}
+use Rattle.alternate_keys.proofs.Placing.{next_kept}
 use Rattle.alternate_keys.proofs.Preparing.{map_with}
 use Rattle.alternate_keys.proofs.Splits.{named_of}
 
@@ -159,7 +160,7 @@ module _ (m : Map) (files : Files) (holds : MapHolds m files) (name : List ℕ) 
       let root : TreeLevels = tree_levels (catalog_at m.mark catalog) stands.levels in
       let P : FileTrees → Type 0 = IsKept m.generation in
       let Q : FileTrees → Type 0 = IsKept (m.generation + 1) in
-      let older : All Q (here.before ++ here.after) = All-weaker P Q next_kept (here.before ++ here.after)
+      let older : All Q (here.before ++ here.after) = All-weaker P Q (next_kept m.generation) (here.before ++ here.after)
       (subst (λ (l : List FileTrees). All P l) here.is holds.keeps.each) in
       let parted : flat_map trees_of holds.kept ≡ flat_map trees_of here.before ++ flat_map trees_of here.after =
       ap (flat_map trees_of) here.is ∙ flat_map-append trees_of here.before here.after in
@@ -191,13 +192,4 @@ module _ (m : Map) (files : Files) (holds : MapHolds m files) (name : List ℕ) 
             ∙ ap (λ (l : List FileTrees). with_file name (empty_file spec) (named_of l)) here.is
             ∙ added_in name here.before new here.after refl here.lower here.above);
         are = are;
-      }
-    where
-      next_kept : (k : FileTrees) → IsKept m.generation k → IsKept (m.generation + 1) k
-      next_kept k is = record {
-        layout = is.layout;
-        rows = is.rows;
-        count = is.count;
-        indexes = is.indexes;
-        arrivals = let low = is.arrivals in omega (arith, low);
       }

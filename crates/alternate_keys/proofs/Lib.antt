@@ -50,4 +50,8 @@ pub mod Moving
 pub mod MovingRows
 pub mod ListedFile
 pub mod RowCounts
+pub mod Migrating
+pub mod CatalogLeaves
+pub mod FilledPages
+pub mod Remaking
 mod TakenRow

@@ -157,8 +157,8 @@ module _ {m : Map} {files : Files} {holds : MapHolds m files} {name : List ℕ} 
       (map (catalog_entry m.mark) holds.kept)
   stands_emptied spec between listing placed mark catalog marked same =
       subst (λ (n : ℕ). IsTreeAmong between [] (all_around spec between listing placed) (catalog_at n catalog)
-      (map (catalog_entry m.mark) holds.kept)) (sym marked) (catalog_stands m files holds name here.held named here.there
-      (emptied spec) between listing placed catalog same)
+      (map (catalog_entry m.mark) holds.kept)) (sym marked) (catalog_stands m files holds name here.held named
+      here.there (emptied spec) between listing placed catalog same)
 
   -- and the catalog says so
   pub made_there : (spec : Spec) (between : List (Option Sector)) (listing : List ℕ)

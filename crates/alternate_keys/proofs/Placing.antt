@@ -61,7 +61,7 @@ first_names : (before after : List FileTrees) → AllByRecursion IsNamed (named_
 first_names [] after all = tt
 first_names (k ∷ before) after all = (all.0, first_names before after all.1)
 
-own_named : (before : List FileTrees) (one : FileTrees) (after : List FileTrees)
+pub own_named : (before : List FileTrees) (one : FileTrees) (after : List FileTrees)
     → AllByRecursion IsNamed (named_of (before ++ one ∷ after)) → IsNamed one.named
 own_named [] one after all = all.0
 own_named (k ∷ before) one after all = own_named before one after all.1
@@ -172,6 +172,16 @@ pub catalog_among : (m : Map) (files : Files) (holds : MapHolds m files) (name :
 catalog_among m files holds name held found named generation pages listing placed =
     record { levels = holds.keeps.catalog; forest = placed.forest; listed = holds.keeps.listed }
 
+-- a file is kept in the next generation
+pub next_kept : (generation : ℕ) (k : FileTrees) → IsKept generation k → IsKept (generation + 1) k
+next_kept generation k is = record {
+  layout = is.layout;
+  rows = is.rows;
+  count = is.count;
+  indexes = is.indexes;
+  arrivals = let low = is.arrivals in omega (arith, low);
+}
+
 -- The map of the next generation, after the file became another and the catalog says so.
 pub holds_then : (m : Map) (files : Files) (holds : MapHolds m files) (name : List ℕ) (held : File)
     → (found : Found name holds.kept held)
@@ -198,7 +208,7 @@ holds_then m files holds name held found after between pages catalog listing val
     let each : All P (split.before ++ found.one ∷ split.after) =
     subst (λ (l : List FileTrees). All P l) split.is holds.keeps.each in
     let older : All Q (split.before ++ found.one ∷ split.after) =
-    All-weaker P Q next_kept (split.before ++ found.one ∷ split.after) each in
+    All-weaker P Q (next_kept m.generation) (split.before ++ found.one ∷ split.after) each in
     let lefts : All Q split.before = all_left Q split.before (found.one ∷ split.after) older in
     let rights : All Q split.after =
     All-tail Q found.one split.after (all_right Q split.before (found.one ∷ split.after) older) in
@@ -225,12 +235,3 @@ holds_then m files holds name held found after between pages catalog listing val
   where
     entry_as : List ℕ → List ℕ → Entry
     entry_as key value = record { key = key; value = value }
-
-    next_kept : (k : FileTrees) → IsKept m.generation k → IsKept (m.generation + 1) k
-    next_kept k is = record {
-      layout = is.layout;
-      rows = is.rows;
-      count = is.count;
-      indexes = is.indexes;
-      arrivals = let low = is.arrivals in omega (arith, low);
-    }

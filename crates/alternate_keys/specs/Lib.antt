@@ -13,3 +13,4 @@ pub mod Settles
 pub mod Moved
 pub mod Turned
 pub mod Created
+pub mod Migrated

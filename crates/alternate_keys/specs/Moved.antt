@@ -31,7 +31,7 @@ changed_by Insert organization number bytes file = insertion number bytes file
 changed_by Replace organization number bytes file = replacement number bytes file
 changed_by Remove organization number bytes file = removal (pair_of organization bytes number) file
 
--- the number of rows after it, by the number before, of each as much as eight bytes have
+-- The number of rows after a change follows from the number before, modulo 2^64.
 abbrev pub IsCountAfter : RowVerb → ℕ → ℕ → Type 0
 IsCountAfter Insert rows new = new ≡ (rows + 1) % 2 ^ 64
 IsCountAfter Replace rows new = new ≡ rows

@@ -41,7 +41,7 @@ pub(crate) fn clear_trees<D: Device>(
 }
 
 /// Gives up all pages of a tree, beside which others stay.
-fn clear_among<D: Device>(
+pub(crate) fn clear_among<D: Device>(
     tree: &mut Tree,
     pages: &mut PageMap,
     device: &mut D,

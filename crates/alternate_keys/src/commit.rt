@@ -1,7 +1,7 @@
 //! Changed pages are put on the disk.
 ghost use Rattle.std.specs.Prelude.{◌≡◌, ◌≤◌, Err, true, false, IfOk, OnOk, IfErr};
 ghost use Rattle.station.specs.Calls.{OnlyWrites};
-ghost use Rattle.pages.specs.Pages.{is_spent, sectors_of, IsOpen};
+ghost use Rattle.pages.specs.Pages.{is_spent, mark_of, sectors_of, IsFull, IsOpen};
 ghost use Rattle.records.specs.Files.{Files};
 ghost use Rattle.records.specs.Stores.{is_change};
 ghost use Rattle.alternate_keys.specs.Faults.{IsWriteFault};
@@ -23,6 +23,8 @@ pub(crate) fn commit_pages<D: Device>(pages: &mut PageMap, device: &mut D) -> Re
         → CommitsFiles D.Device result before after pages.old device.old pages.new device.new }
     ensures unwritten { result ≡ Err StoreFault.Full → D.is_honest device.old
         → D.state device.new ≡ D.state device.old }
+    ensures full { result ≡ Err StoreFault.Full → IsFull pages.old }
+    ensures mark { mark_of pages.new ≡ mark_of pages.old }
     ensures unspent { OnOk result (is_spent pages.new ≡ false) }
     ensures open { IsOpen pages.new }
     ensures same_sectors { sectors_of pages.new ≡ sectors_of pages.old }

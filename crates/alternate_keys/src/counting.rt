@@ -1,8 +1,8 @@
 //! Whether the catalog has room for one more file.
-ghost use Rattle.std.specs.Prelude.{◌≡◌, ◌≤◌, ◌<◌, true, false, length, Err, List, IfOk, IfErr};
+ghost use Rattle.std.specs.Prelude.{◌≡◌, ◌≤◌, ◌<◌, true, false, length, Err, List, IfOk, IfErr, IfSome};
 ghost use Rattle.pages.specs.Pages.{is_spent, sectors_of, IsOpen};
 ghost use Rattle.btree.specs.Calls.{IfAgrees, pages_on};
-ghost use Rattle.btree.specs.Entries.{entries_of, first_entry, first_entry_after};
+ghost use Rattle.btree.specs.Entries.{HasLengths, entries_of, first_entry, first_entry_after};
 ghost use Rattle.btree.specs.Tree.{TreeNode, IsTreeOrEmpty};
 ghost use Rattle.volume_format.specs.Calls.{LooksAt};
 ghost use Rattle.alternate_keys.specs.Created.{OnFiles};
@@ -16,7 +16,7 @@ use std::alloc::Global;
 use volume_format::{catalog_tree, to_fault};
 
 /// How many files a volume may have.
-const MOST_FILES: u8 = 255;
+pub(crate) const MOST_FILES: u8 = 255;
 
 /// Whether the catalog lists 255 files, as many as a volume may have.
 pub(crate) fn is_full<D: Device>(
@@ -49,7 +49,7 @@ pub(crate) fn is_full<D: Device>(
 }
 
 /// The first entry of a tree.
-fn first_in<D: Device>(
+pub(crate) fn first_in<D: Device>(
     tree: &Tree,
     pages: &mut PageMap,
     device: &mut D,
@@ -66,6 +66,7 @@ fn first_in<D: Device>(
     ensures damaged { IfAgrees D.Device pages.old device.old ((levels : List (List TreeNode))
         → IsTreeOrEmpty tree.now.layout (pages_on D.Device pages.old device.old) tree.now.root
         levels → result ≡ Err StoreFault.Damaged → ⊥) }
+    ensures lengths { IfOk result (λ entry. IfSome entry (HasLengths tree.now.layout)) }
     ensures spent { result ≡ Err StoreFault.Spent → is_spent pages.old ≡ true }
     ensures cause { IfErr result IsReadFault }
 {
@@ -76,7 +77,7 @@ fn first_in<D: Device>(
 }
 
 /// The entry after one of a tree.
-fn next_in<D: Device>(
+pub(crate) fn next_in<D: Device>(
     tree: &Tree,
     pages: &mut PageMap,
     device: &mut D,
@@ -95,6 +96,7 @@ fn next_in<D: Device>(
     ensures damaged { IfAgrees D.Device pages.old device.old ((levels : List (List TreeNode))
         → IsTreeOrEmpty tree.now.layout (pages_on D.Device pages.old device.old) tree.now.root
         levels → result ≡ Err StoreFault.Damaged → ⊥) }
+    ensures lengths { IfOk result (λ entry. IfSome entry (HasLengths tree.now.layout)) }
     ensures spent { result ≡ Err StoreFault.Spent → is_spent pages.old ≡ true }
     ensures cause { IfErr result IsReadFault }
 {

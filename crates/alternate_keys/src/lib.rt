@@ -29,6 +29,7 @@ mod row_turn;
 mod row_verb;
 mod search_keys;
 mod search_start;
+mod second_mark;
 mod seek;
 mod seeking;
 mod store;
@@ -39,4 +40,5 @@ mod values;
 
 pub use opening::format;
 pub use search_start::SearchStart;
+pub use second_mark::migrate;
 pub use store::PagedStore;

@@ -7,7 +7,7 @@ use Rattle.clap.specs.Matches.{found_of, first_value, one_text}
 use Rattle.clap.specs.declared.parser.matches.ArgMatches.{ArgMatches}
 use Rattle.machine.specs.Ends.{IsDigit}
 use Rattle.cobol.specs.declared.words.Request.{Request}
-use Rattle.cobol.specs.declared.words.Request.TheVariants.{Format, Copy, Load, Stat, Compile, Run, List as ListFiles, Dump, Explain, Check, Layout, Show, Wrong}
+use Rattle.cobol.specs.declared.words.Request.TheVariants.{Format, Copy, Load, Migrate, Stat, Compile, Run, List as ListFiles, Dump, Explain, Check, Layout, Show, Wrong}
 
 -- A number of 64 bits: digits alone.
 abbrev pub IsNumber : List ℕ → Type 0
@@ -48,7 +48,8 @@ word_or_none (Some word) = word
 abbrev pub word_of : ArgMatches → List ℕ → List ℕ
 word_of found name = word_or_none (option_of found name)
 
--- The words found ask for this request of `format`, `copy`, `load`, `stat`, `compile`, `run`, `list`, `dump`, `explain`, `check`, `layout`.
+-- The words found ask for this request of `format`, `copy`, `load`, `migrate`, `stat`, `compile`, `run`, `list`, `dump`, `explain`,
+-- `check`, `layout`.
 abbrev pub AsksToFormat : ArgMatches → Request → Type 0
 AsksToFormat found (Format volume sectors) =
     let size = word_of found (codes "SECTORS") in
@@ -66,6 +67,10 @@ abbrev pub AsksToLoad : ArgMatches → Request → Type 0
 AsksToLoad found (Load volume name) =
     (volume.now ≡ word_of found (codes "VOLUME")) × (name.now ≡ word_of found (codes "NAME"))
 AsksToLoad found other = ⊥
+
+abbrev pub AsksToMigrate : ArgMatches → Request → Type 0
+AsksToMigrate found (Migrate volume) = volume.now ≡ word_of found (codes "VOLUME")
+AsksToMigrate found other = ⊥
 
 abbrev pub AsksToStat : ArgMatches → Request → Type 0
 AsksToStat found (Stat volume) = volume.now ≡ word_of found (codes "VOLUME")

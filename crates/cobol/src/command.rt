@@ -14,6 +14,7 @@ use crate::format_command::format;
 use crate::layout_command::show_layout;
 use crate::list_command::list;
 use crate::load_command::load;
+use crate::migrate_command::migrate;
 use crate::progress::Reasons;
 use crate::run_command::run;
 use crate::stat_command::stat;
@@ -57,6 +58,7 @@ where
         Request::Format { volume, sectors } => format(rt, volume, sectors, err),
         Request::Copy { old, new, sectors } => copy(rt, old, new, sectors, err),
         Request::Load { volume, name } => load(rt, volume, name, console, &mut out, err),
+        Request::Migrate { volume } => migrate(rt, volume),
         Request::Stat { volume } => stat(rt, volume, &mut out),
         Request::Compile { source, image } => compile_file(rt, source, image),
         Request::Run(request) => run(rt, request, console, out, err),

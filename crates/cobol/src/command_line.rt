@@ -6,6 +6,13 @@ use std::alloc::{AllocError, Global};
 /// What the name of a file is.
 const FILE_NAME: &str = "The file's name; write `--` before VOLUME if it begins with a hyphen";
 
+/// The end of the help of `migrate`.
+const BEFORE_A_MIGRATION: &str =
+    "An earlier version of this program refuses VOLUME then, so copy it first.
+
+Example:
+  cobol migrate SHOP";
+
 /// The end of the help.
 const EXIT_STATUSES: &str = "Exit status:
   0  the command has done its work
@@ -32,6 +39,7 @@ pub fn command_line<'a>(alloc: Global) -> Result<Command<'a>, AllocError> {
         .subcommand(format_line(alloc)?)?
         .subcommand(copy_line(alloc)?)?
         .subcommand(stat_line(alloc)?)?
+        .subcommand(migrate_line(alloc)?)?
         .subcommand(load_line(alloc)?)?
         .subcommand(unload_line(alloc)?)?
         .subcommand(compile_line(alloc)?)?
@@ -72,6 +80,13 @@ fn stat_line<'a>(alloc: Global) -> Result<Command<'a>, AllocError> {
     Command::new(alloc, "stat")
         .about("Prints the size and free sectors of a volume, and its files' rows")
         .after_help("Example:\n  cobol stat SHOP")
+        .arg(required(alloc, "VOLUME", "A volume that `format` made"))
+}
+
+fn migrate_line<'a>(alloc: Global) -> Result<Command<'a>, AllocError> {
+    Command::new(alloc, "migrate")
+        .about("Gives a volume of trees the newest mark, COBVOL02; its files stay")
+        .after_help(BEFORE_A_MIGRATION)
         .arg(required(alloc, "VOLUME", "A volume that `format` made"))
 }
 

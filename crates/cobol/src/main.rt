@@ -17,12 +17,11 @@ mod host_station;
 mod layout_command;
 mod list_command;
 mod load_command;
+mod migrate_command;
 mod numbers;
 mod progress;
 mod run_command;
 mod stat_command;
-#[cfg(test)]
-mod tests;
 mod today;
 mod unknown_name;
 mod verdict;

@@ -1,7 +1,7 @@
 //! The words of a command.
 
 ghost use Rattle.std.specs.Prelude.{◌≡◌, ◌⊎◌, None, IfOk, OnErr, codes};
-ghost use Rattle.cobol.specs.Words.{IsWithinBounds, AsksToFormat, AsksToCopy, AsksToLoad, AsksToStat, AsksToCompile, AsksToRun, AsksToList, AsksToDump, AsksToExplain, AsksToCheck, AsksToLayout, IsNumber, IsSectorCount, ReadsBudget, ReadsDate, option_of, word_of};
+ghost use Rattle.cobol.specs.Words.{IsWithinBounds, AsksToFormat, AsksToCopy, AsksToLoad, AsksToMigrate, AsksToStat, AsksToCompile, AsksToRun, AsksToList, AsksToDump, AsksToExplain, AsksToCheck, AsksToLayout, IsNumber, IsSectorCount, ReadsBudget, ReadsDate, option_of, word_of};
 
 use crate::command_line::command_line;
 use crate::numbers::{read_budget, read_day, read_number, read_sector_count};
@@ -27,6 +27,10 @@ pub enum Request<'a> {
     Load {
         volume: &'a str,
         name: &'a str,
+    },
+    /// To give a volume the newest mark.
+    Migrate {
+        volume: &'a str,
     },
     /// To print what a volume is.
     Stat {
@@ -116,6 +120,7 @@ fn read_request<'a>(alloc: Global, words: &'a [String]) -> Result<Request<'a>, F
         "format" => read_format(matches),
         "copy" => read_copy(matches),
         "load" => Ok(read_load(matches)),
+        "migrate" => Ok(read_migrate(matches)),
         "stat" => Ok(read_stat(matches)),
         "unload" => Ok(read_dump(matches)),
         "compile" => Ok(read_compile(matches)),
@@ -166,6 +171,15 @@ fn read_load<'a>(matches: &ArgMatches<'a>) -> Request<'a>
     Request::Load {
         volume: word(matches, "VOLUME"),
         name: word(matches, "NAME"),
+    }
+}
+
+/// The words of `migrate VOLUME`.
+fn read_migrate<'a>(matches: &ArgMatches<'a>) -> Request<'a>
+    ensures { AsksToMigrate matches.now result }
+{
+    Request::Migrate {
+        volume: word(matches, "VOLUME"),
     }
 }
 

@@ -658,11 +658,11 @@ shows which statements reached the disk.
 @ 81
 Refusal 81 (runs): the volume is full
 
-The volume has no room for the change of a file statement. The statement wrote
-nothing, and earlier statements stay.
+The volume has no room for the change of a file statement, or for `migrate`. It
+wrote nothing, and earlier statements stay.
 
 What to do:
-Make a larger volume, and run the programs again that fill it.
+Make a larger volume by `cobol copy`, and run the programs again that fill it.
 
 Refusal 81 (pages): the volume is full
 
@@ -716,6 +716,14 @@ What to do:
 Check that the file exists and is readable, and that no other command uses it.
 
 @ 86
+Refusal 86 (runs): the volume is a volume of halves
+
+`migrate` was called for a volume of halves. Nothing was written.
+
+What to do:
+Make a volume of trees of it by `cobol copy`, or leave it: every other command
+works on it.
+
 Refusal 86 (pages): the volume has the other layout
 
 Each store reports it exactly for volumes of the other store. A run opens both

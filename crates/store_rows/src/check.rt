@@ -1,9 +1,8 @@
 //! A case over each of its volumes.
 use crate::case::Case;
 use crate::connectors::Kind;
-use crate::disturbance::Disturbance;
+use crate::disturbance::{Disturbance, is_disturbed};
 use crate::run::Run;
-use crate::statement::is_statement;
 use row_scripts::{Difference, Fault, Row, Tally};
 use std::alloc::{AllocError, Global};
 use std::io;
@@ -36,8 +35,8 @@ pub fn check_case<R: Print + AllocGlobal>(
     Ok(())
 }
 
-/// Does the row at a place. A statement after the row `disturbed` is also disturbed at each of its calls; `start` is the place after that
-/// row.
+/// Does the row at a place. A statement or `migrate` after the row `disturbed` is also disturbed at each of its calls; `start` is the
+/// place after that row.
 fn do_row(
     run: &mut Run<'_>,
     kind: Kind,
@@ -46,7 +45,7 @@ fn do_row(
     start: Option<usize>,
 ) -> Result<(), Fault> {
     let start = match start {
-        Some(start) if is_statement(&row.text) => start,
+        Some(start) if is_disturbed(&row.text) => start,
         _ => return run.row(&row.text),
     };
     run.volume.forget_calls();

@@ -3,6 +3,8 @@
 //! After a failure the area is as before. If the statement cannot change a file, its second attempt answers as its row says, and so do all
 //! rows after it. Otherwise the store is spent, and a crash leaves the files before the statement or those after it.
 //! After a stop each image that it may leave has the files before, or those after; those after if the statement was answered.
+//!
+//! `migrate` is disturbed too. It keeps the files in any case, and can be done again.
 use crate::answer::{Answer, DEVICE, SPENT};
 use crate::case::Case;
 use crate::connectors::Kind;
@@ -16,6 +18,9 @@ use std::alloc::Global;
 
 /// More calls than any statement makes.
 const MOST_CALLS: u64 = 200;
+
+/// The images of a stop of `migrate` that are tried: all, where up to two sectors wait for a sync.
+const CHOICES: [[u32; 2]; 4] = [[0, 0], [1, 0], [0, 1], [1, 1]];
 
 /// A statement of a case, with the files before it and after it.
 #[derive(Drop)]
@@ -42,8 +47,17 @@ fn spends(verb: Verb) -> Option<bool> {
     }
 }
 
+fn is_migration(row: &[u8]) -> bool {
+    row.starts_with(b"migrate")
+}
+
+/// Whether a row is disturbed.
+pub fn is_disturbed(row: &[u8]) -> bool {
+    is_statement(row) || is_migration(row)
+}
+
 fn is_needed(row: &[u8]) -> bool {
-    is_statement(row) || row.starts_with(b"reopen") || row.starts_with(b"put ")
+    is_disturbed(row) || row.starts_with(b"reopen") || row.starts_with(b"put ")
 }
 
 impl<'a> Disturbance<'a> {
@@ -167,8 +181,52 @@ impl<'a> Disturbance<'a> {
         self.check_refusal(&effect, &close, status)
     }
 
+    /// `migrate`, disturbed at a call, and a crash. Then the files are there, a second `migrate` ends, and a third one writes nothing.
+    /// The answer is whether the first one ended before that call.
+    fn migrate_disturbed(&self, n: u64, is_stop: bool, choices: &[u32]) -> Result<bool, Fault> {
+        let mut volume = self.replay()?.volume;
+        volume.disturb(n, is_stop);
+        let is_done = match volume.migrate() {
+            Ok(()) => true,
+            Err(Fault::Refused(80)) => false,
+            Err(fault) => return Err(fault),
+        };
+        volume.crash(choices);
+        self.check_files(&mut volume, true)?;
+        volume.migrate()?;
+        self.check_files(&mut volume, true)?;
+        let writes = volume.writes();
+        volume.migrate()?;
+        if volume.writes() != writes {
+            return Err(Fault::Spelling("a migrated volume is written"));
+        }
+        Ok(is_done)
+    }
+
+    /// `migrate`, stopped and failed at a call. The answer is whether it ended before that call.
+    fn migrate_to_call(&self, n: u64) -> Result<bool, Fault> {
+        let mut is_done = false;
+        for choices in CHOICES {
+            self.migrate_disturbed(n, true, &choices)?;
+            is_done = self.migrate_disturbed(n, false, &choices)?;
+        }
+        Ok(is_done)
+    }
+
+    fn migrate_to_each_call(&self) -> Result<(), Fault> {
+        for n in 1..MOST_CALLS {
+            if self.migrate_to_call(n)? {
+                return Ok(());
+            }
+        }
+        Err(Fault::Spelling("`migrate` has no end"))
+    }
+
     /// Disturbs the statement at each of its calls.
     pub fn at_each_call(&self) -> Result<(), Fault> {
+        if is_migration(self.row) {
+            return self.migrate_to_each_call();
+        }
         for n in 1..MOST_CALLS {
             let is_done = self.check_failure(n)?;
             if self.before != self.after {

@@ -193,6 +193,7 @@ impl<'a> Run<'a> {
         match words.word() {
             Some(b"files") => self.files(words, row),
             Some(b"reopen") => self.reopen(words),
+            Some(b"migrate") => self.migrate(words),
             Some(b"crash") => self.crash(words),
             Some(b"format") => self.volume.format(),
             Some(b"stop") => self.disturb(words, true),
@@ -271,6 +272,19 @@ impl<'a> Run<'a> {
             (Err(Fault::Refused(fault)), Some(number)) if fault == number => { Ok(()) }
             (Err(fault), _) => Err(fault),
             (Ok(()), Some(_)) => Err(Fault::Spelling("it is opened")),
+        }
+    }
+
+    /// `migrate`, after which the volume is open again, or `migrate refused N`, after which it is closed.
+    fn migrate(&mut self, mut words: Words<'_>) -> Result<(), Fault> {
+        let refused = refusal(&mut words);
+        self.renew()?;
+        self.writes = self.volume.writes();
+        match (self.volume.migrate(), refused) {
+            (Ok(()), None) => self.open(),
+            (Err(Fault::Refused(fault)), Some(number)) if fault == number => { Ok(()) }
+            (Err(fault), _) => Err(fault),
+            (Ok(()), Some(_)) => Err(Fault::Spelling("it is migrated")),
         }
     }
 

@@ -3,7 +3,7 @@ use crate::answer::Answer;
 use crate::connectors::{Kind, Verbs, refusal};
 use crate::listing::list;
 use crate::statement::Statement;
-use alternate_keys::PagedStore;
+use alternate_keys::{PagedStore, migrate};
 use file_recovery::recover;
 use records::{Select, Verb};
 use row_scripts::Fault;
@@ -103,6 +103,12 @@ impl Volume {
         self.verbs = Verbs::Closed;
         self.verbs = Verbs::open(self.alloc, self.kind, &mut self.station, selects)?;
         Ok(())
+    }
+
+    /// Gives the volume the mark COBVOL02. It isn't open then.
+    pub fn migrate(&mut self) -> Result<(), Fault> {
+        self.verbs = Verbs::Closed;
+        migrate(self.alloc, &mut self.station).map_err(refusal)
     }
 
     /// Whether there is a SELECT at this place that the verb suits, with records of so many bytes.

@@ -7,3 +7,4 @@ pub mod Faults
 pub mod Output
 pub mod Calls
 pub mod Laws
+pub mod Migrate

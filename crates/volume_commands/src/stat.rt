@@ -7,6 +7,7 @@ use crate::escape::push_text;
 use crate::file_line::{push_number, push_word};
 use crate::volume_state::{Layout, VolumeState};
 use file_recovery::StoredFile;
+use pages::{HALF_MARKS, PAGE_MARKS};
 use std::alloc::{AllocError, Global};
 
 /// A line each: the mark, the generation, the sectors, the free sectors, the number of files, and
@@ -49,7 +50,7 @@ fn push_mark_line(out: &mut Vec<u8>, layout: Layout, version: usize) -> Result<(
     ensures { OnOk result (out.new.items ≡ out.old.items ++ spec.mark_line layout version) }
 {
     out.extend_from_slice(b"mark")?;
-    push_word(out, mark_of(layout, version))?;
+    push_word(out, &mark_of(layout, version))?;
     Ok(out.push(b'\n')?)
 }
 
@@ -73,12 +74,12 @@ fn push_rows_line(out: &mut Vec<u8>, file: &StoredFile) -> Result<(), AllocError
 }
 
 /// The mark of a layout with this index.
-fn mark_of(layout: Layout, version: usize) -> &'static [u8]
-    ensures { result.now ≡ spec.mark_of layout version }
+fn mark_of(layout: Layout, version: usize) -> [u8; 8]
+    ensures { result ≡ spec.mark_of layout version }
 {
     match layout {
-        Layout::Trees if version == 0 => b"COBVOL01",
-        Layout::Trees => b"COBVOL02",
-        Layout::Halves => b"COBHALF1",
+        Layout::Trees if version == 0 => PAGE_MARKS[0],
+        Layout::Trees => PAGE_MARKS[1],
+        Layout::Halves => HALF_MARKS[0],
     }
 }

@@ -18,6 +18,7 @@ ghost use Rattle.volume_commands.specs.State.{IsStateOf, IsNewest, HasRoot, IsSt
 use crate::volume_error::VolumeError;
 use alternate_keys::PagedStore;
 use byteorder::{BigEndian, ByteOrder};
+use pages::{HALF_MARKS, PAGE_MARKS};
 use records::StoreFault;
 use roots::{Root, RootsError, read_roots};
 use station::Device;
@@ -45,11 +46,6 @@ pub struct VolumeState {
     /// leave.
     pub free: u32,
 }
-
-/// The marks of the two layouts, each in the order of their introduction.
-const TREES: [[u8; 8]; 2] = [*b"COBVOL01", *b"COBVOL02"];
-
-const HALVES: [[u8; 8]; 1] = [*b"COBHALF1"];
 
 const SECTOR_BYTES: u64 = 4096;
 
@@ -92,7 +88,7 @@ fn read_trees<D: Device>(device: &mut D, free: u32) -> Result<VolumeState, Volum
         → IfErr result IsReadFailure }
     ensures cause { IfErr result IsReadError }
 {
-    let root = read_root(device, &[&TREES, &HALVES])?;
+    let root = read_root(device, &[&PAGE_MARKS, &HALF_MARKS])?;
     Ok(VolumeState {
         layout: Layout::Trees,
         version: root.mark.version,
@@ -113,7 +109,7 @@ fn read_halves<D: Device>(device: &mut D) -> Result<VolumeState, VolumeError>
         → IfErr result IsReadFailure }
     ensures cause { IfErr result IsReadError }
 {
-    let root = read_root(device, &[&HALVES, &TREES])?;
+    let root = read_root(device, &[&HALF_MARKS, &PAGE_MARKS])?;
     Ok(VolumeState {
         layout: Layout::Halves,
         version: root.mark.version,

@@ -1,6 +1,7 @@
 use Rattle.std.proofs.Common.{◌≡◌, ◌<◌, ◌+◌, ◌*◌, ◌%◌, ◌^◌, Err, ℕ, List, length, sym, ap, subst, ◌∙◌, arith}
 use Rattle.std.specs.Prelude.{drop, IfErr}
 use Rattle.byteorder.specs.Endian.{big_number}
+use Rattle.pages.specs.Layout.{version_of}
 use Rattle.pages.specs.Pages.{mark_of}
 use Rattle.btree.proofs.Frames.{unchanged_on}
 use Rattle.records.specs.declared.fault.StoreFault.TheVariants.{Device}
@@ -62,7 +63,7 @@ changed g c at seen trees =
     _ _ _ _ trees.has (sym c.is_done.ensures ∙ c.if-not-is_done.false))
 
 -- the mark that was read is that of the map
-mark_read : (g : Over) (c : After-change_trees g) → c.mark.result ≡ mark_of c.args.pages.now
+mark_read : (g : Over) (c : After-change_trees g) → version_of c.mark.result ≡ mark_of c.args.pages.now
 mark_read g c = c.mark.ensures.is ∙ c.find_listing.ensures.unchanged.committed.mark
 
 -- the number of rows that was read is that of the file

@@ -1,6 +1,7 @@
 use Rattle.std.proofs.Common.{◌≡◌, inl, inr, Ok, Err, ℕ, List, [], length, sym, ap, subst, ◌∙◌, arith, refl}
 use Rattle.std.specs.Prelude.{map, IfErr}
 use Rattle.std.specs.List.{flat_map}
+use Rattle.pages.specs.Layout.{version_of}
 use Rattle.pages.specs.Pages.{map_now, mark_of}
 use Rattle.btree.specs.Calls.{pages_on}
 use Rattle.btree.specs.Entries.{entry_with, with_new_entry}
@@ -84,7 +85,7 @@ returns-in_err-value-clause-cause g c =
 pub insert_among-requires-clause-value : goal.insert_among-requires-clause-value
 insert_among-requires-clause-value g c =
     ap (λ (l : List ℕ). length l) (c.deref.ensures.value ∙ c.in_ok-value.ensures.bytes)
-    ∙ (reads_back c.mark-mark.result c.args.listing.now 0 c.requires.listing).long
+    ∙ (reads_back (version_of c.mark-mark.result) c.args.listing.now 0 c.requires.listing).long
     ∙ sym (ap (λ (l : RowLayout). l.value_length) c.catalog_tree-catalog.ensures.layout)
 
 pub returns-in_err-insert_among-clause-prepares : goal.returns-in_err-insert_among-clause-prepares
@@ -116,7 +117,7 @@ returns-then-branch-clause-room g c = λ honest agrees files holds full.
     inr (c.in_ok-is_full.ensures.full honest agrees files holds c.if-branch.true)
 
 -- the mark that was read is that from before
-mark_read : (g : Over) (c : After-insert_among g) → c.mark-mark.result ≡ mark_of c.args.pages.now
+mark_read : (g : Over) (c : After-insert_among g) → version_of c.mark-mark.result ≡ mark_of c.args.pages.now
 mark_read g c = c.mark-mark.ensures.is ∙ c.is_full.ensures.looks.unchanged.committed.mark
 
 -- the catalog among the trees of its files
@@ -144,7 +145,8 @@ returns-in_err-insert_among-clause-damaged g c = λ honest agrees files holds no
     let at = goal.at.returns-in_err-insert_among-clause-damaged g c in
     let looks = c.is_full.ensures.looks in
     c.insert_among.ensures.damaged (looks.only.honest.0 honest) (looks.agrees honest agrees) []
-    (flat_map trees_of holds.kept) (map (catalog_entry (mark_of c.args.pages.now)) holds.kept) (stands g at.After-insert_among honest files holds)
+    (flat_map trees_of holds.kept) (map (catalog_entry (mark_of c.args.pages.now)) holds.kept)
+    (stands g at.After-insert_among honest files holds)
     (refused_by_call c.in_err-insert_among.was c.from_residual-in_err-insert_among.ensures.1 refused)
 
 pub returns-then-not-branch-clause-damaged : goal.returns-then-not-branch-clause-damaged
@@ -153,7 +155,8 @@ returns-then-not-branch-clause-damaged g c = λ honest agrees files holds none r
     let looks = c.is_full.ensures.looks in
     none_or_some (ap (entry_with (map (catalog_entry (mark_of c.args.pages.now)) holds.kept)) c.pad_name.ensures ∙ none)
     (c.in_ok-insert_among.ensures.there (looks.only.honest.0 honest) (looks.agrees honest agrees) []
-    (flat_map trees_of holds.kept) (map (catalog_entry (mark_of c.args.pages.now)) holds.kept) (stands g at.After-insert_among honest files holds)
+    (flat_map trees_of holds.kept) (map (catalog_entry (mark_of c.args.pages.now)) holds.kept)
+    (stands g at.After-insert_among honest files holds)
     (ap Ok c.if-not-branch.true))
 
 pub returns-clause-added : goal.returns-clause-added

@@ -48,9 +48,10 @@ found g c honest agrees files holds =
     let name : List ℕ = c.args.file.now.name.items in
     let bounds = c.map_bounds.ensures.open c.args.pages.now old.disk.present c.requires.open c.requires.unspent in
     is_there m files holds name c.args.file.now.named
-    (pages_on g.D.Device c.find_listing.new.pages c.find_listing.new.device) c.listing_part.result.now c.in_ok-entry.field-0
-    c.in-Some.entry (c.in_ok-entry.ensures.entry honest agrees files holds
-    ∙ ap (λ (n : List ℕ). entry_with (map (catalog_entry (mark_of c.args.pages.now)) holds.kept) (padded_name n)) c.deref.ensures.value)
+    (pages_on g.D.Device c.find_listing.new.pages c.find_listing.new.device) c.listing_part.result.now
+    c.in_ok-entry.field-0 c.in-Some.entry (c.in_ok-entry.ensures.entry honest agrees files holds
+    ∙ ap (λ (n : List ℕ). entry_with (map (catalog_entry (mark_of c.args.pages.now)) holds.kept) (padded_name n))
+    c.deref.ensures.value)
     (listed_as m files c.deref.result.now name c.in_ok-entry.field-0 c.deref.ensures.value
     (c.in_ok-entry.ensures.listed honest agrees files holds)) c.in-Some.is c.listing_part.ensures.part bounds.0 bounds.1
     (same_pages c.args.pages.now c.find_listing.new.pages old (g.D.Device.state c.find_listing.new.device)

@@ -1,13 +1,16 @@
-use Rattle.std.proofs.Common.{◌≡◌, ℕ, List, Ok, true, false, refl, sym, ap, subst, ◌∙◌}
+use Rattle.std.proofs.Common.{◌≡◌, ℕ, List, Ok, Err, true, false, refl, sym, ap, subst, ◌∙◌}
 use Rattle.std.specs.Prelude.{Option, None, is_some}
 use Rattle.station.specs.Disk.{Sector}
 use Rattle.pages.specs.Pages.{map_now, catalog_of, mark_of}
+use Rattle.pages.specs.declared.error.PagesError.TheVariants as pages
 use Rattle.btree.specs.Rooted.{RootedTree}
 use Rattle.btree.specs.Entries.{Entry, entries_of, entry_with, with_value}
 use Rattle.btree.specs.Changes.{Becomes}
 use Rattle.file_bytes.specs.Description.{padded_name}
+use Rattle.records.specs.declared.fault.StoreFault.TheVariants.{Damaged}
 use Rattle.volume_format.specs.Catalog.{catalog_value, catalog_layout}
 use Rattle.volume_format.specs.Grows.{IsTreeAmong}
+use Rattle.volume_format.proofs.Faults.{damaged_back}
 use Rattle.alternate_keys.specs.Listed.{catalog_at}
 use Rattle.alternate_keys.proofs.Among.{grows}
 use Rattle.alternate_keys.proofs.Becoming.{becomes_among}
@@ -71,3 +74,18 @@ returns-in-Ok-false-clause-damaged g c = λ honest agrees left right entries sta
     ap (λ (e : Option Entry). is_some e) none_there in
     let both : true ≡ false = sym some ∙ clash in
     cc
+
+pub returns-clause-damaged : goal.returns-clause-damaged
+returns-clause-damaged g c = λ honest agrees left right entries stands some is.
+    let before : List (Option Sector) =
+    (map_now c.args.pages.now (g.D.Device.state c.args.device.now).disk.present).pages in
+    let tree : RootedTree = c.catalog_tree-catalog.result in
+    let own : RootedTree = catalog_at (mark_of c.args.pages.now) (catalog_of c.args.pages.now) in
+    let same : tree ≡ own = same_tree tree own
+    (c.catalog_tree-catalog.ensures.layout ∙ ap catalog_layout c.mark.ensures.is)
+    (c.catalog_tree-catalog.ensures.root ∙ c.catalog.ensures) in
+    let here : IsTreeAmong before left right tree entries =
+    subst (λ (t : RootedTree). IsTreeAmong before left right t entries) (sym same) stands in
+    let told : c.to_fault.result ≡ Damaged = cc in
+    let fault : c.in-Err.error ≡ pages.Damaged = damaged_back c.in-Err.error (sym c.to_fault.ensures ∙ told) in
+    c.in-Err.ensures.damaged honest agrees (ap Err fault) here.levels (grows before left right tree entries here)

@@ -1,0 +1,69 @@
+-- A volume gets the second mark.
+use Rattle.std.specs.Prelude.{◌≡◌, ◌<◌, ◌≤◌, ◌⊎◌, ◌+◌, ◌*◌, ◌^◌, ℕ, List, map, length, ⊤}
+use Rattle.std.specs.List.{All}
+use Rattle.station.specs.Disk.{Sector, IsCrashImage}
+use Rattle.station.specs.State.{State}
+use Rattle.station.specs.Blocks.{CrashLeaves}
+use Rattle.pages.specs.Layout.{IsForeign, map_count}
+use Rattle.pages.specs.Image.{Volume, Map, Reads}
+use Rattle.pages.specs.Use.{free_count}
+use Rattle.btree_pages.specs.declared.row_layout.Kind.TheVariants.{Leaf}
+use Rattle.btree_pages.specs.Node.{Node}
+use Rattle.btree.specs.Builds.{IsLeafOf, rows_of_nodes}
+use Rattle.btree.specs.Entries.{entries_of_rows}
+use Rattle.records.specs.declared.fault.StoreFault.{StoreFault}
+use Rattle.records.specs.declared.fault.StoreFault.TheVariants.{Device, Full, Damaged, Memory, Spent, Layout}
+use Rattle.records.specs.Files.{Files}
+use Rattle.volume_format.specs.Catalog.{catalog_layout}
+use Rattle.volume_format.specs.Volume.{FileTrees, Holds, catalog_entry}
+use Rattle.alternate_keys.specs.Opened.{HoldsNone}
+
+-- the newest root in the image has this mark of a volume of pages
+abbrev pub HasMark : ℕ → List Sector → Type 0
+HasMark mark image = (v : Volume) × Reads image v × (v.root.mark ≡ mark)
+
+-- it has the second mark, and holds these files
+abbrev pub IsMigrated : Files → List Sector → Type 0
+IsMigrated files image = HasMark 1 image × Holds image files
+
+-- a map, with this mark
+abbrev pub with_mark : ℕ → Map → Map
+with_mark mark m = record { mark = mark; generation = m.generation; catalog = m.catalog; pages = m.pages }
+
+-- nothing was told, and what a crash leaves was possible before, or holds these files
+abbrev pub IsMigrating : State → Files → State → Type 0
+IsMigrating old files state = CrashLeaves old.events (λ image. IsCrashImage old.disk image ⊎ Holds image files) state
+
+-- The volume has the first mark. Fewer than 600 sectors are free besides all sectors of the map, or no generation is
+-- left.
+pub record LacksRoomToMigrate (image : List Sector) : Type 0 where
+  pub volume : Volume
+  pub reads : Reads image volume
+  pub first : volume.root.mark ≡ 0
+  pub short : (free_count volume < 600 + map_count volume.root.sectors) ⊎ (2 ^ 63 ≤ volume.root.generation + 1)
+
+-- What a refusal tells of the image: `Device` and `Memory` tell nothing of it, and `Spent` doesn't come.
+abbrev pub IsMigrateRefusal : List Sector → StoreFault → Type 0
+IsMigrateRefusal image Device = ⊤
+IsMigrateRefusal image Full = LacksRoomToMigrate image
+IsMigrateRefusal image Damaged = HoldsNone image
+IsMigrateRefusal image Memory = ⊤
+IsMigrateRefusal image Spent = ⊥
+IsMigrateRefusal image Layout = IsForeign image
+
+-- the leaves of a catalog on a volume with the second mark
+pub record AreCatalogLeaves (leaves : List Node) : Type 0 where
+  pub each : All (IsLeafOf (catalog_layout 1)) leaves
+  pub few : length leaves ≤ 8
+
+-- so many rows: full leaves of 33 rows each, and one that has the rest
+pub record AreFilled (n : ℕ) (leaves : List Node) (leaf : Node) : Type 0 where
+  pub each : All (IsLeafOf (catalog_layout 1)) leaves
+  pub like : leaf.layout ≡ catalog_layout 1
+  pub kind : leaf.kind ≡ Leaf
+  pub fits : length leaf.rows ≤ 33
+  pub count : 33 * length leaves + length leaf.rows ≡ n
+
+-- they list these files with the numbers of their rows
+abbrev pub ListsCounted : List FileTrees → List Node → Type 0
+ListsCounted kept leaves = entries_of_rows (catalog_layout 1) (rows_of_nodes leaves) ≡ map (catalog_entry 1) kept
