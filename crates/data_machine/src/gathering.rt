@@ -4,22 +4,72 @@ ghost use Rattle.std.specs.Prelude.{◌≡◌, ◌+◌, ◌<◌, ◌≤◌, leng
 ghost use Rattle.items.specs.Items.{HasLengthOf};
 ghost use Rattle.items.specs.Texts.{padded_text};
 ghost use Rattle.text_ops.specs.Strings.{delimited_characters};
+ghost use Rattle.source_tree.specs.Inspecting.{text_at};
+ghost use Rattle.source_tree.specs.References.{part_of as bytes_at};
 ghost use Rattle.data_instructions.specs.Table as spec;
+ghost use Rattle.data_instructions.specs.Tables.{item_place};
 ghost use Rattle.data_instructions.specs.declared.gather.Gather.TheVariants as gathers;
 ghost use Rattle.data_instructions.specs.declared.instruction.DataInstruction.TheVariants as instructions;
 ghost use Rattle.data_machine.specs.Data.{scratch_of};
 ghost use Rattle.data_machine.specs.Comes.{IsStepOf, KeepsRoom};
-ghost use Rattle.data_machine.specs.Finds.{FindsItem, FindsNext};
+ghost use Rattle.data_machine.specs.Finds.{IsAtOffset, FindsItem, FindsNext};
 ghost use Rattle.data_machine.specs.Lines.{HasPartRoom, HasTextRoom, HasWholeRoom};
 ghost use Rattle.data_machine.specs.Ready.{IsReady};
 
 use crate::data::Data;
 use crate::seen::{part_of, seen};
+use crate::superinstruction_work::item_of;
 use data_instructions::{DataItem, DataTables, Gather, ProgramFault, TextIndex};
 use decimal18::Dec;
 use text_ops::delimited;
 
 impl Data {
+    /// The bytes of an item at an offset are added to the line.
+    #[inline]
+    fn gather_at(&mut self, one: &DataItem, offset: usize) -> Result<(), ProgramFault>
+        requires item { IsAtOffset one.now self.old.areas offset }
+        requires room { length self.old.line.bytes + one.now.item.length ≤ self.old.line.room }
+        ensures does { IsStepOf result (scratch_of self.new) (spec.append_step
+            (bytes_at self.old.areas (item_place one.now offset)) (scratch_of self.old)) }
+        ensures keeps { KeepsRoom self.old self.new }
+    {
+        self.line.append(self.areas.bytes(one, offset));
+        Ok(())
+    }
+
+    /// The same up to a delimiter.
+    #[inline]
+    fn gather_up_to_at(
+        &mut self,
+        one: &DataItem,
+        offset: usize,
+        delimiter: &[u8],
+    ) -> Result<(), ProgramFault>
+        requires item { IsAtOffset one.now self.old.areas offset }
+        requires room { length self.old.line.bytes + one.now.item.length ≤ self.old.line.room }
+        ensures does { IsStepOf result (scratch_of self.new)
+            (spec.append_step (delimited_characters delimiter.now
+            (bytes_at self.old.areas (item_place one.now offset))) (scratch_of self.old)) }
+        ensures keeps { KeepsRoom self.old self.new }
+    {
+        let bytes = self.areas.bytes(one, offset);
+        self.line.append(up_to(delimiter, bytes));
+        Ok(())
+    }
+
+    /// The same, as many as the item has.
+    #[inline]
+    fn gather_sized_at(&mut self, one: &DataItem, offset: usize) -> Result<(), ProgramFault>
+        requires item { IsAtOffset one.now self.old.areas offset }
+        requires room { length self.old.line.bytes + one.now.item.length ≤ self.old.line.room }
+        ensures does { IsStepOf result (scratch_of self.new) (spec.append_step
+            (text_at self.old.areas (item_place one.now offset)) (scratch_of self.old)) }
+        ensures keeps { KeepsRoom self.old self.new }
+    {
+        self.line.append(sized(one, self.areas.bytes(one, offset)));
+        Ok(())
+    }
+
     /// `gather bytes`: those at the newest place.
     pub fn gather_bytes(&mut self, tables: &DataTables) -> Result<(), ProgramFault>
         requires operand { FindsItem tables.now self.old.areas self.old.places.newest_first }
@@ -30,11 +80,9 @@ impl Data {
         ensures keeps { KeepsRoom self.old self.new }
     {
         let place = self.places.pop();
-        let one = &tables.items.as_slice()[place.item.number as usize];
+        let one = item_of(tables, place.item);
         let part = part_of(one, place.length);
-        let one = seen(one, &part);
-        self.line.append(self.areas.bytes(one, place.offset));
-        Ok(())
+        self.gather_at(seen(one, &part), place.offset)
     }
 
     /// `gather up to place`: the bytes at the newest place, up to those at the next one, which stays.
@@ -80,12 +128,9 @@ impl Data {
     {
         let delimiter = tables.texts.as_slice()[delimiter.number as usize].as_slice();
         let place = self.places.pop();
-        let one = &tables.items.as_slice()[place.item.number as usize];
+        let one = item_of(tables, place.item);
         let part = part_of(one, place.length);
-        let one = seen(one, &part);
-        let bytes = self.areas.bytes(one, place.offset);
-        self.line.append(up_to(delimiter, bytes));
-        Ok(())
+        self.gather_up_to_at(seen(one, &part), place.offset, delimiter)
     }
 
     /// `gather text up to place`: a text of the table, up to the bytes at the newest place, which stays.
@@ -120,12 +165,9 @@ impl Data {
         ensures keeps { KeepsRoom self.old self.new }
     {
         let place = self.places.pop();
-        let one = &tables.items.as_slice()[place.item.number as usize];
+        let one = item_of(tables, place.item);
         let part = part_of(one, place.length);
-        let one = seen(one, &part);
-        self.line
-            .append(sized(one, self.areas.bytes(one, place.offset)));
-        Ok(())
+        self.gather_sized_at(seen(one, &part), place.offset)
     }
 
     /// `gather measured`: the bytes at the newest place, padded to the size of its item in the table, and where in the line they
