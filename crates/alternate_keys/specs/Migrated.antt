@@ -30,19 +30,19 @@ IsMigrated files image = HasMark 1 image × Holds image files
 abbrev pub with_mark : ℕ → Map → Map
 with_mark mark m = record { mark = mark; generation = m.generation; catalog = m.catalog; pages = m.pages }
 
--- nothing was told, and what a crash leaves was possible before, or holds these files
+-- nothing was shown, and what a crash leaves was possible before, or holds these files
 abbrev pub IsMigrating : State → Files → State → Type 0
 IsMigrating old files state = CrashLeaves old.events (λ image. IsCrashImage old.disk image ⊎ Holds image files) state
 
--- The volume has the first mark. Fewer than 600 sectors are free besides all sectors of the map, or no generation is
+-- The volume has the first mark. Fewer than nine sectors are free besides all sectors of the map, or no generation is
 -- left.
 pub record LacksRoomToMigrate (image : List Sector) : Type 0 where
   pub volume : Volume
   pub reads : Reads image volume
   pub first : volume.root.mark ≡ 0
-  pub short : (free_count volume < 600 + map_count volume.root.sectors) ⊎ (2 ^ 63 ≤ volume.root.generation + 1)
+  pub short : (free_count volume < 9 + map_count volume.root.sectors) ⊎ (2 ^ 63 ≤ volume.root.generation + 1)
 
--- What a refusal tells of the image: `Device` and `Memory` tell nothing of it, and `Spent` doesn't come.
+-- What a refusal says of the image: `Device` and `Memory` say nothing of it, and `Spent` doesn't come.
 abbrev pub IsMigrateRefusal : List Sector → StoreFault → Type 0
 IsMigrateRefusal image Device = ⊤
 IsMigrateRefusal image Full = LacksRoomToMigrate image

@@ -42,7 +42,7 @@ const CACHE: usize = 64;
 /// Gives the volume of a device the second mark. Its catalog is made anew, with the number of each file's rows, and is put on the disk
 /// in one commit with the mark. Nothing is written if the volume has that mark.
 ///
-/// `Full` says that fewer than 600 sectors were free besides those of the map, or that no generation is left, and `Layout` that the
+/// `Full` says that fewer than nine sectors were free besides those of the map, or that no generation is left, and `Layout` that the
 /// volume is the other store's.
 pub fn migrate<D: Device>(alloc: Global, device: &mut D) -> Result<(), StoreFault>
     ensures honest { D.is_honest device.old ↔ D.is_honest device.new }
@@ -68,7 +68,7 @@ pub fn migrate<D: Device>(alloc: Global, device: &mut D) -> Result<(), StoreFaul
         → OnErr result ((D.state device.new ≡ D.state device.old)
         ⊎ (D.state device.new ≡ state_after_sync (D.state device.old))) }
 
-    // If it is refused for want of room, nothing was written.
+    // If it is refused for lack of room, nothing was written.
     ensures unwritten { result ≡ Err StoreFault.Full → D.is_honest device.old
         → D.state device.new ≡ state_after_sync (D.state device.old) }
 
@@ -122,7 +122,7 @@ fn remake_catalog<D: Device>(
     ensures spent { result ≡ Err StoreFault.Spent → is_spent pages.old ≡ true }
     ensures cause { IfErr result IsWriteFault }
 {
-    // Where no page number is left, few sectors are free.
+    // If no page number is left, few sectors are free.
     few_free();
     let leaves = counted_leaves(alloc, pages, device)?;
     let mut old = catalog_tree(alloc, VolumeMark::First, pages.catalog());

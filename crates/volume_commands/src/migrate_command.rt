@@ -18,8 +18,8 @@ use std::alloc::Global;
 /// Gives the volume of a device the newest mark of a volume of trees, with the number of each file's rows. Its files are recovered
 /// first.
 ///
-/// `Damaged` says that the volume holds no files, and `Layout` that it is a volume of halves. `Full` says that fewer than 600 sectors
-/// were free besides those of the map, or that no generation is left. The volume isn't written in any of these cases.
+/// `Damaged` says that the volume holds no files, and `Layout` that it is a volume of halves. `Full` says that fewer than nine
+/// sectors were free besides those of the map, or that no generation is left. The volume isn't written in any of these cases.
 pub fn migrate_volume<D: Device>(alloc: Global, device: &mut D) -> Result<(), StoreFault>
     ensures honest { D.is_honest device.old ↔ D.is_honest device.new }
     ensures sectors { D.sectors device.new ≡ D.sectors device.old }
