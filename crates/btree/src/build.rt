@@ -2,7 +2,7 @@
 ghost use Rattle.std.specs.Prelude.{◌≡◌, ◌≤◌, ◌<◌, ◌+◌, Err, List, length, IfOk, IfErr};
 ghost use Rattle.std.specs.List.{All};
 ghost use Rattle.station.specs.Disk.{Sector};
-ghost use Rattle.pages.specs.Pages.{is_spent, IsOpen, KeepsCommitted};
+ghost use Rattle.pages.specs.Pages.{IsOpen, KeepsCommitted};
 ghost use Rattle.btree_pages.specs.RowLayouts.{IsRowLayout, capacity};
 ghost use Rattle.btree_pages.specs.Keys.{Ascend, keys_of};
 ghost use Rattle.btree.specs.Builds.{IsLeafOf, Builds, rows_of_nodes};
@@ -18,7 +18,7 @@ use std::alloc::Global;
 
 impl Tree {
     /// A tree of these leaves, from left to right, which one inner page can name. Its pages were in no tree. After a refusal the pages
-    /// that aren't committed are given up with the map of pages. `Full` tells that no page number is left.
+    /// that aren't committed are given up with the map of pages. `Full` says that no page number is left.
     pub fn build(
         alloc: Global,
         layout: RowLayout,
@@ -30,7 +30,7 @@ impl Tree {
         requires leaves { All (IsLeafOf layout) leaves.now }
         requires few { length leaves.now ≤ capacity layout Kind.Inner }
 
-        // Where their keys ascend, it is a tree.
+        // If their keys ascend, it is a tree.
         ensures built { Ascend (keys_of layout (rows_of_nodes leaves.now)) → IfOk result
             (λ tree. (image : List Sector) → Builds layout (pages_of_map pages.old image)
             (rows_of_nodes leaves.now) (pages_of_map pages.new image) tree.root) }
@@ -49,7 +49,7 @@ impl Tree {
         // From the last leaf to the first: each comes before those that stand.
         for turn in 0..leaves.len() {
             let leaf = &leaves[leaves.len() - 1 - turn];
-            // That its rows have their lengths is needed below.
+            // A clause of `count` says that its rows have their lengths.
             let _count = leaf.count();
             root = put_new(pages, leaf)?;
             top.insert_child(0, leaf.key(0), root);

@@ -23,7 +23,7 @@ use station::Device;
 use std::alloc::Global;
 
 impl Tree {
-    /// How many entries there are. Each page of the tree is read once. `Damaged` tells that the pages under the root are no tree. The
+    /// How many entries there are. Each page of the tree is read once. `Damaged` says that the pages under the root are no tree. The
     /// page numbers of two levels are kept in memory, no more of each than the volume has.
     pub fn count<D: Device>(&self, pages: &mut PageMap, device: &mut D) -> Result<u64, PagesError>
         requires open { IsOpen pages.old }
@@ -46,7 +46,7 @@ impl Tree {
             return Ok(0);
         }
         let alloc = self.alloc;
-        // How many page numbers there are is needed below.
+        // A clause of `page_count` says how many page numbers there are.
         let _page_count = pages.page_count();
         let mut numbers = Vec::new(alloc);
         numbers.push(self.root)?;
@@ -80,7 +80,7 @@ fn count_rows<D: Device>(
     ensures spent { OnlyIfSpent pages.old result }
     ensures cause { IfErr result IsChangeRefusal }
 {
-    // That there are few page numbers, and 4,080 rows at most on each, keeps the sum in its bounds.
+    // There are few page numbers, and at most 4,080 rows on each page, so the sum is in its bounds.
     let _page_count = pages.page_count();
     let mut count = 0;
     for place in 0..numbers.len() {

@@ -66,7 +66,7 @@ fn move_any(
     Ok(())
 }
 
-/// Moves a number of 64 bits to a numeric item: at once if it fits.
+/// Moves a number of 64 bits to a numeric item. If it fits, no decimal is made of it.
 #[inline(always)]
 fn move_short(x: Short, receiver: Numeric, bytes: &mut [u8])
     requires receiver { IsNumeric receiver }

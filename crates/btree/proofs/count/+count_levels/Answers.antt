@@ -1,4 +1,4 @@
-use Rattle.std.proofs.Common.{◌≡◌, ◌≤◌, ◌<◌, ◌+◌, ◌-◌, ℕ, List, [], length, sym, ap, subst, ◌∙◌, arith, rules, true}
+use Rattle.std.proofs.Common.{◌≡◌, ◌<◌, ◌-◌, ℕ, List, length, sym, ap, subst, ◌∙◌, arith, rules, true}
 use Rattle.std.proofs.Common.{inr}
 use Rattle.std.specs.Prelude.{Option, IfErr, IfOk, Err}
 use Rattle.std.specs.List.{All}
@@ -11,7 +11,7 @@ use Rattle.station.proofs.Calls.{reads_then, reads_nothing}
 use Rattle.pages.specs.Pages.{is_spent}
 use Rattle.pages.specs.declared.error.PagesError.TheVariants.{Device, Spent}
 use Rattle.btree_pages.specs.declared.row_layout.Kind.TheVariants.{Leaf}
-use Rattle.btree.specs.Tree.{TreeNode, IsOnPage, rows_of, rows_in_order}
+use Rattle.btree.specs.Tree.{TreeNode, IsOnPage, rows_in_order}
 use Rattle.btree.specs.Changes.{pages_of_map}
 use Rattle.btree.specs.Clears.{HasPages, IsDown, levels_below}
 use Rattle.btree.specs.Laws.{IsSmall}

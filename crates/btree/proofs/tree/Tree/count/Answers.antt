@@ -1,19 +1,16 @@
-use Rattle.std.proofs.Common.{◌≡◌, ◌≢◌, ◌<◌, ◌++◌, ℕ, List, [], ◌∷◌, Err, true, false, length, sym, ap, subst, ◌∙◌}
+use Rattle.std.proofs.Common.{◌≡◌, ◌<◌, ◌++◌, ℕ, List, [], ◌∷◌, false, length, sym, ap, subst, ◌∙◌}
 use Rattle.std.proofs.Common.{arith}
-use Rattle.std.specs.Prelude.{IfErr, IfOk}
-use Rattle.station.specs.Calls.{OnlyReads}
+use Rattle.std.specs.Prelude.{IfOk}
 use Rattle.station.proofs.Calls.{reads_nothing}
 use Rattle.pages.specs.Pages.{is_spent, page_count}
-use Rattle.pages.specs.declared.error.PagesError.TheVariants.{Device, Damaged, Spent}
+use Rattle.pages.specs.declared.error.PagesError.TheVariants.{Device}
 use Rattle.btree.specs.Rooted.{RootedTree}
 use Rattle.btree.specs.Tree.{IsTree}
 use Rattle.btree.specs.Entries.{entries_of}
-use Rattle.btree.specs.Laws.{IsSmall}
 use Rattle.btree.specs.Changes.{pages_of_map}
-use Rattle.btree.specs.Refusals.{IsChangeRefusal}
 use Rattle.btree.proofs.Counting.{unless_spent, damaged_unspent, counted_tree, never_damaged}
 use Rattle.btree.proofs.Frames.{holds_tree}
-use Rattle.btree.proofs.Passing.{passed, never_ok, still_error, reads_where}
+use Rattle.btree.proofs.Passing.{never_ok, reads_where}
 use Rattle.btree.proofs.TreeNodes.{few_pages}
 use Rattle.btree.proofs.tree.Tree.count.Goals as goal
 
