@@ -180,13 +180,22 @@ fn areas(rt: &impl Abort, alloc: Global) -> Items<Items<u8>> {
 
 fn numbers(rt: &impl Abort, alloc: Global) -> Items<Dec> {
     let mut numbers = Items::new(alloc);
-    for integer in [1, 2, 5, 7, -7, 20, 99, 999] {
-        add(rt, &mut numbers, Dec::short(integer, 0));
+    for number in [
+        Dec::short(1, 0),
+        Dec::short(2, 0),
+        Dec::short(5, 0),
+        Dec::short(7, 0),
+        Dec::short(-7, 0),
+        Dec::short(20, 0),
+        Dec::short(99, 0),
+        Dec::short(999, 0),
+        Dec::short(1005, 3),
+        Dec::short(12_345_678, 3),
+        Dec::short(999_995, 3),
+        Dec::short(0, 0),
+    ] {
+        add(rt, &mut numbers, number);
     }
-    for thousandths in [1005, 12_345_678, 999_995] {
-        add(rt, &mut numbers, Dec::short(thousandths, 3));
-    }
-    add(rt, &mut numbers, Dec::short(0, 0));
     numbers
 }
 

@@ -1,104 +1,191 @@
 //! Openings, lengths and failures, on files of the folder that the tests run in.
+//!
+//! No test has a `?` or an assertion of its own. Each is one more path on which all that the test holds has to be dropped, and proved so.
 
 use crate::{Access, HostDevice, HostVolume, NewVolume, Replacement, rewrite_roots};
 use station::{Device, MemoryStation};
+use std::alloc::{AllocError, Global};
+use std::fmt::Debug;
 use std::fs::{File, OpenOptions};
 use std::io::ErrorKind;
 use std::os::unix::fs::MetadataExt;
-use std::test::Fail;
+use std::process::Abort;
+use std::rt::Files;
 use std::time::SystemTime;
 use std::{fs, io};
 
-/// The kind of an error, or none.
-fn kind_of<T: Drop>(opened: io::Result<T>) -> Option<ErrorKind> {
-    match opened {
-        Ok(_) => None,
-        Err(error) => Some(error.kind()),
+/// Asserts a fact.
+fn holds(rt: &impl Abort, fact: bool) {
+    assert!(rt; fact);
+}
+
+/// Asserts that a value is the expected one.
+fn same<T: PartialEq + Debug + Drop>(rt: &impl Abort, value: T, expected: T) {
+    assert_eq!(rt; value, expected);
+}
+
+/// The value of a call that has to work.
+fn value_of<T, E: Debug + Drop>(rt: &impl Abort, answer: Result<T, E>) -> T {
+    match answer {
+        Ok(value) => value,
+        Err(error) => panic!(rt; "{error:?}"),
     }
+}
+
+/// Asserts that a call fails with an error of this kind.
+fn fails_as<T: Drop>(rt: &impl Abort, answer: io::Result<T>, kind: ErrorKind) {
+    match answer {
+        Ok(_) => panic!(rt; "no error"),
+        Err(error) => same(rt, error.kind(), kind),
+    }
+}
+
+/// Opens a volume, which has to work.
+fn opened<R: Files<File = File> + AllocGlobal + Abort>(
+    rt: &R,
+    path: &str,
+    access: Access,
+) -> HostVolume {
+    value_of(rt, HostVolume::open(rt, path, access))
+}
+
+/// A new volume of so many sectors.
+fn new_volume<R: Files<File = File> + AllocGlobal + Abort>(
+    rt: &R,
+    path: &str,
+    sectors: u32,
+) -> HostVolume {
+    let file = value_of(rt, NewVolume::open(rt, path));
+    value_of(rt, file.fill(rt.alloc(), sectors, |_| {}))
+}
+
+/// The bytes of a file, as another reader of the file sees them.
+fn content<R: Files<File = File> + AllocGlobal + Abort>(rt: &R, path: &str) -> Vec<u8> {
+    value_of(rt, fs::read(rt, path))
+}
+
+/// Makes a file of so many bytes, which are sevens.
+fn make_file<R: Files<File = File> + AllocGlobal + Abort>(rt: &R, path: &str, bytes: usize) {
+    let sevens = value_of(rt, vec![in rt.alloc(); 7u8; bytes]);
+    value_of(rt, fs::write(rt, path, sevens));
+}
+
+fn remove<R: Files<File = File> + AllocGlobal + Abort>(rt: &R, path: &str) {
+    value_of(rt, fs::remove_file(rt, path));
 }
 
 /// Cuts a file, or makes it longer.
-fn set_len(rt: &HostRuntime, path: &str, bytes: u64) -> io::Result<()> {
-    OpenOptions::new()
-        .write(true)
-        .open(rt, path)?
-        .set_len(bytes)
+fn set_length<R: Files<File = File> + AllocGlobal + Abort>(rt: &R, path: &str, bytes: u64) {
+    let file = value_of(rt, OpenOptions::new().write(true).open(rt, path));
+    value_of(rt, file.set_len(bytes));
 }
 
 #[test]
-fn openings_that_are_refused(rt: HostRuntime) -> Result<(), Fail> {
-    fs::create_dir(&rt, "refused")?;
+fn openings_that_are_refused(rt: HostRuntime) {
+    value_of(&rt, fs::create_dir(&rt, "refused"));
     for access in [Access::Read, Access::ReadWrite] {
-        let missing = kind_of(HostVolume::open(&rt, "refused/V", access));
-        assert_eq!(rt; missing, Some(ErrorKind::NotFound));
-        let folder = kind_of(HostVolume::open(&rt, "refused", access));
-        assert_eq!(rt; folder, Some(ErrorKind::InvalidInput));
-        let device = kind_of(HostVolume::open(&rt, "/dev/zero", access));
-        assert_eq!(rt; device, Some(ErrorKind::InvalidInput));
+        fails_as(
+            &rt,
+            HostVolume::open(&rt, "refused/V", access),
+            ErrorKind::NotFound,
+        );
+        fails_as(
+            &rt,
+            HostVolume::open(&rt, "refused", access),
+            ErrorKind::InvalidInput,
+        );
+        fails_as(
+            &rt,
+            HostVolume::open(&rt, "/dev/zero", access),
+            ErrorKind::InvalidInput,
+        );
     }
-    assert!(rt; !fs::exists(&rt, "refused/V")?);
-    let folder = kind_of(NewVolume::open(&rt, "refused"));
-    assert_eq!(rt; folder, Some(ErrorKind::InvalidInput));
-    let lost = kind_of(NewVolume::open(&rt, "refused/N/V"));
-    assert_eq!(rt; lost, Some(ErrorKind::NotFound));
-    fs::remove_dir_all(&rt, "refused")?;
-    Ok(())
+    holds(&rt, !value_of(&rt, fs::exists(&rt, "refused/V")));
+    fails_as(
+        &rt,
+        NewVolume::open(&rt, "refused"),
+        ErrorKind::InvalidInput,
+    );
+    fails_as(
+        &rt,
+        NewVolume::open(&rt, "refused/N/V"),
+        ErrorKind::NotFound,
+    );
+    value_of(&rt, fs::remove_dir_all(&rt, "refused"));
 }
 
 #[test]
-fn one_writer_or_some_readers(rt: HostRuntime) -> Result<(), Fail> {
-    fs::write(&rt, "locks.V", vec![in rt.alloc(); 7; 4096]?)?;
-    let writer = HostVolume::open(&rt, "locks.V", Access::ReadWrite)?;
-    let held = Some(ErrorKind::WouldBlock);
-    assert_eq!(rt;
-        kind_of(HostVolume::open(&rt, "locks.V", Access::Read)),
-        held
+fn one_writer_or_some_readers(rt: HostRuntime) {
+    make_file(&rt, "locks.V", 4096);
+    let writer = opened(&rt, "locks.V", Access::ReadWrite);
+    fails_as(
+        &rt,
+        HostVolume::open(&rt, "locks.V", Access::Read),
+        ErrorKind::WouldBlock,
     );
-    assert_eq!(rt;
-        kind_of(HostVolume::open(&rt, "locks.V", Access::ReadWrite)),
-        held
+    fails_as(
+        &rt,
+        HostVolume::open(&rt, "locks.V", Access::ReadWrite),
+        ErrorKind::WouldBlock,
     );
-    assert_eq!(rt; kind_of(NewVolume::open(&rt, "locks.V")), held);
+    fails_as(&rt, NewVolume::open(&rt, "locks.V"), ErrorKind::WouldBlock);
     drop(writer);
-    let reader = HostVolume::open(&rt, "locks.V", Access::Read)?;
-    assert_eq!(rt;
-        kind_of(HostVolume::open(&rt, "locks.V", Access::Read)),
-        None
+    let reader = opened(&rt, "locks.V", Access::Read);
+    drop(opened(&rt, "locks.V", Access::Read));
+    fails_as(
+        &rt,
+        HostVolume::open(&rt, "locks.V", Access::ReadWrite),
+        ErrorKind::WouldBlock,
     );
-    assert_eq!(rt;
-        kind_of(HostVolume::open(&rt, "locks.V", Access::ReadWrite)),
-        held
-    );
-    assert!(rt; reader.write(0, &[8; 4096]).is_err());
+    holds(&rt, reader.write(0, &[8; 4096]).is_err());
     drop(reader);
-    let volume = HostVolume::open(&rt, "locks.V", Access::ReadWrite)?;
+    let volume = opened(&rt, "locks.V", Access::ReadWrite);
     let mut bytes = [0; 4096];
-    volume.read(0, &mut bytes)?;
-    assert!(rt; bytes == [7; 4096]);
-    fs::remove_file(&rt, "locks.V")?;
-    Ok(())
+    value_of(&rt, volume.read(0, &mut bytes));
+    holds(&rt, bytes == [7; 4096]);
+    remove(&rt, "locks.V");
 }
 
-/// An opening to write writes the roots again. One to read writes nothing. A file that is written gets a new time.
+/// Whether an opening writes to a file. A file that is written gets a new time.
+fn writes_at_opening<R: Files<File = File> + AllocGlobal + Abort>(
+    rt: &R,
+    path: &str,
+    access: Access,
+) -> bool {
+    let file = value_of(rt, OpenOptions::new().write(true).open(rt, path));
+    value_of(rt, file.set_modified(SystemTime::UNIX_EPOCH));
+    drop(opened(rt, path, access));
+    value_of(rt, fs::metadata(rt, path)).mtime() != 0
+}
+
+/// An opening to write writes the roots again. One to read writes nothing.
 #[test]
-fn openings_that_write(rt: HostRuntime) -> Result<(), Fail> {
-    let volume = NewVolume::open(&rt, "time.V")?.fill(rt.alloc(), 2, |_| {})?;
+fn openings_that_write(rt: HostRuntime) {
+    drop(new_volume(&rt, "time.V", 2));
+    holds(&rt, !writes_at_opening(&rt, "time.V", Access::Read));
+    holds(&rt, writes_at_opening(&rt, "time.V", Access::ReadWrite));
+    remove(&rt, "time.V");
+}
+
+/// A file of so many bytes has so many sectors. What is after them is neither read nor written.
+fn has_sectors<R: Files<File = File> + AllocGlobal + Abort>(
+    rt: &R,
+    path: &str,
+    bytes: u64,
+    sectors: u32,
+) {
+    set_length(rt, path, bytes);
+    let volume = opened(rt, path, Access::ReadWrite);
+    same(rt, volume.count(), sectors);
+    holds(rt, volume.read(sectors, &mut [0; 4096]).is_err());
+    holds(rt, volume.write(sectors, &[1; 4096]).is_err());
     drop(volume);
-    for (access, writes) in [(Access::Read, false), (Access::ReadWrite, true)] {
-        let file = OpenOptions::new().write(true).open(&rt, "time.V")?;
-        file.set_modified(SystemTime::UNIX_EPOCH)?;
-        let volume = HostVolume::open(&rt, "time.V", access)?;
-        drop(volume);
-        assert_eq!(rt; fs::metadata(&rt, "time.V")?.mtime() != 0, writes);
-    }
-    fs::remove_file(&rt, "time.V")?;
-    Ok(())
+    same(rt, value_of(rt, fs::metadata(rt, path)).len(), bytes);
 }
 
-/// A volume has the whole sectors of its file. What is after them is neither read nor written.
 #[test]
-fn sectors_of_a_file(rt: HostRuntime) -> Result<(), Fail> {
-    let _file = File::create(&rt, "length.V")?;
+fn sectors_of_a_file(rt: HostRuntime) {
+    drop(value_of(&rt, File::create(&rt, "length.V")));
     for (bytes, sectors) in [
         (0, 0),
         (1, 0),
@@ -108,266 +195,257 @@ fn sectors_of_a_file(rt: HostRuntime) -> Result<(), Fail> {
         (8191, 1),
         (8192, 2),
     ] {
-        set_len(&rt, "length.V", bytes)?;
-        let volume = HostVolume::open(&rt, "length.V", Access::ReadWrite)?;
-        assert_eq!(rt; volume.count(), sectors);
-        assert!(rt; volume.read(sectors, &mut [0; 4096]).is_err());
-        assert!(rt; volume.write(sectors, &[1; 4096]).is_err());
-        drop(volume);
-        assert_eq!(rt; fs::metadata(&rt, "length.V")?.len(), bytes);
+        has_sectors(&rt, "length.V", bytes, sectors);
     }
-    fs::remove_file(&rt, "length.V")?;
-    Ok(())
+    remove(&rt, "length.V");
 }
 
 /// What a new volume held is gone, and progress is reported after each MiB.
 #[test]
-fn new_volume(rt: HostRuntime) -> Result<(), Fail> {
-    fs::write(&rt, "new.V", vec![in rt.alloc(); 7; 5_000_000]?)?;
+fn bytes_of_a_new_volume(rt: HostRuntime) {
+    make_file(&rt, "new.V", 5_000_000);
     let mut reported = [0; 3];
     let mut calls = 0usize;
-    let volume = NewVolume::open(&rt, "new.V")?.fill(rt.alloc(), 513, |written| {
+    let file = value_of(&rt, NewVolume::open(&rt, "new.V"));
+    let filled = file.fill(rt.alloc(), 513, |written| {
         if let Some(place) = reported.get_mut(calls) {
             *place = written;
         }
         calls = calls.wrapping_add(1);
-    })?;
-    assert_eq!(rt; volume.count(), 513);
-    drop(volume);
-    assert_eq!(rt; calls, 3);
-    assert_eq!(rt; reported, [256, 512, 513]);
-    let bytes = fs::read(&rt, "new.V")?;
-    assert_eq!(rt; bytes.len(), 513 * 4096);
-    assert!(rt; bytes.iter().all(|byte| *byte == 0));
-    fs::remove_file(&rt, "new.V")?;
-    Ok(())
+    });
+    same(&rt, value_of(&rt, filled).count(), 513);
+    same(&rt, (calls, reported), (3, [256, 512, 513]));
+    let bytes = content(&rt, "new.V");
+    same(&rt, bytes.len(), 513 * 4096);
+    holds(&rt, bytes.iter().all(|byte| *byte == 0));
+    remove(&rt, "new.V");
+}
+
+/// Asserts that a device has a sector of this byte, or that the sector cannot be read.
+fn has_sector(rt: &impl Abort, device: &mut HostDevice, sector: u32, byte: Option<u8>) {
+    let mut bytes = [0; 4096];
+    assert!(rt; sector < device.count());
+    let is_read = device.read(sector, &mut bytes).is_ok();
+    assert!(rt; is_read == byte.is_some(), "{sector}");
+    assert!(rt; bytes == [byte.unwrap_or(0); 4096], "{sector}");
+}
+
+/// Asserts that a device has sectors of these bytes.
+fn has_sectors_of(rt: &impl Abort, device: &mut HostDevice, sectors: &[(u32, u8)]) {
+    for (sector, byte) in sectors {
+        has_sector(rt, device, *sector, Some(*byte));
+    }
 }
 
 /// Another process cuts the file while it is open. What is lost fails and is counted.
 #[test]
-fn file_that_loses_its_end(rt: HostRuntime) -> Result<(), Fail> {
-    let volume = NewVolume::open(&rt, "end.V")?.fill(rt.alloc(), 3, |_| {})?;
-    let mut device = HostDevice::new(rt.alloc(), volume);
-    set_len(&rt, "end.V", 4097)?;
-    let mut bytes = [0; 4096];
-    let mut failed = 0u64;
-    for sector in 0..3 {
-        assert!(rt; sector < device.count());
-        if device.read(sector, &mut bytes).is_err() {
-            failed = failed.wrapping_add(1);
-        }
-    }
-    assert_eq!(rt; failed, 2);
-    assert_eq!(rt; device.failures(), 2);
-    fs::remove_file(&rt, "end.V")?;
-    Ok(())
+fn file_that_loses_its_end(rt: HostRuntime) {
+    let mut device = new_device(&rt, "end.V", 3);
+    set_length(&rt, "end.V", 4097);
+    has_sector(&rt, &mut device, 0, Some(0));
+    has_sector(&rt, &mut device, 1, None);
+    has_sector(&rt, &mut device, 2, None);
+    same(&rt, device.failures(), 2);
+    remove(&rt, "end.V");
 }
 
 /// A regular file that the host can't sync: an opening to write fails, and each sync.
 #[test]
-fn file_that_cannot_be_synced(rt: HostRuntime) -> Result<(), Fail> {
+fn file_that_cannot_be_synced(rt: HostRuntime) {
     let path = "/proc/self/comm";
-    assert!(rt; HostVolume::open(&rt, path, Access::ReadWrite).is_err());
-    let volume = HostVolume::open(&rt, path, Access::Read)?;
-    assert!(rt; volume.sync().is_err());
+    holds(&rt, HostVolume::open(&rt, path, Access::ReadWrite).is_err());
+    let volume = opened(&rt, path, Access::Read);
+    holds(&rt, volume.sync().is_err());
     let mut device = HostDevice::new(rt.alloc(), volume);
-    assert!(rt; device.sync().is_err());
-    assert_eq!(rt; device.failures(), 1);
-    Ok(())
+    holds(&rt, device.sync().is_err());
+    same(&rt, device.failures(), 1);
 }
 
 /// A device whose roots wait, over the same file: its syncs do nothing, and the one before the roots fails.
 #[test]
-fn sync_that_waits(rt: HostRuntime) -> Result<(), Fail> {
-    let volume = HostVolume::open(&rt, "/proc/self/comm", Access::Read)?;
+fn sync_that_waits(rt: HostRuntime) {
+    let volume = opened(&rt, "/proc/self/comm", Access::Read);
     let mut device = HostDevice::with_roots_last(rt.alloc(), volume);
-    assert!(rt; device.sync().is_ok());
-    assert_eq!(rt; device.failures(), 0);
-    assert!(rt; device.into_volume().is_err());
-    Ok(())
+    holds(&rt, device.sync().is_ok());
+    same(&rt, device.failures(), 0);
+    holds(&rt, device.into_volume().is_err());
+}
+
+/// Asserts that the sectors of a file begin with these bytes, and that there are no more.
+fn has_first_bytes<R: Files<File = File> + AllocGlobal + Abort>(
+    rt: &R,
+    path: &str,
+    expected: &[u8],
+) {
+    let bytes = content(rt, path);
+    same(rt, bytes.len() / 4096, expected.len());
+    let firsts = bytes.iter().step_by(4096);
+    holds(
+        rt,
+        firsts
+            .zip(expected.iter())
+            .all(|(first, byte)| *first == *byte),
+    );
 }
 
 /// Roots that wait: a read gives them, the file has zeros in their place, and gets them by `into_volume`.
 #[test]
-fn roots_that_wait(rt: HostRuntime) -> Result<(), Fail> {
-    let volume = NewVolume::open(&rt, "wait.V")?.fill(rt.alloc(), 4, |_| {})?;
+fn roots_that_wait(rt: HostRuntime) {
+    let volume = new_volume(&rt, "wait.V", 4);
     let mut device = HostDevice::with_roots_last(rt.alloc(), volume);
-    assert!(rt; write_all(&mut device, &[(1, 1), (0, 2), (2, 3), (1, 4), (3, 5)]));
-    device.sync()?;
-    assert_eq!(rt;
-        first_bytes(&rt, "wait.V")?.as_slice(),
-        [0, 0, 3, 5].as_slice()
+    holds(
+        &rt,
+        write_all(&mut device, &[(1, 1), (0, 2), (2, 3), (1, 4), (3, 5)]),
     );
-    let mut bytes = [0; 4096];
-    for (sector, byte) in [(0, 2), (1, 4), (2, 3), (3, 5)] {
-        assert!(rt; sector < device.count());
-        device.read(sector, &mut bytes)?;
-        assert!(rt; bytes == sector_of(byte), "{sector}");
-    }
-    let _volume = device.into_volume()?;
-    assert_eq!(rt;
-        first_bytes(&rt, "wait.V")?.as_slice(),
-        [2, 4, 3, 5].as_slice()
-    );
-    fs::remove_file(&rt, "wait.V")?;
-    Ok(())
+    holds(&rt, device.sync().is_ok());
+    has_first_bytes(&rt, "wait.V", &[0, 0, 3, 5]);
+    has_sectors_of(&rt, &mut device, &[(0, 2), (1, 4), (2, 3), (3, 5)]);
+    drop(value_of(&rt, device.into_volume()));
+    has_first_bytes(&rt, "wait.V", &[2, 4, 3, 5]);
+    remove(&rt, "wait.V");
 }
 
-/// What is at a path while a volume is made that replaces it, and after that; also if it is given up.
+/// Begins to replace a file by a volume. The file is as it was, and locked.
+fn begin_to_replace<R: Files<File = File> + AllocGlobal + Abort>(
+    rt: &R,
+    path: &str,
+) -> (Replacement, HostVolume) {
+    value_of(rt, fs::write(rt, path, "OLD"));
+    let replacement = value_of(rt, Replacement::open(rt, path));
+    holds(rt, HostVolume::open(rt, path, Access::Read).is_err());
+    let file = value_of(rt, replacement.begin(rt));
+    let volume = value_of(rt, file.fill(rt.alloc(), 3, |_| {}));
+    holds(rt, content(rt, path).as_slice() == b"OLD".as_slice());
+    (replacement, volume)
+}
+
+/// What is at a path after a volume replaced it.
 #[test]
-fn volume_that_replaces_a_file(rt: HostRuntime) -> Result<(), Fail> {
-    for is_whole in [false, true] {
-        fs::write(&rt, "replaced", "OLD")?;
-        let replacement = Replacement::open(&rt, "replaced")?;
-        assert!(rt; HostVolume::open(&rt, "replaced", Access::Read).is_err());
-        let volume = replacement.begin(&rt)?.fill(rt.alloc(), 3, |_| {})?;
-        assert_eq!(rt; fs::read(&rt, "replaced")?.as_slice(), b"OLD".as_slice());
-        if is_whole {
-            replacement.end(&rt, volume)?;
-            assert_eq!(rt; fs::read(&rt, "replaced")?.len(), 3 * 4096);
-        } else {
-            replacement.give_up(&rt);
-            assert_eq!(rt; fs::read(&rt, "replaced")?.as_slice(), b"OLD".as_slice());
-        }
-        assert!(rt; !fs::exists(&rt, "replaced.cobol-copy")?);
-    }
-    fs::remove_file(&rt, "replaced")?;
-    Ok(())
+fn volume_that_replaces_a_file(rt: HostRuntime) {
+    let (replacement, volume) = begin_to_replace(&rt, "replaced");
+    value_of(&rt, replacement.end(&rt, volume));
+    same(&rt, content(&rt, "replaced").len(), 3 * 4096);
+    holds(&rt, !value_of(&rt, fs::exists(&rt, "replaced.cobol-copy")));
+    remove(&rt, "replaced");
+}
+
+/// What is at a path after its replacement was given up.
+#[test]
+fn replacement_that_is_given_up(rt: HostRuntime) {
+    let (replacement, _volume) = begin_to_replace(&rt, "kept");
+    replacement.give_up(&rt);
+    holds(&rt, content(&rt, "kept").as_slice() == b"OLD".as_slice());
+    holds(&rt, !value_of(&rt, fs::exists(&rt, "kept.cobol-copy")));
+    remove(&rt, "kept");
+}
+
+/// A device in memory of so many sectors, if there is memory for it.
+fn possible_station(alloc: Global, sectors: u32) -> Result<MemoryStation, AllocError> {
+    let content = vec![in alloc; [3; 4096]; sectors as usize]?;
+    MemoryStation::new(alloc, content, Vec::new(alloc))
 }
 
 /// A device of so many sectors: how often it is read, written and synced while its roots are written again.
 #[test]
-fn roots_that_are_written_again(rt: HostRuntime) -> Result<(), Fail> {
+fn roots_that_are_written_again(rt: HostRuntime) {
     for (sectors, expected) in [(0, 0), (1, 1), (2, 2), (5, 2)] {
-        let content = vec![in rt.alloc(); [3; 4096]; sectors]?;
-        let mut station = MemoryStation::new(rt.alloc(), content, Vec::new(rt.alloc()))?;
-        rewrite_roots(&mut station)?;
-        assert_eq!(rt; station.reads(), expected);
-        assert_eq!(rt; station.writes(), expected);
-        assert_eq!(rt; station.syncs(), expected);
+        let mut station = value_of(&rt, possible_station(rt.alloc(), sectors));
+        holds(&rt, rewrite_roots(&mut station).is_ok());
+        let calls = (station.reads(), station.writes(), station.syncs());
+        same(&rt, calls, (expected, expected, expected));
     }
+}
+
+/// Each of the six calls fails in turn.
+#[test]
+fn roots_that_are_not_written_again(rt: HostRuntime) {
     for n in 1..7 {
-        let content = vec![in rt.alloc(); [3; 4096]; 2]?;
-        let mut station = MemoryStation::new(rt.alloc(), content, Vec::new(rt.alloc()))?;
+        let mut station = value_of(&rt, possible_station(rt.alloc(), 2));
         station.fail_at(n);
-        assert!(rt; rewrite_roots(&mut station).is_err(), "{n}");
+        same(&rt, (n, rewrite_roots(&mut station).is_err()), (n, true));
     }
-    Ok(())
-}
-
-/// A sector of this byte.
-fn sector_of(byte: u8) -> [u8; 4096] {
-    [byte; 4096]
-}
-
-/// The first byte of each sector of a file, as another reader of the file sees it.
-fn first_bytes(rt: &HostRuntime, path: &str) -> io::Result<Vec<u8>> {
-    let bytes = fs::read(rt, path)?;
-    let mut firsts = Vec::new(rt.alloc());
-    for place in (0..bytes.len()).step_by(4096) {
-        firsts.push(bytes[place])?;
-    }
-    Ok(firsts)
 }
 
 /// A device over a new volume of so many sectors.
-fn new_device(rt: &HostRuntime, path: &str, sectors: u32) -> io::Result<HostDevice> {
-    let volume = NewVolume::open(rt, path)?.fill(rt.alloc(), sectors, |_| {})?;
-    Ok(HostDevice::new(rt.alloc(), volume))
+fn new_device<R: Files<File = File> + AllocGlobal + Abort>(
+    rt: &R,
+    path: &str,
+    sectors: u32,
+) -> HostDevice {
+    HostDevice::new(rt.alloc(), new_volume(rt, path, sectors))
 }
 
 /// Writes each of these sectors, with a byte of its own.
 fn write_all(device: &mut HostDevice, sectors: &[(u32, u8)]) -> bool {
     sectors.iter().all(|(sector, byte)| {
-        *sector < device.count() && device.write(*sector, &sector_of(*byte)).is_ok()
+        *sector < device.count() && device.write(*sector, &[*byte; 4096]).is_ok()
     })
 }
 
 /// What was written reaches the file by the next sync, each sector at its place, whether or not sectors are adjacent.
 #[test]
-fn writes_before_a_sync(rt: HostRuntime) -> Result<(), Fail> {
-    let mut device = new_device(&rt, "sync.V", 8)?;
+fn writes_before_a_sync(rt: HostRuntime) {
+    let mut device = new_device(&rt, "sync.V", 8);
     for (sectors, expected) in [
         (&[(2u32, 1u8), (3, 2), (4, 3)], [0, 0, 1, 2, 3, 0, 0, 0]),
         (&[(6, 4), (5, 5), (7, 6)], [0, 0, 1, 2, 3, 5, 4, 6]),
         (&[(0, 7), (2, 8), (3, 9)], [7, 0, 8, 9, 3, 5, 4, 6]),
         (&[(1, 1), (1, 2), (2, 3)], [7, 2, 3, 9, 3, 5, 4, 6]),
     ] {
-        assert!(rt; write_all(&mut device, sectors));
-        device.sync()?;
-        assert_eq!(rt; first_bytes(&rt, "sync.V")?.as_slice(), expected.as_slice());
+        holds(&rt, write_all(&mut device, sectors));
+        holds(&rt, device.sync().is_ok());
+        has_first_bytes(&rt, "sync.V", &expected);
     }
-    assert_eq!(rt; device.failures(), 0);
-    fs::remove_file(&rt, "sync.V")?;
-    Ok(())
+    same(&rt, device.failures(), 0);
+    remove(&rt, "sync.V");
 }
 
 /// A read gives what was written last, before any sync.
 #[test]
-fn reads_behind_writes(rt: HostRuntime) -> Result<(), Fail> {
-    let mut device = new_device(&rt, "read.V", 8)?;
-    assert!(rt; write_all(&mut device, &[(2, 1), (3, 2), (4, 3)]));
-    let mut bytes = [0; 4096];
-    for (sector, byte) in [(4, 3), (2, 1), (3, 2), (5, 0)] {
-        assert!(rt; sector < device.count());
-        device.read(sector, &mut bytes)?;
-        assert!(rt; bytes == sector_of(byte), "{sector}");
-    }
-    fs::remove_file(&rt, "read.V")?;
-    Ok(())
+fn reads_behind_writes(rt: HostRuntime) {
+    let mut device = new_device(&rt, "read.V", 8);
+    holds(&rt, write_all(&mut device, &[(2, 1), (3, 2), (4, 3)]));
+    has_sectors_of(&rt, &mut device, &[(4, 3), (2, 1), (3, 2), (5, 0)]);
+    remove(&rt, "read.V");
 }
 
 /// More adjacent sectors than are gathered reach the file in their order.
 #[test]
-fn many_adjacent_writes(rt: HostRuntime) -> Result<(), Fail> {
-    let mut device = new_device(&rt, "many.V", 200)?;
-    for sector in 0..200u32 {
-        assert!(rt; write_all(&mut device, &[(sector, sector as u8)]));
+fn many_adjacent_writes(rt: HostRuntime) {
+    let mut device = new_device(&rt, "many.V", 200);
+    let mut numbers = [0u8; 200];
+    for sector in 0..200u8 {
+        numbers[sector as usize] = sector;
+        holds(&rt, write_all(&mut device, &[(sector as u32, sector)]));
     }
-    device.sync()?;
-    let firsts = first_bytes(&rt, "many.V")?;
-    assert_eq!(rt; firsts.len(), 200);
-    assert!(rt;
-        firsts
-            .iter()
-            .enumerate()
-            .all(|(place, byte)| place == usize::from(*byte))
-    );
-    fs::remove_file(&rt, "many.V")?;
-    Ok(())
+    holds(&rt, device.sync().is_ok());
+    has_first_bytes(&rt, "many.V", &numbers);
+    remove(&rt, "many.V");
 }
 
 /// The volume that a device gives back has what was written.
 #[test]
-fn volume_of_a_device_that_wrote(rt: HostRuntime) -> Result<(), Fail> {
-    let mut device = new_device(&rt, "given.V", 4)?;
-    assert!(rt; write_all(&mut device, &[(2, 1), (3, 2)]));
-    let _volume = device.into_volume()?;
-    assert_eq!(rt;
-        first_bytes(&rt, "given.V")?.as_slice(),
-        [0, 0, 1, 2].as_slice()
-    );
-    fs::remove_file(&rt, "given.V")?;
-    Ok(())
+fn volume_of_a_device_that_wrote(rt: HostRuntime) {
+    let mut device = new_device(&rt, "given.V", 4);
+    holds(&rt, write_all(&mut device, &[(2, 1), (3, 2)]));
+    drop(value_of(&rt, device.into_volume()));
+    has_first_bytes(&rt, "given.V", &[0, 0, 1, 2]);
+    remove(&rt, "given.V");
 }
 
 /// A volume that is open to read refuses writes. The failure is answered at the latest by the sync, and by each call from then on.
 #[test]
-fn writes_that_the_host_refuses(rt: HostRuntime) -> Result<(), Fail> {
-    drop(new_device(&rt, "refused.V", 4)?);
-    let volume = HostVolume::open(&rt, "refused.V", Access::Read)?;
+fn writes_that_the_host_refuses(rt: HostRuntime) {
+    drop(new_device(&rt, "refused.V", 4));
+    let volume = opened(&rt, "refused.V", Access::Read);
     let mut device = HostDevice::new(rt.alloc(), volume);
     let _ = write_all(&mut device, &[(2, 1)]);
-    let mut bytes = [0; 4096];
-    for failures in [1, 2] {
-        assert!(rt; device.sync().is_err());
-        assert_eq!(rt; device.failures(), failures);
-    }
-    assert!(rt; 2 < device.count());
-    assert!(rt; device.read(2, &mut bytes).is_err());
-    assert!(rt; !write_all(&mut device, &[(0, 1)]));
-    assert_eq!(rt; device.failures(), 4);
-    assert!(rt; device.into_volume().is_err());
-    fs::remove_file(&rt, "refused.V")?;
-    Ok(())
+    holds(&rt, device.sync().is_err());
+    holds(&rt, device.sync().is_err());
+    same(&rt, device.failures(), 2);
+    has_sector(&rt, &mut device, 2, None);
+    holds(&rt, !write_all(&mut device, &[(0, 1)]));
+    same(&rt, device.failures(), 4);
+    holds(&rt, device.into_volume().is_err());
+    remove(&rt, "refused.V");
 }

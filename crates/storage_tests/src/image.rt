@@ -1,52 +1,27 @@
-//! The sectors of a volume as they stand on the device: numbers of four bytes, the first byte the highest.
-use crate::opened::filled;
+//! The sectors of a volume on the device. Numbers have four bytes, the first byte the highest.
 use station::{Device, MemoryStation};
 use std::alloc::{AllocError, Global};
 use std::process::Abort;
 
-/// How many sectors the volume of `image_with` has.
+/// How many sectors the volume of `station_of_format` has.
 pub const SECTORS: u32 = 1500;
 
-/// How many sectors its device has.
-pub const DEVICE: u32 = 2000;
-
-// Where the parts of a root sector begin.
-pub const MARK: usize = 0;
-
-pub const GENERATION: usize = 8;
-
-pub const LOW_GENERATION: usize = 12;
-
-pub const COUNT: usize = 16;
-
-pub const CATALOG: usize = 20;
-
-pub const MAP_COUNT: usize = 24;
-
-pub const FIRST_MAP: usize = 28;
-
-pub const SECOND_MAP: usize = 32;
-
-/// The place after the two maps.
-pub const BEHIND: usize = 36;
-
-/// The first and the last four bytes of another format's mark.
-
-pub const FOREIGN_MARK: (u32, u32) = (0x434F_4248, 0x414C_4631);
-
-/// The last four bytes of the second mark of a volume of pages.
-pub const SECOND_MARK: u32 = 0x4F4C_3032;
-
-/// A change to an image.
-#[derive(Clone, Copy)]
-pub enum Edit {
-    /// Zeros in a sector.
-    Blank(usize),
-    /// A number in a sector, at a place.
-    Word(usize, usize, u32),
+/// A sector or a page whose bytes are all alike.
+pub fn filled(byte: u8) -> [u8; 4096] {
+    [byte; 4096]
 }
 
-/// The number at a place of a sector, 0 where it doesn't fit there.
+/// The byte that a page is filled with, 255 if its bytes aren't alike.
+pub fn alike(bytes: &[u8; 4096]) -> u8 {
+    let first = bytes[0];
+    if bytes.iter().all(|byte| *byte == first) {
+        first
+    } else {
+        255
+    }
+}
+
+/// The number at a place of a sector, 0 if it doesn't fit there.
 pub fn word_at(bytes: &[u8; 4096], place: usize) -> u32 {
     if place > 4092 {
         return 0;
@@ -59,16 +34,9 @@ pub fn word_at(bytes: &[u8; 4096], place: usize) -> u32 {
     ])
 }
 
-/// Puts a number at a place of a sector, if it fits there.
-pub fn put_word(bytes: &mut [u8; 4096], place: usize, word: u32) {
-    if place <= 4092 {
-        bytes[place..place + 4].copy_from_slice(&word.to_be_bytes());
-    }
-}
-
 /// The bytes of a sector of a station.
 pub fn sector_bytes(rt: &impl Abort, station: &mut MemoryStation, sector: u32) -> [u8; 4096] {
-    let mut bytes = filled(0);
+    let mut bytes = filled(255);
     assert!(rt; sector < station.count());
     assert!(rt; station.read(sector, &mut bytes).is_ok());
     bytes
@@ -113,16 +81,16 @@ pub fn root(
     let mut bytes = filled(0);
     bytes[..8].copy_from_slice(mark);
     bytes[8..16].copy_from_slice(&generation.to_be_bytes());
-    put_word(&mut bytes, COUNT, sectors);
-    put_word(&mut bytes, CATALOG, catalog);
+    put_word(&mut bytes, 16, sectors);
+    put_word(&mut bytes, 20, catalog);
     let mut count = 0u32;
-    let mut place = FIRST_MAP;
+    let mut place = 28usize;
     for map in maps {
         put_word(&mut bytes, place, *map);
         place = place.wrapping_add(4);
         count = count.wrapping_add(1);
     }
-    put_word(&mut bytes, MAP_COUNT, count);
+    put_word(&mut bytes, 24, count);
     bytes
 }
 
@@ -133,65 +101,51 @@ pub fn map_of(entry: usize, sector: u32) -> [u8; 4096] {
     bytes
 }
 
-/// The sectors of a device with a volume of generation `generation`, which is at least 1: page 1 in sector 2, page 1,024 in
-/// sector 3, their maps in the sectors 4 and 5, with the first mark. The volume was empty in the generation before.
-pub fn image_with(alloc: Global, generation: u64) -> Result<Vec<[u8; 4096]>, AllocError> {
-    let mut image = vec![in alloc; filled(0); DEVICE as usize]?;
-    let newest = root(b"COBVOL01", generation, SECTORS, 1, &[4, 5]);
-    let older = root(b"COBVOL01", generation.wrapping_sub(1), SECTORS, 0, &[0, 0]);
-    if generation % 2 == 0 {
-        image[0] = newest;
-        image[1] = older;
-    } else {
-        image[0] = older;
-        image[1] = newest;
-    }
-    image[2] = filled(1);
-    image[3] = filled(24);
-    image[4] = map_of(1, 2);
-    image[5] = map_of(0, 3);
-    Ok(image)
+/// Writes a sector of a station, which has to work.
+pub fn put_sector(rt: &impl Abort, station: &mut MemoryStation, sector: u32, bytes: &[u8; 4096]) {
+    assert!(rt; sector < station.count());
+    assert!(rt; station.write(sector, bytes).is_ok());
 }
 
-/// A station with the volume of `image_with` after these changes.
-pub fn station_with(
-    rt: &impl Abort,
-    alloc: Global,
-    generation: u64,
-    edits: &[Edit],
-) -> MemoryStation {
-    match changed_image(alloc, generation, edits) {
+/// A station of so many sectors of zeros.
+pub fn blank_station(rt: &impl Abort, alloc: Global, sectors: u32) -> MemoryStation {
+    match station_of_zeros(alloc, sectors) {
         Ok(station) => station,
         Err(_) => panic!(rt; "no memory"),
     }
 }
 
-fn change(image: &mut Vec<[u8; 4096]>, edit: Edit) {
-    match edit {
-        Edit::Blank(sector) => {
-            if sector < image.len() {
-                image[sector] = filled(0);
-            }
-        }
-        Edit::Word(sector, place, word) => {
-            if sector < image.len() {
-                put_word(&mut image[sector], place, word);
-            }
-        }
+/// A station with a volume of generation 1, by the description of the format: page 1 in sector 2, page 1,024 in sector 3, their maps
+/// in the sectors 4 and 5, with the first mark. The volume was empty in the generation before.
+pub fn station_of_format(rt: &impl Abort, alloc: Global) -> MemoryStation {
+    let mut station = blank_station(rt, alloc, SECTORS);
+    put_sector(
+        rt,
+        &mut station,
+        0,
+        &root(b"COBVOL01", 0, SECTORS, 0, &[0, 0]),
+    );
+    put_sector(
+        rt,
+        &mut station,
+        1,
+        &root(b"COBVOL01", 1, SECTORS, 1, &[4, 5]),
+    );
+    put_sector(rt, &mut station, 2, &filled(1));
+    put_sector(rt, &mut station, 3, &filled(24));
+    put_sector(rt, &mut station, 4, &map_of(1, 2));
+    put_sector(rt, &mut station, 5, &map_of(0, 3));
+    station
+}
+
+/// Puts a number at a place of a sector, if it fits there.
+fn put_word(bytes: &mut [u8; 4096], place: usize, word: u32) {
+    if place <= 4092 {
+        bytes[place..place + 4].copy_from_slice(&word.to_be_bytes());
     }
 }
 
-fn changed_image(
-    alloc: Global,
-    generation: u64,
-    edits: &[Edit],
-) -> Result<MemoryStation, AllocError> {
-    let mut image = image_with(alloc, generation)?;
-    for edit in edits.iter() {
-        change(&mut image, *edit);
-    }
-    if image.len() > DEVICE as usize {
-        return Err(AllocError);
-    }
+fn station_of_zeros(alloc: Global, sectors: u32) -> Result<MemoryStation, AllocError> {
+    let image = vec![in alloc; filled(0); sectors as usize]?;
     MemoryStation::new(alloc, image, Vec::new(alloc))
 }

@@ -1,4 +1,4 @@
-//! Rows of single calls on stations and volumes as tests: what each answers, what a failure and a stop do, and what a crash leaves.
+//! Rows of single calls on stations and volumes as tests: bytes on the device, and how often and in which order it is called.
 //! Nothing here is built into the product.
 #![tactic(auto)]
 
@@ -10,10 +10,6 @@ mod image;
 mod opened;
 #[cfg(test)]
 mod page_cache_tests;
-#[cfg(test)]
-mod page_crash_tests;
-#[cfg(test)]
-mod page_damage_tests;
 #[cfg(test)]
 mod page_full_tests;
 #[cfg(test)]

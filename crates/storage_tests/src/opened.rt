@@ -2,19 +2,19 @@
 //!
 //! Each call asserts first what `pages` asks of its caller. No test has a `?`: what a row expects to work is asserted, since each `?`
 //! in a test is one more path on which everything has to be let go, and proved so.
-use crate::image::{changed, image_of, sector_bytes};
+use crate::image::{alike, blank_station, changed, filled, image_of, sector_bytes};
 use pages::{PageMap, PagesError, VolumeMark, format};
 use station::{Device, MemoryStation};
-use std::alloc::{AllocError, Global};
+use std::alloc::Global;
 use std::marker::Model;
 use std::process::Abort;
 
-/// How often a station's sectors were to be read and written, and syncs were asked for.
-#[derive(Clone, Copy, Debug, PartialEq, Eq)]
+/// How often a station was to read, to write and to sync.
+#[derive(Clone, Copy, PartialEq, Eq)]
 pub struct Counts {
-    pub reads: u64,
-    pub writes: u64,
-    pub syncs: u64,
+    reads: u64,
+    writes: u64,
+    syncs: u64,
 }
 
 /// An opened volume on its station.
@@ -50,25 +50,14 @@ impl Volume {
         Volume::open(rt, alloc, new_volume(rt, alloc, sectors))
     }
 
-    /// Opens the volume again, with a cache of two pages. What wasn't committed is gone.
-    pub fn reopen(&mut self, rt: &impl Abort, alloc: Global) {
-        self.reopen_with(rt, alloc, 2);
-    }
-
     /// Opens the volume again with a cache of so many pages, from 1 to 4,096.
-    pub fn reopen_with(&mut self, rt: &impl Abort, alloc: Global, capacity: usize) {
+    pub fn reopen(&mut self, rt: &impl Abort, alloc: Global, capacity: usize) {
         assert!(rt; 1 <= capacity);
         assert!(rt; capacity <= 4096);
         match PageMap::open(alloc, &mut self.station, capacity) {
             Ok(pages) => self.pages = pages,
             Err(error) => panic!(rt; "open: {error:?}"),
         }
-    }
-
-    /// Makes an empty volume in place of this one, and opens it.
-    pub fn make_anew(&mut self, rt: &impl Abort, alloc: Global) {
-        make_volume(rt, &mut self.station);
-        self.reopen(rt, alloc);
     }
 
     /// Whether the volume has a page.
@@ -104,19 +93,14 @@ impl Volume {
         self.pages.allocate()
     }
 
-    /// The number of a page that was allocated.
-    pub fn allocated(&mut self, rt: &impl Abort) -> u32 {
-        match self.pages.allocate() {
-            Ok(page) => page,
-            Err(error) => panic!(rt; "allocate: {error:?}"),
-        }
-    }
-
     /// Allocates so many pages. The answer is the sum of their numbers.
     pub fn allocate_all(&mut self, rt: &impl Abort, count: u32) -> u64 {
         let mut sum = 0u64;
         for _ in 0..count {
-            sum = sum.wrapping_add(self.allocated(rt) as u64);
+            match self.pages.allocate() {
+                Ok(page) => sum = sum.wrapping_add(page as u64),
+                Err(error) => panic!(rt; "allocate: {error:?}"),
+            }
         }
         sum
     }
@@ -151,20 +135,12 @@ impl Volume {
         self.pages.commit(&mut self.station)
     }
 
-    /// The byte that a page is filled with, 255 where its bytes aren't alike, or none.
-    pub fn read(&mut self, rt: &impl Abort, page: u32) -> Result<Option<u8>, PagesError> {
+    /// The byte that a page is filled with, 255 if its bytes aren't alike, or none.
+    pub fn has(&mut self, rt: &impl Abort, page: u32) -> Option<u8> {
         assert!(rt; self.pages.sectors() <= self.station.count());
         match self.pages.read(&mut self.station, page) {
-            Ok(Some(bytes)) => Ok(Some(alike(&bytes))),
-            Ok(None) => Ok(None),
-            Err(error) => Err(error),
-        }
-    }
-
-    /// What a page has that can be read.
-    pub fn has(&mut self, rt: &impl Abort, page: u32) -> Option<u8> {
-        match self.read(rt, page) {
-            Ok(byte) => byte,
+            Ok(Some(bytes)) => Some(alike(&bytes)),
+            Ok(None) => None,
             Err(error) => panic!(rt; "read {page}: {error:?}"),
         }
     }
@@ -175,7 +151,7 @@ impl Volume {
         self.pages.load(&mut self.station, page)
     }
 
-    /// The byte that a page is filled with, where its bytes stand in memory.
+    /// The byte that a page is filled with, if its bytes are in memory.
     pub fn seen(&self, page: u32) -> Option<u8> {
         match self.pages.view(page) {
             Some(bytes) => Some(alike(bytes)),
@@ -188,25 +164,13 @@ impl Volume {
         self.pages.note_use(page);
     }
 
-    /// The pages 1 to 4.
-    pub fn first_pages(&mut self, rt: &impl Abort) -> [Option<u8>; 4] {
-        [
-            self.has(rt, 1),
-            self.has(rt, 2),
-            self.has(rt, 3),
-            self.has(rt, 4),
-        ]
-    }
-
-    /// Asserts that these pages are filled with these bytes, or aren't there.
-    pub fn reads_as(&mut self, rt: &impl Abort, expected: &[(u32, Option<u8>)]) {
-        for (page, byte) in expected {
-            assert!(rt; self.has(rt, *page) == *byte, "{page}");
-        }
-    }
-
     pub fn catalog(&self) -> u32 {
         self.pages.catalog()
+    }
+
+    /// How many pages are in the cache.
+    pub fn cached(&self) -> usize {
+        self.pages.cached()
     }
 
     pub fn changed_pages(&self) -> usize {
@@ -230,10 +194,11 @@ impl Volume {
         counts_of(&self.station)
     }
 
-    /// The writes and the syncs after those.
-    pub fn since(&self, before: Counts) -> (u64, u64) {
+    /// The reads, writes and syncs since these counts.
+    pub fn since(&self, before: Counts) -> (u64, u64, u64) {
         let now = self.counts();
         (
+            now.reads.wrapping_sub(before.reads),
             now.writes.wrapping_sub(before.writes),
             now.syncs.wrapping_sub(before.syncs),
         )
@@ -245,10 +210,6 @@ impl Volume {
 
     pub fn stop_at(&mut self, n: u64) {
         self.station.stop_at(n);
-    }
-
-    pub fn crash(&mut self, choose: &[u32]) {
-        self.station.crash(choose);
     }
 
     /// The bytes of a sector of the device.
@@ -272,38 +233,12 @@ pub fn works(rt: &impl Abort, answer: Result<(), PagesError>) {
     assert_eq!(rt; answer, Ok(()));
 }
 
-/// Why the volume of a station can't be opened, if it can't.
-pub fn refusal(alloc: Global, station: &mut MemoryStation) -> Option<PagesError> {
-    match PageMap::open(alloc, station, 2) {
-        Ok(_) => None,
-        Err(error) => Some(error),
-    }
-}
-
-/// The bytes of a page or of a sector, all alike.
-pub fn filled(byte: u8) -> [u8; 4096] {
-    [byte; 4096]
-}
-
-/// A station of so many sectors of zeros.
-pub fn blank_station(rt: &impl Abort, alloc: Global, sectors: u32) -> MemoryStation {
-    match station_of_zeros(alloc, sectors) {
-        Ok(station) => station,
-        Err(_) => panic!(rt; "no memory"),
-    }
-}
-
-/// Makes an empty volume on a station of 1,024 to 921,600 sectors.
-pub fn make_volume(rt: &impl Abort, station: &mut MemoryStation) {
-    assert!(rt; 1024 <= station.count());
-    assert!(rt; station.count() <= 921_600);
-    assert!(rt; format(station).is_ok());
-}
-
-/// A station with an empty volume of so many sectors.
+/// A station with an empty volume of so many sectors, from 1,024 to 921,600.
 pub fn new_volume(rt: &impl Abort, alloc: Global, sectors: u32) -> MemoryStation {
     let mut station = blank_station(rt, alloc, sectors);
-    make_volume(rt, &mut station);
+    assert!(rt; 1024 <= station.count());
+    assert!(rt; station.count() <= 921_600);
+    assert!(rt; format(&mut station).is_ok());
     station
 }
 
@@ -313,20 +248,5 @@ pub fn counts_of(station: &MemoryStation) -> Counts {
         reads: station.reads(),
         writes: station.writes(),
         syncs: station.syncs(),
-    }
-}
-
-fn station_of_zeros(alloc: Global, sectors: u32) -> Result<MemoryStation, AllocError> {
-    let bytes = vec![in alloc; filled(0); sectors as usize]?;
-    MemoryStation::new(alloc, bytes, Vec::new(alloc))
-}
-
-/// The byte that a page is filled with, 255 where its bytes aren't alike.
-fn alike(bytes: &[u8; 4096]) -> u8 {
-    let first = bytes[0];
-    if bytes.iter().all(|byte| *byte == first) {
-        first
-    } else {
-        255
     }
 }

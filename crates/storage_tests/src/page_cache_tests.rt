@@ -1,7 +1,6 @@
 //! Rows of the cache of pages: how often the device is read.
 use crate::asserted::{same, same_in};
 use crate::opened::{Volume, works};
-use pages::PagesError;
 use std::alloc::Global;
 use std::process::Abort;
 
@@ -12,17 +11,17 @@ fn three_pages(rt: &impl Abort, alloc: Global, capacity: usize) -> Volume {
     works(rt, volume.edit(rt, 2, 2));
     works(rt, volume.edit(rt, 3, 3));
     works(rt, volume.commit(rt));
-    volume.reopen_with(rt, alloc, capacity);
+    volume.reopen(rt, alloc, capacity);
     volume
 }
 
 // How often the device is read while five pages, filled with their number, are.
 fn reads_of(rt: &impl Abort, volume: &mut Volume, numbers: &[u8; 5]) -> u64 {
-    let before = volume.counts().reads;
+    let before = volume.counts();
     for number in numbers {
         same(rt, volume.has(rt, *number as u32), Some(*number));
     }
-    volume.counts().reads.wrapping_sub(before)
+    volume.since(before).0
 }
 
 // The page that was used least lately gives its place away.
@@ -39,82 +38,22 @@ fn reads_of_the_device(rt: HostRuntime) {
         (3, [3, 3, 3, 3, 3], 1),
     ] {
         let mut volume = three_pages(&rt, rt.alloc(), capacity);
-        let told = reads_of(&rt, &mut volume, &numbers);
-        same_in(&rt, &(capacity, numbers), told, reads);
+        let count = reads_of(&rt, &mut volume, &numbers);
+        same_in(&rt, &(capacity, numbers), count, reads);
     }
-}
-
-// An edited page is seen as it was edited, before its commit, after it, and once it is released.
-#[test]
-fn no_page_as_it_was_before_an_edit(rt: HostRuntime) {
-    for capacity in [1, 2, 3, 4096] {
-        let mut volume = three_pages(&rt, rt.alloc(), capacity);
-        same(&rt, volume.has(&rt, 1), Some(1));
-        works(&rt, volume.edit(&rt, 1, 11));
-        same(&rt, volume.has(&rt, 1), Some(11));
-        works(&rt, volume.commit(&rt));
-        same(&rt, volume.has(&rt, 1), Some(11));
-        same(&rt, volume.has(&rt, 2), Some(2));
-        works(&rt, volume.release(&rt, 1));
-        same(&rt, volume.has(&rt, 1), None);
-        works(&rt, volume.commit(&rt));
-        same(&rt, volume.has(&rt, 1), None);
-        works(&rt, volume.edit(&rt, 1, 12));
-        same(&rt, volume.has(&rt, 1), Some(12));
-    }
-}
-
-// A page is seen once it was read or changed, as it is now, and the device isn't asked.
-#[test]
-fn pages_are_seen_in_memory(rt: HostRuntime) {
-    let mut volume = three_pages(&rt, rt.alloc(), 2);
-    same(&rt, volume.seen(1), None);
-    same(&rt, volume.has(&rt, 1), Some(1));
-    let before = volume.counts();
-    same(&rt, volume.seen(1), Some(1));
-    same(&rt, volume.seen(2), None);
-    works(&rt, volume.edit(&rt, 2, 22));
-    same(&rt, volume.seen(2), Some(22));
-    works(&rt, volume.release(&rt, 1));
-    same(&rt, volume.seen(1), None);
-    same(&rt, volume.counts(), before);
-}
-
-// Of two pages in the cache the one whose use was noted stays.
-#[test]
-fn a_noted_page_stays(rt: HostRuntime) {
-    let mut volume = three_pages(&rt, rt.alloc(), 2);
-    same(&rt, reads_of(&rt, &mut volume, &[1, 2, 2, 2, 2]), 2);
-    same(&rt, volume.seen(1), Some(1));
-    volume.note_use(1);
-    same(&rt, volume.has(&rt, 3), Some(3));
-    same(&rt, volume.seen(1), Some(1));
-    same(&rt, volume.seen(2), None);
-}
-
-// A read that failed leaves the cache as it was: page 1 is still there, page 2 isn't.
-#[test]
-fn a_failed_read_keeps_the_cache(rt: HostRuntime) {
-    let mut volume = three_pages(&rt, rt.alloc(), 1);
-    same(&rt, volume.has(&rt, 1), Some(1));
-    volume.stop_at(1);
-    same(&rt, volume.read(&rt, 2), Err(PagesError::Device));
-    same(&rt, volume.has(&rt, 1), Some(1));
-    volume.fail_at(1_000_000);
-    same(&rt, volume.has(&rt, 2), Some(2));
 }
 
 // How often the device is read while five pages, filled with their number, are brought into memory.
 fn loads_of(rt: &impl Abort, volume: &mut Volume, numbers: &[u8; 5]) -> u64 {
-    let before = volume.counts().reads;
+    let before = volume.counts();
     for number in numbers {
         works(rt, volume.load(rt, *number as u32));
         same(rt, volume.seen(*number as u32), Some(*number));
     }
-    volume.counts().reads.wrapping_sub(before)
+    volume.since(before).0
 }
 
-// A page that is brought into memory is seen there. Where it is there already, its use isn't noted.
+// A page that is brought into memory is seen there. If it is there already, its use isn't noted.
 #[test]
 fn pages_are_brought_into_memory(rt: HostRuntime) {
     for (capacity, numbers, reads) in [
@@ -127,44 +66,21 @@ fn pages_are_brought_into_memory(rt: HostRuntime) {
         (3, [3, 3, 3, 3, 3], 1),
     ] {
         let mut volume = three_pages(&rt, rt.alloc(), capacity);
-        let told = loads_of(&rt, &mut volume, &numbers);
-        same_in(&rt, &(capacity, numbers), told, reads);
+        let count = loads_of(&rt, &mut volume, &numbers);
+        same_in(&rt, &(capacity, numbers), count, reads);
     }
 }
 
-// A page that was changed stays as it is in memory, one that was released isn't brought back, and one that the map hasn't isn't asked
-// for.
+// Of two pages in the cache the one whose use was noted stays. The pages of a commit come into the cache too.
 #[test]
-fn what_is_changed_is_not_brought(rt: HostRuntime) {
+fn a_noted_page_stays(rt: HostRuntime) {
     let mut volume = three_pages(&rt, rt.alloc(), 2);
-    works(&rt, volume.edit(&rt, 1, 11));
-    works(&rt, volume.release(&rt, 2));
-    let before = volume.counts();
-    for (page, seen) in [
-        (1, Some(11)),
-        (2, None),
-        (4, None),
-        (0, None),
-        (5_000, None),
-    ] {
-        works(&rt, volume.load(&rt, page));
-        same_in(&rt, &page, volume.seen(page), seen);
-    }
-    same(&rt, volume.counts(), before);
-}
-
-// Where the device fails the cache stays as it was: page 1 is still there, page 2 isn't.
-#[test]
-fn a_failed_load_keeps_the_cache(rt: HostRuntime) {
-    let mut volume = three_pages(&rt, rt.alloc(), 1);
-    works(&rt, volume.load(&rt, 3));
-    works(&rt, volume.load(&rt, 1));
-    volume.stop_at(1);
-    same(&rt, volume.load(&rt, 2), Err(PagesError::Device));
-    same(&rt, volume.seen(1), Some(1));
-    same(&rt, volume.seen(2), None);
-    volume.fail_at(1_000_000);
-    works(&rt, volume.load(&rt, 2));
-    same(&rt, volume.seen(2), Some(2));
-    same(&rt, volume.seen(1), None);
+    same(&rt, volume.cached(), 0);
+    same(&rt, reads_of(&rt, &mut volume, &[1, 2, 2, 2, 2]), 2);
+    volume.note_use(1);
+    same(&rt, volume.has(&rt, 3), Some(3));
+    same(&rt, (volume.seen(1), volume.seen(2)), (Some(1), None));
+    works(&rt, volume.edit(&rt, 2, 22));
+    works(&rt, volume.commit(&rt));
+    same(&rt, (volume.cached(), volume.seen(2)), (2, Some(22)));
 }

@@ -1,10 +1,7 @@
-//! A case over a tree or over a page. Its first row is `tree KEY VALUE CACHED`: the bytes of keys and values, and how many pages are in
-//! memory. Or it is `page KEY VALUE KIND`, and KIND is `leaf` or `inner`.
-use crate::page_run::PageRun;
-use crate::row_answers::compare;
+//! A case over a tree. Its first row is `tree KEY VALUE CACHED`: the bytes of keys and values, and how many pages are in memory.
 use crate::tree_run::TreeRun;
-use btree_pages::{Kind, RowLayout};
-use row_scripts::{Case, Difference, Fault, Row, Tally, Words, number_of};
+use btree_pages::RowLayout;
+use row_scripts::{Case, Difference, Fault, Row, Tally, Words};
 use std::alloc::{AllocError, Global};
 use std::io;
 
@@ -25,56 +22,49 @@ pub fn check_case<R: Print + AllocGlobal>(
     Ok(())
 }
 
-/// The subject of a case.
-#[derive(Drop)]
-enum Subject {
-    Tree(TreeRun),
-    Page(PageRun),
+fn no_tree() -> Fault {
+    Fault::Spelling("a case begins with its tree")
 }
 
-impl Subject {
-    fn call(&mut self, call: &[u8], words: &mut Words<'_>) -> Result<String, Fault> {
-        match self {
-            Subject::Tree(run) => run.call(call, words),
-            Subject::Page(run) => run.call(call, words),
-        }
-    }
-
-    /// Does a row.
-    fn row(&mut self, row: &[u8]) -> Result<(), Fault> {
-        let mut words = Words::of(row);
-        let answer = match words.word() {
-            Some(call) => self.call(call, &mut words)?,
-            None => return Err(Fault::Spelling("this is no row")),
-        };
-        compare(&mut words, answer)
-    }
-}
-
-fn no_subject() -> Fault {
-    Fault::Spelling("a case begins with its tree or its page")
-}
-
-/// The subject of a first row.
-fn read_subject(alloc: Global, row: &Row) -> Result<Subject, Fault> {
+/// The tree of a first row.
+fn read_tree(alloc: Global, row: &Row) -> Result<TreeRun, Fault> {
     let mut words = Words::of(&row.text);
-    let subject = words.word().unwrap_or(b"");
-    let (Some(key), Some(value)) = (words.number(), words.number()) else {
-        return Err(no_subject());
+    let is_tree = words.takes(b"tree");
+    let (Some(key), Some(value), Some(cached)) = (words.number(), words.number(), words.number())
+    else {
+        return Err(no_tree());
     };
+    if !is_tree {
+        return Err(no_tree());
+    }
     let layout = RowLayout {
         key_length: key as usize,
         value_length: value as usize,
     };
-    match (subject, words.word().unwrap_or(b"")) {
-        (b"page", b"leaf") => Ok(Subject::Page(PageRun::new(alloc, layout, Kind::Leaf)?)),
-        (b"page", b"inner") => Ok(Subject::Page(PageRun::new(alloc, layout, Kind::Inner)?)),
-        (b"tree", cached) => {
-            let cached = number_of(cached).unwrap_or(0) as usize;
-            Ok(Subject::Tree(TreeRun::new(alloc, layout, cached)?))
-        }
-        _ => Err(no_subject()),
+    TreeRun::new(alloc, layout, cached as usize)
+}
+
+/// Compares an answer with the expected one, after the arrow of a row.
+fn compare(words: &mut Words<'_>, answer: String) -> Result<(), Fault> {
+    let is_expected = words.takes(b"->");
+    let expected = match words.rest() {
+        [b' ', rest @ ..] if is_expected => rest,
+        rest => rest,
+    };
+    if answer.as_bytes() == expected {
+        return Ok(());
     }
+    Err(Fault::Differs(answer))
+}
+
+/// Does a row.
+fn do_row(run: &mut TreeRun, row: &[u8]) -> Result<(), Fault> {
+    let mut words = Words::of(row);
+    let answer = match words.word() {
+        Some(call) => run.call(call, &mut words)?,
+        None => return Err(Fault::Spelling("this is no row")),
+    };
+    compare(&mut words, answer)
 }
 
 /// Does the rows up to the first that differs.
@@ -86,12 +76,12 @@ fn do_rows(
     let Some((first, rows)) = case.rows.as_slice().split_first() else {
         return Ok(None);
     };
-    let mut subject = match read_subject(alloc, first) {
-        Ok(subject) => subject,
+    let mut run = match read_tree(alloc, first) {
+        Ok(run) => run,
         Err(fault) => return Ok(Some(Difference::at(alloc, first.line, fault)?)),
     };
     for row in rows.iter() {
-        if let Err(fault) = subject.row(&row.text) {
+        if let Err(fault) = do_row(&mut run, &row.text) {
             return Ok(Some(Difference::at(alloc, row.line, fault)?));
         }
         tally.pass();

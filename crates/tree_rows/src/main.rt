@@ -1,10 +1,8 @@
-//! Runs scripts of calls on pages and on trees of pages, and prints the rows whose answer differs from the script.
+//! Runs scripts of calls on trees of pages, and prints the rows whose answer differs from the script.
 #![tactic(auto)]
 
 mod case;
 mod drawings;
-mod page_run;
-mod row_answers;
 mod tree_run;
 mod volume;
 

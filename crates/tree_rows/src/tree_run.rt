@@ -1,6 +1,5 @@
 //! The rows of a case over a tree: `CALL OPERANDS -> ANSWER`. Beside the tree is the list of the numbers that it has to hold.
 use crate::drawings::{draw, entries_in, leaves_in, plant};
-use crate::row_answers::whether;
 use crate::volume::{Answer, Volume, key_of, tree_of, value_of};
 use btree::{Entry, Tree};
 use btree_pages::RowLayout;
@@ -129,8 +128,10 @@ impl TreeRun {
         Ok(format!(in self.alloc; "{number}")?)
     }
 
+    /// `so`, or `otherwise`.
     fn whether(&self, fact: bool) -> Result<String, Fault> {
-        Ok(whether(self.alloc, fact)?)
+        let word = if fact { "so" } else { "otherwise" };
+        Ok(word.to_string(self.alloc)?)
     }
 
     /// Where a number is among those that have to be there, or where it belongs.

@@ -1,18 +1,23 @@
-//! Assertions of the rows, as functions: a call of one is proved at once.
+//! Assertions of the rows, as functions: a call of one is proved at once, while a macro in a test makes a path of its own there, on
+//! which everything that the test holds has to be accounted for.
+ghost use Rattle.std.specs.Prelude.{IsTrue};
+
 use std::fmt::Debug;
 use std::process::Abort;
 
-/// Asserts that this is so.
-pub fn holds(rt: &impl Abort, fact: bool) {
+/// Asserts a fact.
+pub fn holds(rt: &impl Abort, fact: bool)
+    ensures { IsTrue fact }
+{
     assert!(rt; fact);
 }
 
-/// Asserts that what was told is what is expected.
-pub fn same<T: PartialEq + Drop>(rt: &impl Abort, told: T, expected: T) {
-    assert!(rt; told == expected);
+/// Asserts that a value is the expected one.
+pub fn same<T: PartialEq + Drop>(rt: &impl Abort, value: T, expected: T) {
+    assert!(rt; value == expected);
 }
 
-/// Asserts that what was told of a case is what is expected.
-pub fn same_in<T: PartialEq + Drop>(rt: &impl Abort, case: &impl Debug, told: T, expected: T) {
-    assert!(rt; told == expected, "{case:?}");
+/// Asserts that a value of a case is the expected one.
+pub fn same_in<T: PartialEq + Drop>(rt: &impl Abort, case: &impl Debug, value: T, expected: T) {
+    assert!(rt; value == expected, "{case:?}");
 }
