@@ -16,9 +16,9 @@ use Rattle.records.specs.Rows.{bytes_cmp}
 use Rattle.records.specs.Files.{File, Files, NamedFile, IsNamed, AreFiles, empty_file, file_at, with_file}
 use Rattle.file_bytes.specs.Description.{padded_name}
 use Rattle.volume_format.specs.Catalog.{listing_bytes, catalog_value}
-use Rattle.volume_format.specs.Forest.{TreeLevels, IsForest}
+use Rattle.volume_format.specs.Forest.{TreeLevels, IsForest, tree_levels}
 use Rattle.volume_format.specs.Grows.{IsTreeAmong}
-use Rattle.volume_format.specs.Volume.{FileTrees, IsKept, MapHolds, trees_of, catalog_entry, tree_levels}
+use Rattle.volume_format.specs.Volume.{FileTrees, IsKept, MapHolds, trees_of, catalog_entry}
 use Rattle.volume_format.proofs.Forests.{all_left, all_right}
 use Rattle.volume_format.proofs.Names.{names_in_order}
 use Rattle.alternate_keys.specs.Created.{empty_file_trees}

@@ -47,7 +47,7 @@ pub keys_ascend : (m : Map) (files : Files) (holds : MapHolds m files) (layout :
     → Ascend (keys_of layout rows)
 keys_ascend m files holds layout rows is listed =
     let there : IsTreeOrEmpty (catalog_layout m.mark) m.pages m.catalog holds.keeps.catalog =
-    All-head (IsTreeIn m.pages) _ _ holds.keeps.forest.grow in
+    (All-head (IsTreeIn m.pages) _ _ holds.keeps.forest.grow).stands in
     subst (λ (l : RowLayout). Ascend (keys_of l rows)) (sym is) (subst Ascend
     (ap keys_listed holds.keeps.listed ∙ same_keys m.mark 1 holds.kept ∙ ap keys_listed (sym listed)
     ∙ row_keys (catalog_layout 1) rows)

@@ -67,6 +67,6 @@ pub catalog_holds : (m : Map) (files : Files) (holds : MapHolds m files) (tree :
     → HoldsTree tree.layout m.pages tree.root holds.keeps.catalog
 catalog_holds m files holds tree layout root =
     let own : HoldsTree (catalog_layout m.mark) m.pages m.catalog holds.keeps.catalog =
-    All-head (IsTreeIn m.pages) _ _ holds.keeps.forest.grow in
+    (All-head (IsTreeIn m.pages) _ _ holds.keeps.forest.grow).stands in
     subst (λ (l : RowLayout). HoldsTree l m.pages tree.root holds.keeps.catalog) (sym layout)
     (subst (λ (r : ℕ). HoldsTree (catalog_layout m.mark) m.pages r holds.keeps.catalog) (sym root) own)

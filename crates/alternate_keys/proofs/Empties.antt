@@ -1,5 +1,5 @@
 -- Trees without entries, and a file without rows.
-use Rattle.std.proofs.Common.{◌≡◌, ◌<◌, ◌+◌, ◌++◌, inl, ℕ, zero, suc, List, [], ◌∷◌, length, refl, sym, ap, subst, ◌∙◌}
+use Rattle.std.proofs.Common.{◌≡◌, ◌<◌, ◌+◌, ◌++◌, ℕ, zero, suc, List, [], ◌∷◌, length, refl, sym, ap, subst, ◌∙◌}
 use Rattle.std.proofs.Common.{arith}
 use Rattle.std.specs.Prelude.{map, replicate, slice_index_or, Contains, Option}
 use Rattle.std.specs.List.{All}
@@ -12,12 +12,14 @@ use Rattle.records.specs.declared.key.KeyOfReference.TheVariants.{Prime, Alterna
 use Rattle.records.specs.Spec.{Spec}
 use Rattle.records.specs.Files.{empty_file}
 use Rattle.volume_format.specs.Catalog.{Listing, listing_bytes}
-use Rattle.volume_format.specs.Trees.{AreOf}
+use Rattle.volume_format.specs.Trees.{AreOf, layout_under}
+use Rattle.volume_format.specs.Chained.{chained_bytes}
 use Rattle.volume_format.specs.Forest.{TreeLevels, IsForest, IsTreeIn, pages_under, pages_within}
 use Rattle.volume_format.specs.Volume.{IsKept, IsIndex, trees_of, listing_of, no_tree}
 use Rattle.volume_format.proofs.Forests.{all_left, all_right}
 use Rattle.alternate_keys.specs.Created.{empty_tree, empty_trees, empty_file_trees}
 use Rattle.alternate_keys.specs.Placed.{HasFileTrees}
+use Rattle.alternate_keys.proofs.WholeTrees.{empty_grows}
 
 within_two : (left right : List TreeLevels) → pages_within (left ++ right) ≡ pages_within left ++ pages_within right
 within_two left right = flat_map-append pages_under left right
@@ -75,12 +77,13 @@ module _ (spec : Spec) where
   all_grow : (pages : List (Option Sector)) (i n : ℕ) → All (IsTreeIn pages) (empty_trees spec i n)
   all_grow pages i zero = All-nil (IsTreeIn pages)
   all_grow pages i (suc n) = All-cons (IsTreeIn pages) (empty_tree spec (Alternate i)) (empty_trees spec (suc i) n)
-      (inl (refl, refl)) (all_grow pages (suc i) n)
+      (empty_grows pages (layout_under spec (Alternate i)) 0) (all_grow pages (suc i) n)
 
   pub empty_grow : (pages : List (Option Sector)) (name : List ℕ)
       → All (IsTreeIn pages) (trees_of (empty_file_trees name spec))
   empty_grow pages name = All-cons (IsTreeIn pages) (empty_tree spec Prime)
-      (empty_trees spec 0 (length spec.alternates)) (inl (refl, refl)) (all_grow pages 0 (length spec.alternates))
+      (empty_trees spec 0 (length spec.alternates))
+      (empty_grows pages (layout_under spec Prime) (chained_bytes spec)) (all_grow pages 0 (length spec.alternates))
 
   pub empty_pages : (name : List ℕ) → pages_within (trees_of (empty_file_trees name spec)) ≡ []
   empty_pages name = no_pages 0 (length spec.alternates)
@@ -90,11 +93,16 @@ module _ (spec : Spec) where
 
   index_by : (i : ℕ) (tree : TreeLevels) → tree ≡ empty_tree spec (Alternate i) → IsIndex (empty_file spec) i tree
   index_by i tree is =
-      subst (λ (t : TreeLevels). IsIndex (empty_file spec) i t) (sym is) (record { layout = refl; pairs = no_pairs i })
+      subst (λ (t : TreeLevels). IsIndex (empty_file spec) i t) (sym is) (record {
+        layout = refl;
+        whole = refl;
+        pairs = no_pairs i;
+      })
 
   pub empty_is : (generation : ℕ) (name : List ℕ) → IsKept (generation + 1) (empty_file_trees name spec)
   empty_is generation name = record {
     layout = refl;
+    form = refl;
     rows = refl;
     count = how_many 0 (length spec.alternates);
     indexes = λ i within.

@@ -9,7 +9,7 @@ use Rattle.station.specs.Disk.{Sector}
 use Rattle.byteorder.specs.Endian.{big_number}
 use Rattle.pages.specs.Image.{Map}
 use Rattle.btree.specs.Rooted.{RootedTree}
-use Rattle.btree.specs.Entries.{Entry, entries_of}
+use Rattle.btree.specs.Entries.{Entry}
 use Rattle.records.specs.declared.key.KeyOfReference.{KeyOfReference}
 use Rattle.records.specs.declared.key.KeyOfReference.TheVariants.{Prime, Alternate}
 use Rattle.records.specs.Spec.{Spec, is_spec}
@@ -19,18 +19,20 @@ use Rattle.records.specs.Files.{File, NamedFile, IsNamed, IsRow, IsArrival}
 use Rattle.records.specs.Laws.{RowsAscend}
 use Rattle.volume_format.specs.Trees.{entry_under, layout_under}
 use Rattle.volume_format.specs.Pairs.{IsUnder}
-use Rattle.volume_format.specs.Forest.{TreeLevels, IsTreeIn, IsForest}
+use Rattle.volume_format.specs.Forest.{TreeLevels, IsTreeIn, IsForest, tree_levels}
 use Rattle.volume_format.specs.Grows.{IsTreeAmong}
-use Rattle.volume_format.specs.Volume.{FileTrees, IsIndex, trees_of, listing_of, no_tree, tree_levels}
+use Rattle.volume_format.specs.Volume.{FileTrees, IsIndex, trees_of, listing_of, no_tree}
 use Rattle.volume_format.proofs.Forests.{all_left, all_right}
 use Rattle.volume_format.proofs.Keeping.{rows_fit}
 use Rattle.volume_format.proofs.Listings.{next_read}
+use Rattle.volume_format.proofs.Whole.{short_spec}
 use Rattle.alternate_keys.specs.Created.{HasStored}
 use Rattle.alternate_keys.specs.Listed.{IsFoundFile, root_in}
 use Rattle.alternate_keys.specs.Moved.{IsRowOf}
 use Rattle.alternate_keys.specs.Placed.{HasTrees, HasIndexes, HasAllPairs, listed_tree}
 use Rattle.alternate_keys.specs.Seen.{HasRows, HasPairs}
 use Rattle.alternate_keys.proofs.Keeping.{tree_is, root_is, rows_seen, pairs_seen, tree_under}
+use Rattle.alternate_keys.proofs.WholeTrees.{whole_stands}
 
 module _ (spec : Spec) (named : NamedFile) (generation : ℕ) (pages : List (Option Sector)) (left right :
     List TreeLevels) (listing : List ℕ) (has : HasTrees spec named generation pages left right listing) where
@@ -57,6 +59,12 @@ module _ (spec : Spec) (named : NamedFile) (generation : ℕ) (pages : List (Opt
     named = subst (λ (n : NamedFile). IsNamed n) (sym has.placed.named_is) has.is_named;
     grow = grown;
   }
+
+  pub good_spec : is_spec kept_in.named.file.spec ≡ true
+  good_spec = found.named.file.spec
+
+  pub good_here : is_spec spec ≡ true
+  good_here = subst (λ (s : Spec). is_spec s ≡ true) spec_here good_spec
 
   pub arrival_low : named.file.next_arrival ≤ generation
   arrival_low =
@@ -85,14 +93,11 @@ module _ (spec : Spec) (named : NamedFile) (generation : ℕ) (pages : List (Opt
       → IsTreeAmong pages left (kept_in.alternates ++ right) prime (map (entry_under spec Prime) named.file.rows)
   prime_stands prime layout root =
       let same = prime_same prime layout root in
-      record {
-        levels = kept_in.prime.levels;
-        forest = subst (λ (t : RootedTree). IsForest pages (left
-            ++ (tree_levels t kept_in.prime.levels ∷ (kept_in.alternates ++ right)))) (sym same) has.placed.forest;
-        listed = ap (λ (t : RootedTree). entries_of t.layout kept_in.prime.levels) same ∙ has.placed.is.rows
-            ∙ ap (λ (s : Spec). map (entry_under s Prime) kept_in.named.file.rows) spec_here
-            ∙ ap (λ (f : File). map (entry_under spec Prime) f.rows) file_is;
-      }
+      subst (λ (es : List Entry). IsTreeAmong pages left (kept_in.alternates ++ right) prime es)
+      (has.placed.is.rows ∙ ap (λ (s : Spec). map (entry_under s Prime) kept_in.named.file.rows) spec_here
+      ∙ ap (λ (f : File). map (entry_under spec Prime) f.rows) file_is)
+      (whole_stands pages left (kept_in.alternates ++ right) kept_in.prime prime
+      (has.placed.is.form ∙ short_spec kept_in.named.file.spec good_spec) (sym same) has.placed.forest)
 
   pub prime_rows : (prime : RootedTree) → prime.layout ≡ layout_under spec Prime → prime.root ≡ root_in Prime listing
       → HasRows spec pages named.file.rows prime
@@ -169,13 +174,11 @@ module _ (spec : Spec) (named : NamedFile) (generation : ℕ) (pages : List (Opt
       ≡ record { layout = layout_under kept_in.named.file.spec Prime; root = root_in Prime listing }
   prime_told = told_tree Prime (omega arith)
 
-  pub good_spec : is_spec kept_in.named.file.spec ≡ true
-  good_spec = found.named.file.spec
-
   pub all_stored : HasStored listing kept_in
   all_stored = record {
     good = good_spec;
     says = has.placed.says;
     count = has.placed.is.count;
+    whole = λ i within. (has.placed.is.indexes i within).whole;
     trees = λ i within. told_tree (Alternate i) (omega (arith, within));
   }

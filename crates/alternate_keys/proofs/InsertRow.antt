@@ -21,7 +21,8 @@ use Rattle.volume_format.specs.Trees.{entry_under, layout_under, AreOf}
 use Rattle.volume_format.specs.Pairs.{IsUnder}
 use Rattle.volume_format.specs.Forest.{TreeLevels}
 use Rattle.volume_format.specs.Grows.{IsTreeAmong}
-use Rattle.volume_format.specs.Volume.{tree_levels}
+use Rattle.volume_format.specs.Forest.{tree_levels}
+use Rattle.volume_format.proofs.Whole.{short_spec}
 use Rattle.volume_format.proofs.Comes.{row_comes, pair_comes}
 use Rattle.alternate_keys.specs.declared.row_verb.RowVerb.{RowVerb}
 use Rattle.alternate_keys.specs.declared.row_verb.RowVerb.TheVariants.{Insert}
@@ -29,7 +30,7 @@ use Rattle.alternate_keys.specs.Moved.{HasChangedRows, PairsMove, PairsMayMove, 
 use Rattle.alternate_keys.specs.NewRow.{row_with, file_with, named_with}
 use Rattle.alternate_keys.specs.Placed.{HasTrees}
 use Rattle.alternate_keys.proofs.Arrivals.{arrival_at}
-use Rattle.alternate_keys.proofs.FileTrees.{kept_in, arrival_low, arrival_few, rows_under, indexes_then}
+use Rattle.alternate_keys.proofs.FileTrees.{kept_in, good_here, arrival_low, arrival_few, rows_under, indexes_then}
 use Rattle.alternate_keys.proofs.Fresh.{new_under, key_there, not_there, arrivals_before}
 
 abbrev pub change_to : Outcome → File → FileChange
@@ -162,6 +163,7 @@ module _ (spec : Spec) (named : NamedFile) (generation : ℕ) (pages : List (Opt
         (with_new_entry (map (entry_under spec Prime) named.file.rows) (entry_under spec Prime row)) stands;
     layout = layout;
     root_is = refl;
+    form = sym (short_spec spec (good_here spec named generation pages left right listing has));
     rows = stands.listed
         ∙ row_comes spec named.file.rows row (rows_under spec named generation pages left right listing has) own_under
         ∙ ap (λ (s : Spec). map (entry_under spec Prime) (with_row s.organization row named.file.rows))

@@ -15,7 +15,7 @@ use Rattle.records.specs.Spec.{Spec}
 use Rattle.records.specs.Stores.{IsKey}
 use Rattle.records.specs.Files.{File, IsRow}
 use Rattle.volume_format.specs.Catalog.{listing_bytes}
-use Rattle.volume_format.specs.Trees.{entry_under, layout_under}
+use Rattle.volume_format.specs.Trees.{entry_under, layout_under, AreOf}
 use Rattle.volume_format.specs.Forest.{TreeLevels, IsTreeIn}
 use Rattle.volume_format.specs.Volume.{FileTrees, catalog_entry, listing_of, no_tree}
 use Rattle.volume_format.proofs.Comes.{in_cons}
@@ -23,6 +23,7 @@ use Rattle.volume_format.proofs.Keeping.{rows_fit}
 use Rattle.volume_format.proofs.Listings.{prime_read, root_read, long}
 use Rattle.volume_format.proofs.Roots.{root_small}
 use Rattle.volume_format.proofs.Values.{reads_back}
+use Rattle.volume_format.proofs.Whole.{whole_entries, short_spec}
 use Rattle.btree.proofs.Runs.{in_head, in_tail, in_none}
 use Rattle.alternate_keys.specs.Listed.{IsFoundFile, root_in}
 use Rattle.alternate_keys.specs.Seen.{HasRows, HasPairs}
@@ -39,10 +40,12 @@ pub rows_seen : (m : Map) (found : Option File) (kept : FileTrees) → IsFoundFi
 rows_seen m found kept is few =
     let file : File = kept.named.file in
     let low = is.is.arrivals in
+    let grows = All-head (IsTreeIn m.pages) kept.prime kept.alternates is.grow in
     record {
       levels = kept.prime.levels;
-      holds = All-head (IsTreeIn m.pages) kept.prime kept.alternates is.grow;
-      entries = is.is.rows;
+      holds = grows.stands;
+      entries = sym (whole_entries m.pages kept.prime grows (is.is.form ∙ short_spec file.spec is.named.file.spec))
+          ∙ is.is.rows;
       fits = (rows_fit file is.named.file (omega arith)).0;
       records = λ k d within.
           (All-from_recursion (IsRow file.spec file.next_arrival) file.rows is.named.file.rows k d within).long;
@@ -83,11 +86,14 @@ pairs_seen m found kept (Alternate i) is few within =
     let low = is.is.arrivals in
     let count = is.is.count in
     let index = is.is.indexes i within in
+    let tree : TreeLevels = slice_index_or kept.alternates i no_tree in
+    let grows = grows_at m kept.alternates i (All-tail (IsTreeIn m.pages) kept.prime kept.alternates is.grow)
+    (omega (arith, count, within)) in
     record {
-      levels = (slice_index_or kept.alternates i no_tree).levels;
-      holds = grows_at m kept.alternates i (All-tail (IsTreeIn m.pages) kept.prime kept.alternates is.grow)
-          (omega (arith, count, within));
-      are = index.pairs;
+      levels = tree.levels;
+      holds = grows.stands;
+      are = subst (λ (es : List Entry). AreOf file.spec (Alternate i) file.rows es)
+          (whole_entries m.pages tree grows index.whole) index.pairs;
       fits = (rows_fit file is.named.file (omega arith)).1 i within;
     }
 

@@ -18,6 +18,7 @@ pub mod OpenedStore
 pub mod ReadCalls
 pub mod Splits
 pub mod Among
+pub mod WholeTrees
 pub mod Calling
 pub mod Becoming
 pub mod Fresh

@@ -20,12 +20,13 @@ use Rattle.records.specs.Rows.{Row}
 use Rattle.records.specs.Spec.{Spec, is_spec}
 use Rattle.records.specs.Stores.{IsKey}
 use Rattle.volume_format.specs.Catalog.{Listing, catalog_layout, catalog_value, listing_bytes}
-use Rattle.volume_format.specs.Forest.{TreeLevels, IsForest, IsTreeIn}
+use Rattle.volume_format.specs.Forest.{TreeLevels, IsForest, IsTreeIn, tree_levels}
 use Rattle.volume_format.specs.Grows.{IsTreeAmong}
 use Rattle.volume_format.specs.Trees.{entry_under, layout_under}
-use Rattle.volume_format.specs.Volume.{FileTrees, IsKept, MapHolds, tree_levels, trees_of, catalog_entry, catalog_tree}
+use Rattle.volume_format.specs.Volume.{FileTrees, IsKept, MapHolds, trees_of, catalog_entry, catalog_tree}
 use Rattle.volume_format.specs.Volume.{listing_of}
 use Rattle.volume_format.proofs.Forests.{all_right, forest_moves}
+use Rattle.volume_format.proofs.Whole.{whole_grows}
 use Rattle.alternate_keys.specs.Listed.{catalog_at, root_in}
 use Rattle.alternate_keys.specs.Placed.{HasTrees}
 use Rattle.alternate_keys.specs.Seen.{HasRows}
@@ -60,10 +61,12 @@ pub built_among : (before after : List (Option Sector)) (trees : List TreeLevels
 built_among before after trees tree levels entries forest holds moves listed =
     let old : TreeLevels = tree_levels (record { layout = tree.layout; root = 0 }) [] in
     let with_old : IsForest before (old ∷ trees) = forest_with before [] (old ∷ []) trees forest
-    (All-cons (IsTreeIn before) old [] (inl (refl, refl)) (All-nil (IsTreeIn before))) refl in
+    (All-cons (IsTreeIn before) old [] (whole_grows before old.tree [] (inl (refl, refl))) (All-nil (IsTreeIn before)))
+    refl in
     record {
       levels = levels;
-      forest = forest_moves before after [] trees old (tree_levels tree levels) with_old moves holds;
+      forest = forest_moves before after [] trees old (tree_levels tree levels) with_old moves
+          (whole_grows after tree levels holds);
       listed = listed;
     }
 

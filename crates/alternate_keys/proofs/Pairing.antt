@@ -6,19 +6,20 @@ use Rattle.std.proofs.lemmas.List.{length-append}
 use Rattle.station.specs.Disk.{Sector}
 use Rattle.btree_pages.specs.Keys.{Ascend}
 use Rattle.btree.specs.Rooted.{RootedTree}
-use Rattle.btree.specs.Entries.{Entry, entries_of}
+use Rattle.btree.specs.Entries.{Entry}
 use Rattle.btree.specs.Laws.{keys_listed}
 use Rattle.btree.proofs.There.{tree_ascends}
 use Rattle.records.specs.declared.key.KeyOfReference.TheVariants.{Alternate}
 use Rattle.records.specs.Spec.{Spec}
 use Rattle.records.specs.Files.{File}
 use Rattle.volume_format.specs.Trees.{layout_under, AreOf}
-use Rattle.volume_format.specs.Forest.{TreeLevels, IsForest}
+use Rattle.volume_format.specs.Forest.{TreeLevels, IsForest, tree_levels}
 use Rattle.volume_format.specs.Grows.{IsTreeAmong}
-use Rattle.volume_format.specs.Volume.{IsIndex, no_tree, tree_levels}
+use Rattle.volume_format.specs.Volume.{IsIndex, no_tree}
 use Rattle.alternate_keys.specs.Placed.{HasIndexes, HaveBecome, listed_tree, roots_of}
 use Rattle.alternate_keys.proofs.Among.{grows}
 use Rattle.alternate_keys.proofs.Keeping.{same_tree}
+use Rattle.alternate_keys.proofs.WholeTrees.{whole_stands}
 
 pub rest_of : {X : Type 0} (xs : List X) (k : ℕ) (d : X) → k < length xs
     → drop k xs ≡ slice_index_or xs k d ∷ drop (k + 1) xs
@@ -62,26 +63,21 @@ pub stands_next : (held new : File) (before pages : List (Option Sector)) (left 
     (become : HaveBecome new pages left right trees i roots) → i < length held.spec.alternates → (tree : RootedTree)
     → tree ≡ listed_tree held.spec i listing →
     IsTreeAmong pages (left ++ become.done) (drop (i + 1) trees ++ right) tree
-    (entries_of tree.layout (slice_index_or trees i no_tree).levels)
+    (slice_index_or trees i no_tree).entries
 stands_next held new before pages left right trees listing i roots has become low tree is =
     let t : TreeLevels = slice_index_or trees i no_tree in
     let count = has.count in
     let index = has.indexes i low in
     let same : t.tree ≡ tree =
     same_tree t.tree (listed_tree held.spec i listing) index.layout (has.roots i low) ∙ sym is in
-    let own : t ≡ tree_levels tree t.levels = ap (λ (r : RootedTree). tree_levels r t.levels) same in
-    let rest : drop i trees ++ right ≡ tree_levels tree t.levels ∷ (drop (i + 1) trees ++ right) =
-    ap (λ (l : List TreeLevels). l ++ right) (rest_of trees i no_tree (omega (arith, count, low)))
-    ∙ ap (λ (x : TreeLevels). x ∷ (drop (i + 1) trees ++ right)) own in
+    let rest : drop i trees ++ right ≡ t ∷ (drop (i + 1) trees ++ right) =
+    ap (λ (l : List TreeLevels). l ++ right) (rest_of trees i no_tree (omega (arith, count, low))) in
     let parted : left ++ (become.done ++ (drop i trees ++ right))
-    ≡ (left ++ become.done) ++ (tree_levels tree t.levels ∷ (drop (i + 1) trees ++ right)) =
+    ≡ (left ++ become.done) ++ (t ∷ (drop (i + 1) trees ++ right)) =
     ap (λ (l : List TreeLevels). left ++ (become.done ++ l)) rest
-    ∙ sym (append_assoc left become.done (tree_levels tree t.levels ∷ (drop (i + 1) trees ++ right))) in
-    record {
-      levels = t.levels;
-      forest = subst (λ (ts : List TreeLevels). IsForest pages ts) parted become.forest;
-      listed = refl;
-    }
+    ∙ sym (append_assoc left become.done (t ∷ (drop (i + 1) trees ++ right))) in
+    whole_stands pages (left ++ become.done) (drop (i + 1) trees ++ right) t tree index.whole same
+    (subst (λ (ts : List TreeLevels). IsForest pages ts) parted become.forest)
 
 -- and has become another
 pub become_next : (held after : File) (before pages later : List (Option Sector)) (left right trees : List TreeLevels)
@@ -98,6 +94,7 @@ become_next held after before pages later left right trees listing i roots has b
     let own : IsIndex after i x = record {
       layout =
           layout ∙ ap (λ (r : RootedTree). r.layout) is ∙ ap (λ (s : Spec). layout_under s (Alternate i)) (sym spec);
+      whole = refl;
       pairs = subst (λ (es : List Entry). AreOf after.spec (Alternate i) after.rows es) (sym stands.listed) are;
     } in
     let count = become.count in
@@ -130,15 +127,3 @@ pub entries_ascend : (pages : List (Option Sector)) (left right : List TreeLevel
 entries_ascend pages left right tree entries stands =
     subst (λ (es : List Entry). Ascend (keys_listed es)) stands.listed
     (tree_ascends tree.layout pages tree.root stands.levels (grows pages left right tree entries stands))
-
--- the next tree has the pairs of the rows
-pub pairs_next : (held : File) (before : List (Option Sector)) (left right trees : List TreeLevels) (listing : List ℕ)
-    (i : ℕ) → (has : HasIndexes held before left right trees listing) → i < length held.spec.alternates →
-    (tree : RootedTree) → tree ≡ listed_tree held.spec i listing
-    → AreOf held.spec (Alternate i) held.rows (entries_of tree.layout (slice_index_or trees i no_tree).levels)
-pairs_next held before left right trees listing i has low tree is =
-    let t : TreeLevels = slice_index_or trees i no_tree in
-    let index = has.indexes i low in
-    let same : t.tree ≡ tree =
-    same_tree t.tree (listed_tree held.spec i listing) index.layout (has.roots i low) ∙ sym is in
-    subst (λ (r : RootedTree). AreOf held.spec (Alternate i) held.rows (entries_of r.layout t.levels)) same index.pairs

@@ -176,6 +176,7 @@ catalog_among m files holds name held found named generation pages listing place
 pub next_kept : (generation : ℕ) (k : FileTrees) → IsKept generation k → IsKept (generation + 1) k
 next_kept generation k is = record {
   layout = is.layout;
+  form = is.form;
   rows = is.rows;
   count = is.count;
   indexes = is.indexes;

@@ -19,11 +19,13 @@ use Rattle.file_bytes.specs.Rows.{row_value}
 use Rattle.volume_format.specs.Pairs.{IsPair}
 use Rattle.volume_format.specs.Forest.{TreeLevels}
 use Rattle.volume_format.specs.Grows.{IsTreeAmong}
-use Rattle.volume_format.specs.Volume.{tree_levels}
+use Rattle.volume_format.specs.Forest.{tree_levels}
+use Rattle.volume_format.proofs.Whole.{short_spec}
 use Rattle.alternate_keys.specs.declared.row_verb.RowVerb.TheVariants.{Remove}
 use Rattle.alternate_keys.specs.Moved.{HasChangedRows, PairsMove, PairsMayMove, IsRowOf, old_key}
 use Rattle.alternate_keys.specs.Placed.{HasTrees}
-use Rattle.alternate_keys.proofs.FileTrees.{kept_in, arrival_low, rows_under, rows_ascend, is_row_of, indexes_then}
+use Rattle.alternate_keys.proofs.FileTrees.{kept_in, good_here, arrival_low, rows_under, rows_ascend, is_row_of}
+use Rattle.alternate_keys.proofs.FileTrees.{indexes_then}
 use Rattle.alternate_keys.proofs.FoundTrees.{indexed}
 use Rattle.alternate_keys.proofs.PairEdits.{pair_there, pair_leaves}
 use Rattle.alternate_keys.proofs.RowEdits.{row_there, row_leaves}
@@ -113,6 +115,7 @@ module _ (spec : Spec) (named : NamedFile) (generation : ℕ) (pages : List (Opt
         (without_entry (map (entry_under spec Prime) named.file.rows) (key_under spec Prime pair)) stands;
     layout = layout;
     root_is = refl;
+    form = sym (short_spec spec (good_here spec named generation pages left right listing has));
     rows = stands.listed
         ∙ row_leaves spec pair pair_is named.file.rows (rows_under spec named generation pages left right listing has)
         (rows_ascend spec named generation pages left right listing has)

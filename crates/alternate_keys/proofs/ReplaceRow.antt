@@ -31,14 +31,16 @@ use Rattle.file_bytes.specs.Rows.{row_value}
 use Rattle.volume_format.specs.Pairs.{IsPair}
 use Rattle.volume_format.specs.Forest.{TreeLevels}
 use Rattle.volume_format.specs.Grows.{IsTreeAmong}
-use Rattle.volume_format.specs.Volume.{tree_levels}
+use Rattle.volume_format.specs.Forest.{tree_levels}
+use Rattle.volume_format.proofs.Whole.{short_spec}
 use Rattle.alternate_keys.specs.declared.row_verb.RowVerb.TheVariants.{Replace}
 use Rattle.alternate_keys.specs.Moved.{HasChangedRows, PairsMove, PairsMayMove, old_key, pair_entry}
 use Rattle.alternate_keys.specs.Moved.{changes_at, is_new}
 use Rattle.alternate_keys.specs.NewRow.{row_with}
 use Rattle.alternate_keys.specs.Placed.{HasTrees}
 use Rattle.alternate_keys.proofs.Arrivals.{arrival_at}
-use Rattle.alternate_keys.proofs.FileTrees.{kept_in, arrival_low, arrival_few, rows_under, rows_ascend, indexes_then}
+use Rattle.alternate_keys.proofs.FileTrees.{kept_in, good_here, arrival_low, arrival_few, rows_under, rows_ascend}
+use Rattle.alternate_keys.proofs.FileTrees.{indexes_then}
 use Rattle.alternate_keys.proofs.FoundRow.{FoundRow}
 use Rattle.alternate_keys.proofs.Fresh.{not_there, arrivals_before}
 use Rattle.alternate_keys.proofs.InsertRow.{change_to, told_of, none_by, told_by, told_free, told_taken}
@@ -330,6 +332,7 @@ module _ (spec : Spec) (named : NamedFile) (generation : ℕ) (pages : List (Opt
         (with_value (map (entry_under spec Prime) file.rows) (entry_under spec Prime new)) stands;
     layout = layout;
     root_is = refl;
+    form = sym (short_spec spec (good_here spec named generation pages left right listing has));
     rows = stands.listed ∙ row_changes spec pair pair_good new file.rows
         (ap (λ (s : Spec). prime_pair s.organization new) (sym has.spec_is) ∙ new_pair)
         (rows_under spec named generation pages left right listing has)

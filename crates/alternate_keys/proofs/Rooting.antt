@@ -3,11 +3,11 @@ use Rattle.std.proofs.Common.{◌≡◌, ◌≤◌, ◌+◌, ◌++◌, ℕ, List
 use Rattle.std.proofs.Common.{append_assoc, arith}
 use Rattle.std.specs.Prelude.{map, Option}
 use Rattle.station.specs.Disk.{Sector}
-use Rattle.btree.specs.Entries.{entries_of}
 use Rattle.records.specs.declared.key.KeyOfReference.TheVariants.{Prime}
 use Rattle.records.specs.Spec.{Spec}
 use Rattle.records.specs.Files.{NamedFile}
 use Rattle.volume_format.specs.Catalog.{Listing, listing_bytes}
+use Rattle.volume_format.specs.Chained.{chained_bytes}
 use Rattle.volume_format.specs.Trees.{entry_under, layout_under}
 use Rattle.volume_format.specs.Forest.{TreeLevels, IsForest}
 use Rattle.alternate_keys.specs.Placed.{HasFileTrees, HaveBecome}
@@ -24,14 +24,14 @@ pub placed_by : (spec : Spec) (after : NamedFile) (generation : ℕ) (pages : Li
     List TreeLevels) (prime : TreeLevels) (trees : List TreeLevels) (roots listing : List ℕ) (root next : ℕ) →
     HaveBecome after.file pages (left ++ prime ∷ []) right trees (length trees) roots
     → prime.tree.layout ≡ layout_under spec Prime → prime.tree.root ≡ root
-    → entries_of prime.tree.layout prime.levels ≡ map (entry_under spec Prime) after.file.rows →
-    after.file.spec ≡ spec
+    → prime.record_bytes ≡ chained_bytes spec → prime.entries ≡ map (entry_under spec Prime) after.file.rows
+    → after.file.spec ≡ spec
     → after.file.next_arrival ≡ next → next ≤ generation + 1 → length trees ≡ length spec.alternates
     → listing ≡ listing_bytes (record { spec = spec; prime = root; alternates = roots; next_arrival = next }) →
     HasFileTrees after (generation + 1) pages left right listing
 unfolding listing_with
-placed_by spec after generation pages left right prime trees roots listing root next become layout root_is rows spec_is
-    next_is low count says =
+placed_by spec after generation pages left right prime trees roots listing root next become layout root_is form rows
+    spec_is next_is low count says =
     let rest : (left ++ prime ∷ []) ++ (become.done ++ (drop (length trees) trees ++ right))
     ≡ left ++ (prime ∷ (become.done ++ right)) =
     append_assoc left (prime ∷ []) (become.done ++ (drop (length trees) trees ++ right))
@@ -43,6 +43,7 @@ placed_by spec after generation pages left right prime trees roots listing root 
       forest = subst (λ (ts : List TreeLevels). IsForest pages ts) rest become.forest;
       is = record {
         layout = layout ∙ ap (λ (s : Spec). layout_under s Prime) (sym spec_is);
+        form = form ∙ ap chained_bytes (sym spec_is);
         rows = rows ∙ ap (λ (s : Spec). map (entry_under s Prime) after.file.rows) (sym spec_is);
         count = become.count ∙ count ∙ ap (λ (s : Spec). length s.alternates) (sym spec_is);
         indexes = λ i within. let same =

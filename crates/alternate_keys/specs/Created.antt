@@ -14,14 +14,26 @@ use Rattle.records.specs.Files.{Files, NamedFile, empty_file}
 use Rattle.records.specs.Stores.{IsKey}
 use Rattle.volume_format.specs.Catalog.{Listing, listing_bytes}
 use Rattle.volume_format.specs.Trees.{layout_under}
-use Rattle.volume_format.specs.Forest.{TreeLevels, IsForest}
-use Rattle.volume_format.specs.Volume.{FileTrees, MapHolds, listing_of, no_tree, tree_levels}
+use Rattle.volume_format.specs.Chained.{chained_bytes}
+use Rattle.volume_format.specs.Forest.{TreeLevels, IsForest, tree_levels}
+use Rattle.volume_format.specs.Volume.{FileTrees, MapHolds, listing_of, no_tree}
 use Rattle.alternate_keys.specs.Listed.{root_in}
 use Rattle.alternate_keys.specs.Placed.{HasTrees}
 
+-- the bytes of each record that is in a chain, in the tree of a key; 0 if its entries have their records themselves
+abbrev pub chained_under : Spec → KeyOfReference → ℕ
+chained_under spec Prime = chained_bytes spec
+chained_under spec (Alternate i) = 0
+
 -- the tree of a key without entries
 abbrev pub empty_tree : Spec → KeyOfReference → TreeLevels
-empty_tree spec key = tree_levels (record { layout = layout_under spec key; root = 0 }) []
+empty_tree spec key = record {
+  tree = record { layout = layout_under spec key; root = 0 };
+  levels = [];
+  record_bytes = chained_under spec key;
+  chains = [];
+  entries = [];
+}
 
 -- those of so many alternate keys, from one on
 abbrev pub empty_trees : Spec → ℕ → ℕ → List TreeLevels
@@ -37,6 +49,8 @@ pub record HasStored (value : List ℕ) (kept : FileTrees) : Type 0 where
   pub good : is_spec kept.named.file.spec ≡ true
   pub says : value ≡ listing_bytes (listing_of kept)
   pub count : length kept.alternates ≡ length kept.named.file.spec.alternates
+  pub whole : (i : ℕ) → i < length kept.named.file.spec.alternates
+      → (slice_index_or kept.alternates i no_tree).record_bytes ≡ 0
   pub trees : (i : ℕ) → i < length kept.named.file.spec.alternates → (slice_index_or kept.alternates i no_tree).tree ≡ record { layout = layout_under kept.named.file.spec (Alternate i); root = root_in (Alternate i) value }
 
 module _ {D : Type 0} (d : Devices D) where
@@ -49,7 +63,8 @@ module _ {D : Type 0} (d : Devices D) where
   abbrev pub OnStored : List ℕ → KeyOfReference → PageMap → D → (List TreeLevels → List TreeLevels → Type 0) → Type 0
   OnStored value key pages now claim =
       d.is_honest now → Agrees pages (d.state now).disk → (l : Listing) (tree : TreeLevels) (left right : List TreeLevels) → is_spec l.spec ≡ true → value ≡ listing_bytes l → IsKey l.spec key →
-      tree.tree ≡ record { layout = layout_under l.spec key; root = root_in key value } → IsForest (pages_on d pages now) (left ++ tree ∷ right) → claim left right
+      tree.tree ≡ record { layout = layout_under l.spec key; root = root_in key value }
+      → tree.record_bytes ≡ chained_under l.spec key → IsForest (pages_on d pages now) (left ++ tree ∷ right) → claim left right
 
   -- of each file of which the trees of alternate keys stand there
   abbrev pub OnAlternates : PageMap → D → List ℕ → (List TreeLevels → List TreeLevels → Type 0) → Type 0

@@ -8,7 +8,7 @@ use Rattle.pages.specs.Pages.{Agrees}
 use Rattle.pages.specs.declared.page_map.PageMap.{PageMap}
 use Rattle.btree.specs.Calls.{pages_on}
 use Rattle.btree_pages.specs.Keys.{Ascend}
-use Rattle.btree.specs.Entries.{Entry, entries_of, entry_with, with_new_entry, without_entry}
+use Rattle.btree.specs.Entries.{Entry, entry_with, with_new_entry, without_entry}
 use Rattle.btree.specs.Laws.{keys_listed}
 use Rattle.records.specs.declared.file_spec.AlternateKey.{AlternateKey}
 use Rattle.records.specs.declared.file_spec.Organization.{Organization}
@@ -19,6 +19,7 @@ use Rattle.records.specs.Rows.{Row, part, place_of, prime_place, no_key}
 use Rattle.records.specs.Changes.{FileChange, insertion, replacement, removal, changes}
 use Rattle.records.specs.Files.{File, NamedFile}
 use Rattle.records.specs.Stores.{IsNewNumber, key_length, pair_of}
+use Rattle.volume_format.specs.Chained.{chained_bytes}
 use Rattle.volume_format.specs.Trees.{entry_under, layout_under, AreOf}
 use Rattle.volume_format.specs.Forest.{TreeLevels}
 use Rattle.alternate_keys.specs.declared.row_verb.RowVerb.{RowVerb}
@@ -115,7 +116,8 @@ pub record HasChangedRows (verb : RowVerb) (spec : Spec) (held after : NamedFile
   pub indexes : HasIndexes held.file pages (left ++ prime ∷ []) right trees listing
   pub layout : prime.tree.layout ≡ layout_under spec Prime
   pub root_is : prime.tree.root ≡ root
-  pub rows : entries_of prime.tree.layout prime.levels ≡ map (entry_under spec Prime) after.file.rows
+  pub form : prime.record_bytes ≡ chained_bytes spec
+  pub rows : prime.entries ≡ map (entry_under spec Prime) after.file.rows
   pub spec_is : held.file.spec ≡ spec
   pub spec_then : after.file.spec ≡ spec
   pub pairs : PairsMove verb held.file after.file old bytes arrival

@@ -1,5 +1,5 @@
 -- A catalog and its files, whose pages are all that the map uses, are what the map holds.
-use Rattle.std.proofs.Common.{◌≡◌, ◌≢◌, ◌≤◌, ◌<◌, ◌^◌, ◌++◌, ⊎_elim, inl, inr, ℕ, Bool, true, false, List, []}
+use Rattle.std.proofs.Common.{◌≡◌, ◌≢◌, ◌≤◌, ◌^◌, ◌++◌, ⊎_elim, ℕ, Bool, true, false, List, []}
 use Rattle.std.proofs.Common.{◌∷◌, length, refl, sym, ap, subst, ◌∙◌, arith}
 use Rattle.std.specs.Prelude.{map, Option, None, Contains, slice_index_or}
 use Rattle.std.specs.List.{All, AllByRecursion, flat_map}
@@ -10,7 +10,7 @@ use Rattle.station.specs.Disk.{Sector}
 use Rattle.pages.specs.Image.{Map}
 use Rattle.btree_check.specs.Walks.{CanMark, Marks}
 use Rattle.btree.specs.Entries.{Entry, entries_of}
-use Rattle.btree.specs.Tree.{TreeNode, pages_of}
+use Rattle.btree.specs.Tree.{TreeNode}
 use Rattle.btree.proofs.One.{one_tree}
 use Rattle.btree.proofs.Runs.{in_or_not}
 use Rattle.btree.proofs.There.{tree_ascends}
@@ -22,6 +22,7 @@ use Rattle.volume_format.specs.Catalog.{catalog_layout}
 use Rattle.volume_format.specs.Forest.{TreeLevels, IsTreeIn, IsForest, pages_under, pages_within}
 use Rattle.volume_format.specs.Volume.{FileTrees, IsKept, MapHolds, trees_of, catalog_entry, catalog_tree}
 use Rattle.volume_format.proofs.Forests.{all_left, all_right}
+use Rattle.volume_format.proofs.Pages.{IsPage, pages_within_map}
 use Rattle.file_recovery.specs.Covered.{IsCovered}
 use Rattle.file_recovery.specs.Kept.{IsCatalogFile, IsCatalog, FindsCatalog, NoCatalog}
 use Rattle.file_recovery.proofs.Ascents.{names_ascend}
@@ -32,22 +33,12 @@ use Rattle.file_recovery.proofs.OneFound.{one_list_of_trees}
 abbrev pub NoneMarked : List Bool → Type 0
 NoneMarked seen = (page : ℕ) → slice_index_or seen page false ≡ false
 
--- a page number from 1 on that a map has
-abbrev IsPage : List (Option Sector) → ℕ → Type 0
-IsPage pages page = (0 < page) × (page < length pages)
-
 -- the pages of trees are pages of the map
-low_under : (pages : List (Option Sector)) (tree : TreeLevels) → IsTreeIn pages tree
-    → All (IsPage pages) (pages_under tree)
-low_under pages tree (inl none) = subst (λ (levels : List (List TreeNode)). All (IsPage pages) (pages_of levels))
-    (sym none.1) (All-nil (IsPage pages))
-low_under pages tree (inr is) = is.1.numbers
-
 low_within : (pages : List (Option Sector)) (trees : List TreeLevels) → All (IsTreeIn pages) trees
     → All (IsPage pages) (pages_within trees)
 low_within pages [] grow = All-nil (IsPage pages)
 low_within pages (tree ∷ trees) grow =
-    All-append (IsPage pages) (pages_under tree) (pages_within trees) (low_under pages tree
+    All-append (IsPage pages) (pages_under tree) (pages_within trees) (pages_within_map pages tree
     (All-head (IsTreeIn pages) tree trees grow)) (low_within pages trees (All-tail (IsTreeIn pages) tree trees grow))
 
 -- the pages of a forest can be marked where none was
@@ -103,7 +94,7 @@ catalog_held m files old new none found covered =
     let trees : List TreeLevels = catalog_tree m found.catalog ∷ flat_map trees_of found.kept in
     let up : Ascend (keys_listed (entries_of (catalog_layout m.mark) found.catalog)) =
     tree_ascends (catalog_layout m.mark) m.pages m.catalog found.catalog
-    (All-head (IsTreeIn m.pages) (catalog_tree m found.catalog) (flat_map trees_of found.kept) is.grow) in
+    (All-head (IsTreeIn m.pages) (catalog_tree m found.catalog) (flat_map trees_of found.kept) is.grow).stands in
     let named : AllByRecursion IsNamed files = subst (λ (l : Files). AllByRecursion IsNamed l) found.are is.named in
     let many = length-map found.kept (λ (one : FileTrees). one.named) in
     let few = is.few in
@@ -178,7 +169,8 @@ one_forest : (m : Map) (generation : ℕ) (one two : List (List TreeNode)) (ones
 one_forest m generation one two ones twos small is is_too =
     let first = All-head (IsTreeIn m.pages) (catalog_tree m one) (flat_map trees_of ones) is.grow in
     let second = All-head (IsTreeIn m.pages) (catalog_tree m two) (flat_map trees_of twos) is_too.grow in
-    let levels : one ≡ two = one_tree (catalog_layout m.mark) m.pages m.catalog one two small first second in
+    let levels : one ≡ two =
+    one_tree (catalog_layout m.mark) m.pages m.catalog one two small first.stands second.stands in
     let entries : map (catalog_entry m.mark) ones ≡ map (catalog_entry m.mark) twos =
     sym is.listed ∙ ap (entries_of (catalog_layout m.mark)) levels ∙ is_too.listed in
     let trees : flat_map trees_of ones ≡ flat_map trees_of twos =

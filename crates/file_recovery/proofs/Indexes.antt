@@ -14,7 +14,7 @@ use Rattle.volume_format.specs.Forest.{TreeLevels, IsTreeIn, pages_under, pages_
 use Rattle.volume_format.specs.Volume.{no_tree}
 use Rattle.file_recovery.specs.Found.{root_at, HasIndex, AreIndexes, FindsIndexes, FindsIndex, NoIndex}
 use Rattle.btree_check.proofs.Marking.{marks_none, marks_append, can_left, can_after}
-use Rattle.file_recovery.proofs.OneKept.{one_planted}
+use Rattle.volume_format.proofs.OneTree.{one_planted}
 
 module _ (pages : List (Option Sector)) (spec : Spec) (rows : List Row) (value : List ℕ) where
   pub no_indexes : (seen : List Bool) → FindsIndexes pages spec rows value 0 seen seen
@@ -99,7 +99,8 @@ module _ (pages : List (Option Sector)) (spec : Spec) (rows : List Row) (value :
       let here = can_here count k low trees are mid (before trees are can) in
       let is = are.each k low in
       let same : found.tree ≡ own = one_planted pages found.tree own small found.grows
-      (grows_here count k low trees are) (found.is.layout ∙ sym is.layout) (found.rooted ∙ sym (are.rooted k low)) in
+      (grows_here count k low trees are) (found.is.layout ∙ sym is.layout) (found.rooted ∙ sym (are.rooted k low))
+      (found.is.whole ∙ sym is.whole) in
       can_after mid new (pages_under own) (pages_within (drop (k + 1) trees))
       (subst (λ (t : TreeLevels). Marks mid (pages_under t) new) same found.marks) here
 

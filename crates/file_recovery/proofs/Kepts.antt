@@ -16,6 +16,7 @@ use Rattle.records.specs.Rows.{Row}
 use Rattle.records.specs.Files.{File, NamedFile, IsRow, IsNamed}
 use Rattle.records.specs.Laws.{RowsAscend}
 use Rattle.volume_format.specs.Catalog.{Listing, IsListing, listing_bytes}
+use Rattle.volume_format.specs.Chained.{chained_bytes}
 use Rattle.file_bytes.specs.Description.{padded_name}
 use Rattle.volume_format.specs.Forest.{TreeLevels, IsTreeIn, pages_under, pages_within}
 use Rattle.volume_format.specs.Trees.{entry_under, layout_under}
@@ -24,13 +25,14 @@ use Rattle.volume_format.proofs.Listings.{spec_read, prime_read, root_read, next
 use Rattle.file_bytes.proofs.Descriptions.{one_name, one_spec}
 use Rattle.volume_format.proofs.Once.{one_rows_most}
 use Rattle.volume_format.proofs.Roots.{root_small}
+use Rattle.volume_format.proofs.Whole.{whole_entries, short_spec}
 use Rattle.file_recovery.specs.Found.{root_at, HasIndex, AreIndexes, FindsIndexes}
 use Rattle.file_recovery.specs.Kept.{IsCatalogFile, FindsFile}
 use Rattle.file_recovery.specs.Read.{roots_in, listing_in}
 use Rattle.file_recovery.specs.Rows.{IsSized}
 use Rattle.file_recovery.proofs.Headings.{IsHeading}
 use Rattle.btree_check.proofs.Marking.{marks_append}
-use Rattle.file_recovery.proofs.OneKept.{one_planted}
+use Rattle.volume_format.proofs.OneTree.{one_planted}
 
 -- the rows of a file have the lengths that its spec tells
 pub rows_sized : (spec : Spec) (next : ℕ) (rows : List Row) → AllByRecursion (IsRow spec next) rows
@@ -104,15 +106,14 @@ listing_with spec prime alternates next =
 module _ (pages : List (Option Sector)) (generation : ℕ) (entry : Entry) (name : List ℕ) (spec : Spec) (rows : List Row)
     (next : ℕ) (prime : TreeLevels) (old mid new : List Bool) where
   pub finds_file : IsHeading generation entry name spec next → prime.tree.layout ≡ layout_under spec Prime
-      → prime.tree.root ≡ big_number 4 (drop 43 entry.value) → IsTreeIn pages prime → Marks old (pages_under prime) mid
-      →
-      entries_of prime.tree.layout prime.levels ≡ map (entry_under spec Prime) rows
+      → prime.tree.root ≡ big_number 4 (drop 43 entry.value) → prime.record_bytes ≡ chained_bytes spec
+      → IsTreeIn pages prime → Marks old (pages_under prime) mid → prime.entries ≡ map (entry_under spec Prime) rows
       → AllByRecursion (IsRow spec next) rows → RowsAscend spec.organization rows
       → FindsIndexes pages spec rows entry.value (length spec.alternates) mid new →
       FindsFile 0 pages generation entry
       (record { name = name; file = record { spec = spec; rows = rows; next_arrival = next } }) old new
   unfolding listing_with entry_with
-  finds_file heading layout root grows marks listed are ascend indexes =
+  finds_file heading layout root form grows marks listed are ascend indexes =
       let one : NamedFile = record { name = name; file = record { spec = spec; rows = rows; next_arrival = next } } in
       let kept : FileTrees = record { named = one; prime = prime; alternates = indexes.trees } in
       let roots = roots_are indexes.trees (length spec.alternates) entry.value indexes.are.many indexes.are.rooted in
@@ -126,9 +127,14 @@ module _ (pages : List (Option Sector)) (generation : ℕ) (entry : Entry) (name
         found = record {
           is = record {
             layout = layout;
+            form = form;
             rows = listed;
             count = indexes.are.many;
-            indexes = λ i low. let has = indexes.are.each i low in record { layout = has.layout; pairs = has.pairs };
+            indexes = λ i low. let has = indexes.are.each i low in record {
+              layout = has.layout;
+              whole = has.whole;
+              pairs = has.pairs;
+            };
             arrivals = heading.few;
           };
           named = record {
@@ -153,6 +159,13 @@ module _ (pages : List (Option Sector)) (generation : ℕ) (entry : Entry) (kept
     ≤ 2 ^ 20) (few : generation < 2 ^ 63) (found : IsCatalogFile 0 pages generation entry kept) where
   pub own_listing : IsListing (listing_of kept)
   own_listing = listing_fits pages generation kept small few found.is found.named found.grow
+
+  pub own_prime : IsTreeIn pages kept.prime
+  own_prime = All-head (IsTreeIn pages) kept.prime kept.alternates found.grow
+
+  -- its records are in its tree of rows
+  pub own_whole : kept.prime.record_bytes ≡ 0
+  own_whole = found.is.form ∙ short_spec kept.named.file.spec found.named.file.spec
 
   pub own_key : entry.key ≡ padded_name kept.named.name
   own_key = sym (ap (λ (e : Entry). e.key) found.listed)
@@ -199,19 +212,23 @@ module _ (pages : List (Option Sector)) (generation : ℕ) (entry : Entry) (kept
         (subst (λ (s : Spec). AllByRecursion (IsRow s kept.named.file.next_arrival) kept.named.file.rows) same_spec
         found.named.file.rows)
 
-    pub own_entries : entries_of kept.prime.tree.layout kept.prime.levels
-        ≡ map (entry_under spec Prime) kept.named.file.rows
+    pub own_entries : kept.prime.entries ≡ map (entry_under spec Prime) kept.named.file.rows
     own_entries = found.is.rows ∙ ap (λ (s : Spec). map (entry_under s Prime) kept.named.file.rows) same_spec
 
+    pub own_stored : entries_of kept.prime.tree.layout kept.prime.levels
+        ≡ map (entry_under spec Prime) kept.named.file.rows
+    own_stored = sym (whole_entries pages kept.prime own_prime own_whole) ∙ own_entries
+
     pub same_prime : (prime : TreeLevels) → prime.tree.layout ≡ layout_under spec Prime
-        → prime.tree.root ≡ big_number 4 (drop 43 entry.value) → IsTreeIn pages prime → prime ≡ kept.prime
-    same_prime prime layout root grows =
-        one_planted pages prime kept.prime small grows (All-head (IsTreeIn pages) kept.prime kept.alternates found.grow)
-        (layout ∙ sym prime_layout_is) (root ∙ sym own_root)
+        → prime.tree.root ≡ big_number 4 (drop 43 entry.value) → prime.record_bytes ≡ 0 → IsTreeIn pages prime
+        → prime ≡ kept.prime
+    same_prime prime layout root whole grows =
+        one_planted pages prime kept.prime small grows own_prime (layout ∙ sym prime_layout_is) (root ∙ sym own_root)
+        (whole ∙ sym own_whole)
 
     pub same_rows : (prime : TreeLevels) (rows : List Row) → prime ≡ kept.prime
-        → entries_of prime.tree.layout prime.levels ≡ map (entry_under spec Prime) rows
-        → AllByRecursion (IsRow spec next) rows → RowsAscend spec.organization rows → rows ≡ kept.named.file.rows
+        → prime.entries ≡ map (entry_under spec Prime) rows → AllByRecursion (IsRow spec next) rows
+        → RowsAscend spec.organization rows → rows ≡ kept.named.file.rows
     same_rows prime rows same listed are ascend =
         let file : File = record { spec = spec; rows = rows; next_arrival = next } in
         let low = found.is.arrivals in
@@ -219,7 +236,7 @@ module _ (pages : List (Option Sector)) (generation : ℕ) (entry : Entry) (kept
         one_rows_most file kept.named.file
         (record { spec = heading.spec_is; next = heading.some; ascend = ascend; rows = are }) found.named.file same_spec
         (omega (arith, low, few, equal)) (omega (arith, low, few))
-        (sym listed ∙ ap (λ (t : TreeLevels). entries_of t.tree.layout t.levels) same ∙ own_entries)
+        (sym listed ∙ ap (λ (t : TreeLevels). t.entries) same ∙ own_entries)
 
     pub own_indexes : (rows : List Row) → rows ≡ kept.named.file.rows
         → AreIndexes pages spec rows entry.value (length spec.alternates) kept.alternates
@@ -233,7 +250,7 @@ module _ (pages : List (Option Sector)) (generation : ℕ) (entry : Entry) (kept
               let has = found.is.indexes i (omega (arith, low, many, count)) in
               subst (λ (r : List Row). HasIndex spec r i (slice_index_or kept.alternates i no_tree)) (sym same)
               (subst (λ (s : Spec). HasIndex s kept.named.file.rows i (slice_index_or kept.alternates i no_tree))
-              same_spec (record { layout = has.layout; pairs = has.pairs }));
+              same_spec (record { layout = has.layout; whole = has.whole; pairs = has.pairs }));
           rooted = λ i low. own_roots i (omega (arith, low, many));
           grow = All-tail (IsTreeIn pages) kept.prime kept.alternates found.grow;
         }

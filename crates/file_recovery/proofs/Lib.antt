@@ -8,7 +8,6 @@ pub mod Halving
 pub mod PairsOf
 pub mod Placed
 pub mod Strays
-pub mod OneKept
 pub mod Indexes
 pub mod Ascents
 pub mod FirstMark

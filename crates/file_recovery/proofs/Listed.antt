@@ -9,13 +9,14 @@ use Rattle.std.proofs.lemmas.List.Elements.{All-nil, All-cons, All-head, All-tai
 use Rattle.station.specs.Disk.{Sector}
 use Rattle.pages.specs.Image.{Map}
 use Rattle.btree.specs.Entries.{Entry, entries_of}
-use Rattle.btree.specs.Tree.{TreeNode}
+use Rattle.btree.specs.Tree.{TreeNode, IsTreeOrEmpty, pages_of}
 use Rattle.btree_check.specs.Walks.{CanMark, Marks}
 use Rattle.records.specs.Files.{NamedFile, Files, IsNamed}
 use Rattle.volume_format.specs.Catalog.{catalog_layout}
 use Rattle.volume_format.specs.Forest.{TreeLevels, IsTreeIn, pages_under, pages_within}
 use Rattle.volume_format.specs.Volume.{FileTrees, IsKept, trees_of, catalog_entry, catalog_tree}
 use Rattle.volume_format.proofs.Forests.{all_left, all_right}
+use Rattle.volume_format.proofs.Whole.{whole_grows}
 use Rattle.file_recovery.specs.Kept.{IsCatalogFile, FindsFile, NoFile, IsCatalog, FindsCatalog}
 use Rattle.file_recovery.specs.Listed.{AreFound, FindsFiles, NoFiles, pages_of_files}
 use Rattle.file_recovery.proofs.Entered.{all_behind}
@@ -170,11 +171,12 @@ module _ (mark : ℕ) (pages : List (Option Sector)) (generation : ℕ) where
 
 -- the catalog of a map, and the files of its entries
 module _ (m : Map) (generation : ℕ) (catalog : List (List TreeNode)) where
-  pub finds_catalog : (files : Files) (old mid new : List Bool) → IsTreeIn m.pages (catalog_tree m catalog)
-      → Marks old (pages_under (catalog_tree m catalog)) mid → length files ≤ 255 →
+  pub finds_catalog : (files : Files) (old mid new : List Bool)
+      → IsTreeOrEmpty (catalog_layout m.mark) m.pages m.catalog catalog → Marks old (pages_of catalog) mid
+      → length files ≤ 255 →
       FindsFiles m.mark m.pages generation (entries_of (catalog_layout m.mark) catalog) files mid new
       → FindsCatalog m generation files old new
-  finds_catalog files old mid new grows marks few finds =
+  finds_catalog files old mid new stands marks few finds =
       let tree : TreeLevels = catalog_tree m catalog in
       let kept : List FileTrees = finds.kept in
       let many = length-map kept (λ (one : FileTrees). one.named) in
@@ -184,20 +186,21 @@ module _ (m : Map) (generation : ℕ) (catalog : List (List TreeNode)) where
         catalog = catalog;
         kept = kept;
         is = record {
-          grow = All-cons (IsTreeIn m.pages) tree (flat_map trees_of kept) grows
-              (all_grow m.mark m.pages generation kept finds.found.each);
+          grow = All-cons (IsTreeIn m.pages) tree (flat_map trees_of kept)
+              (whole_grows m.pages tree.tree catalog stands) (all_grow m.mark m.pages generation kept finds.found.each);
           listed = sym finds.found.listed;
           each = all_kept m.mark m.pages generation kept finds.found.each;
           named = all_named m.mark m.pages generation kept finds.found.each;
           few = omega (arith, few, many, same);
         };
         are = finds.are;
-        marks = marks_append old mid new (pages_under tree) (pages_of_files kept) marks finds.marks;
+        marks = marks_append old mid new (pages_of catalog) (pages_of_files kept) marks finds.marks;
       }
 
   pub catalog_grows : (kept : List FileTrees) → IsCatalog m generation catalog kept
-      → IsTreeIn m.pages (catalog_tree m catalog)
-  catalog_grows kept is = All-head (IsTreeIn m.pages) (catalog_tree m catalog) (flat_map trees_of kept) is.grow
+      → IsTreeOrEmpty (catalog_layout m.mark) m.pages m.catalog catalog
+  catalog_grows kept is =
+      (All-head (IsTreeIn m.pages) (catalog_tree m catalog) (flat_map trees_of kept) is.grow).stands
 
   pub catalog_found : (kept : List FileTrees) → IsCatalog m generation catalog kept
       → AreFound m.mark m.pages generation (entries_of (catalog_layout m.mark) catalog) kept

@@ -1,8 +1,7 @@
 -- What shows that an entry of the catalog, without its number of rows, tells of no file with its trees.
-use Rattle.std.proofs.Common.{◌≡◌, ◌≤◌, ◌<◌, ◌^◌, ℕ, Bool, List, length, drop, sym, ap, subst, ◌∙◌}
+use Rattle.std.proofs.Common.{◌≡◌, ◌≤◌, ◌<◌, ◌^◌, ℕ, Bool, List, length, drop, refl, sym, ap, subst, ◌∙◌}
 use Rattle.std.specs.Prelude.{map, Option}
 use Rattle.std.specs.List.{All, AllByRecursion}
-use Rattle.std.proofs.lemmas.List.Elements.{All-head}
 use Rattle.byteorder.specs.Endian.{big_number}
 use Rattle.station.specs.Disk.{Sector}
 use Rattle.btree_pages.specs.declared.row_layout.RowLayout.{RowLayout}
@@ -15,15 +14,17 @@ use Rattle.records.specs.Files.{IsRow}
 use Rattle.records.specs.Laws.{RowsAscend}
 use Rattle.records.specs.Rows.{Row}
 use Rattle.records.specs.Spec.{Spec}
-use Rattle.volume_format.specs.Forest.{TreeLevels, IsTreeIn, pages_under, pages_within}
+use Rattle.volume_format.specs.Forest.{TreeLevels, tree_levels, pages_under, pages_within}
 use Rattle.volume_format.specs.Trees.{entry_under, layout_under}
-use Rattle.volume_format.specs.Volume.{FileTrees, tree_levels}
+use Rattle.volume_format.specs.Volume.{FileTrees}
+use Rattle.volume_format.proofs.Forests.{all_right}
+use Rattle.volume_format.proofs.Whole.{whole_grows}
 use Rattle.file_recovery.specs.Found.{NoIndexes}
 use Rattle.file_recovery.specs.Kept.{IsCatalogFile, NoFile}
 use Rattle.file_recovery.specs.Rows.{NoRows}
 use Rattle.file_recovery.proofs.Headings.{IsHeading}
-use Rattle.file_recovery.proofs.Kepts.{own_root, own_entries, own_rows, own_indexes, prime_layout_is, same_prime}
-use Rattle.file_recovery.proofs.Kepts.{same_rows}
+use Rattle.file_recovery.proofs.Kepts.{own_root, own_prime, own_stored, own_rows, own_indexes, prime_layout_is}
+use Rattle.file_recovery.proofs.Kepts.{same_prime, same_rows}
 use Rattle.btree_check.proofs.Marking.{can_left, can_after}
 
 -- The entry spells a file, and this tree has the layout and the root of its rows.
@@ -35,18 +36,19 @@ module _ (pages : List (Option Sector)) (generation : ℕ)
   prime_stands : (kept : FileTrees) → IsCatalogFile 0 pages generation entry kept
       → IsTreeOrEmpty tree.layout pages tree.root kept.prime.levels
   prime_stands kept found =
-      let grows : IsTreeIn pages kept.prime = All-head (IsTreeIn pages) kept.prime kept.alternates found.grow in
+      let grows = own_prime pages generation entry kept small few found in
       subst (λ (l : RowLayout). IsTreeOrEmpty l pages tree.root kept.prime.levels)
       (prime_layout_is pages generation entry kept small few found name spec next heading ∙ sym layout)
       (subst (λ (r : ℕ). IsTreeOrEmpty kept.prime.tree.layout pages r kept.prime.levels)
-      (own_root pages generation entry kept small few found ∙ sym root) grows)
+      (own_root pages generation entry kept small few found ∙ sym root) grows.stands)
 
   -- no tree without a mark stands there
   pub no_tree_there : (old : List Bool) → ((levels : List (List TreeNode))
       → IsTreeOrEmpty tree.layout pages tree.root levels → All (IsUnmarked old) (pages_of levels) → ⊥)
       → NoFile 0 pages generation entry old
   no_tree_there old never = λ kept found can. never kept.prime.levels (prime_stands kept found)
-      (can_left old (pages_under kept.prime) (pages_within kept.alternates) can).unmarked
+      (all_right (IsUnmarked old) kept.prime.chains (pages_of kept.prime.levels)
+      (can_left old (pages_under kept.prime) (pages_within kept.alternates) can).unmarked)
 
   -- what stands there are no rows of the file
   pub no_rows_there : (old : List Bool) → ((levels : List (List TreeNode))
@@ -57,7 +59,7 @@ module _ (pages : List (Option Sector)) (generation : ℕ)
       never kept.prime.levels (prime_stands kept found) kept.named.file.rows
       (own_rows pages generation entry kept small few found name spec next heading)
       (ap (λ (l : RowLayout). entries_of l kept.prime.levels) (layout ∙ sym same)
-      ∙ own_entries pages generation entry kept small few found name spec next heading)
+      ∙ own_stored pages generation entry kept small few found name spec next heading)
 
   -- the rows that stand there are those of each file of which the entry tells
   rows_there : (rows : List Row) (levels : List (List TreeNode)) → IsTreeOrEmpty tree.layout pages tree.root levels
@@ -67,7 +69,8 @@ module _ (pages : List (Option Sector)) (generation : ℕ)
   rows_there rows levels holds listed are ascend kept found =
       let prime : TreeLevels = tree_levels tree levels in
       let same : prime ≡ kept.prime =
-      same_prime pages generation entry kept small few found name spec next heading prime layout root holds in (
+      same_prime pages generation entry kept small few found name spec next heading prime layout root refl
+      (whole_grows pages tree levels holds) in (
         same,
         same_rows pages generation entry kept small few found name spec next heading prime rows same listed are
             ascend,

@@ -10,6 +10,7 @@ use Rattle.btree.specs.Entries.{Entry}
 use Rattle.records.specs.declared.key.KeyOfReference.TheVariants.{Prime, Alternate}
 use Rattle.records.specs.Spec.{Spec}
 use Rattle.volume_format.specs.Catalog.{listing_bytes}
+use Rattle.volume_format.specs.Chained.{chained_bytes}
 use Rattle.volume_format.specs.Forest.{TreeLevels, IsTreeIn}
 use Rattle.volume_format.specs.Trees.{layout_under}
 use Rattle.volume_format.specs.Volume.{FileTrees, no_tree, trees_of, listing_of}
@@ -17,7 +18,7 @@ use Rattle.volume_format.proofs.Listings.{spec_read, prime_read, root_read}
 use Rattle.volume_format.proofs.Roots.{root_small}
 use Rattle.file_bytes.proofs.Descriptions.{one_spec}
 use Rattle.file_recovery.specs.Kept.{IsCatalogFile}
-use Rattle.file_recovery.proofs.OneKept.{one_planted}
+use Rattle.volume_format.proofs.OneTree.{one_planted}
 
 module _ (pages : List (Option Sector)) (generation : ℕ) (entry : Entry) (small : length pages ≤ 2 ^ 20) where
   -- the root of an alternate key's tree is the one that the entry names
@@ -55,6 +56,7 @@ module _ (pages : List (Option Sector)) (generation : ℕ) (entry : Entry) (smal
         ∙ prime_read (listing_of two) found_too.named.file.spec (root_small pages two.prime small grows_too) in
         one_planted pages one.prime two.prime small grows grows_too
         (found.is.layout ∙ ap (λ (s : Spec). layout_under s Prime) same_spec ∙ sym found_too.is.layout) root
+        (found.is.form ∙ ap chained_bytes same_spec ∙ sym found_too.is.form)
 
     same_many : length one.alternates ≡ length two.alternates
     same_many = found.is.count ∙ ap (λ (s : Spec). length s.alternates) same_spec ∙ sym found_too.is.count
@@ -74,6 +76,7 @@ module _ (pages : List (Option Sector)) (generation : ℕ) (entry : Entry) (smal
         (All-tail (IsTreeIn pages) one.prime one.alternates found.grow i no_tree low)
         (All-tail (IsTreeIn pages) two.prime two.alternates found_too.grow i no_tree low_too)
         (is.layout ∙ ap (λ (s : Spec). layout_under s (Alternate i)) same_spec ∙ sym is_too.layout) root
+        (is.whole ∙ sym is_too.whole)
 
     same_alternates : one.alternates ≡ two.alternates
     same_alternates =

@@ -3,7 +3,6 @@ use Rattle.std.specs.Prelude.{◌≡◌, ◌<◌, ◌+◌, ◌*◌, ℕ, Bool, L
 use Rattle.std.specs.List.{All}
 use Rattle.byteorder.specs.Endian.{big_number}
 use Rattle.station.specs.Disk.{Sector}
-use Rattle.btree.specs.Entries.{entries_of}
 use Rattle.btree_check.specs.Walks.{CanMark, Marks}
 use Rattle.records.specs.declared.key.KeyOfReference.TheVariants.{Alternate}
 use Rattle.records.specs.Spec.{Spec}
@@ -16,10 +15,11 @@ use Rattle.volume_format.specs.Volume.{no_tree}
 abbrev pub root_at : List ℕ → ℕ → ℕ
 root_at value i = big_number 4 (drop (47 + 4 * i) value)
 
--- a tree is exactly the pairs of these rows under an alternate key
+-- a tree, which has no chains, is exactly the pairs of these rows under an alternate key
 pub record HasIndex (spec : Spec) (rows : List Row) (i : ℕ) (tree : TreeLevels) : Type 0 where
   pub layout : tree.tree.layout ≡ layout_under spec (Alternate i)
-  pub pairs : AreOf spec (Alternate i) rows (entries_of tree.tree.layout tree.levels)
+  pub whole : tree.record_bytes ≡ 0
+  pub pairs : AreOf spec (Alternate i) rows tree.entries
 
 -- the trees of so many alternate keys are the pairs of a file's rows, and have the roots that a value of the catalog names
 pub record AreIndexes (pages : List (Option Sector)) (spec : Spec) (rows : List Row) (value : List ℕ) (count : ℕ) (trees : List TreeLevels) : Type 0 where

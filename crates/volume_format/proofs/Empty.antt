@@ -11,6 +11,7 @@ use Rattle.pages.specs.Empty.{empty_map}
 use Rattle.records.specs.Files.{Files, AreFiles}
 use Rattle.volume_format.specs.Forest.{IsTreeIn}
 use Rattle.volume_format.specs.Volume.{MapHolds, FileTrees, IsKept, catalog_tree}
+use Rattle.volume_format.proofs.Whole.{whole_grows}
 
 none_there : (n page : ℕ) → slice_index_or {A = Option Sector} (replicate n None) page None ≡ None
 none_there zero page = refl
@@ -27,7 +28,8 @@ empty_holds sectors = record {
   keeps = record {
     catalog = [];
     forest = record {
-      grow = All-cons (IsTreeIn (empty_map sectors).pages) (catalog_tree (empty_map sectors) []) [] (inl (refl, refl))
+      grow = All-cons (IsTreeIn (empty_map sectors).pages) (catalog_tree (empty_map sectors) []) []
+          (whole_grows (empty_map sectors).pages (catalog_tree (empty_map sectors) []).tree [] (inl (refl, refl)))
           (All-nil (IsTreeIn (empty_map sectors).pages));
       once = tt;
       covered = λ page some. absurd (some (none_there (1024 * map_count sectors) page));
@@ -42,6 +44,7 @@ empty_holds sectors = record {
 next_kept : (m : Map) (kept : FileTrees) → IsKept m.generation kept → IsKept (next_generation m).generation kept
 next_kept m kept is = record {
   layout = is.layout;
+  form = is.form;
   rows = is.rows;
   count = is.count;
   indexes = is.indexes;

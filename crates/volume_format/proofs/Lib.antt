@@ -1,4 +1,7 @@
 pub mod Small
+pub mod Whole
+pub mod OneTree
+pub mod Pages
 pub mod Names
 pub mod Roots
 pub mod OneFiles

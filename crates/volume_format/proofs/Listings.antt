@@ -3,15 +3,14 @@ use Rattle.std.proofs.Common.{◌≡◌, ◌≤◌, ◌<◌, ◌+◌, ◌-◌, �
 use Rattle.std.proofs.Common.{sym, ap, ◌∙◌, arith}
 use Rattle.std.specs.Prelude.{take, drop, replicate, slice_index_or}
 use Rattle.std.specs.List.{All, flat_map}
-use Rattle.std.proofs.lemmas.List.{length-append, length-replicate, take_at, drop_at, drop-drop, append-nil}
+use Rattle.std.proofs.lemmas.List.{length-append, take_at, drop_at, drop-drop, append-nil}
 use Rattle.std.proofs.lemmas.List.{append_assoc}
 use Rattle.std.proofs.lemmas.List.Elements.{All-head, All-tail}
 use Rattle.byteorder.specs.Endian.{big_bytes, big_number}
 use Rattle.byteorder.specs.Numbers.{big_number-reads_back}
-use Rattle.records.specs.declared.file_spec.AlternateKey.{AlternateKey}
-use Rattle.records.specs.Spec.{Spec, is_spec}
+use Rattle.records.specs.Spec.{is_spec}
 use Rattle.volume_format.specs.Catalog.{Listing, IsListing, ReadsBack, listing_bytes}
-use Rattle.file_bytes.specs.Description.{spec_bytes, key_bytes, filled_to}
+use Rattle.file_bytes.specs.Description.{spec_bytes, filled_to}
 use Rattle.file_bytes.proofs.Descriptions.{filled_long, spec_long}
 use Rattle.volume_format.proofs.Small.{few_alternates}
 

@@ -9,8 +9,6 @@ use Rattle.byteorder.specs.Endian.{big_number}
 use Rattle.pages.specs.Image.{Map}
 use Rattle.pages.proofs.One.{one_map}
 use Rattle.pages.proofs.Bounds.{map_bounds}
-use Rattle.btree_pages.specs.declared.row_layout.RowLayout.{RowLayout}
-use Rattle.btree.specs.Tree.{IsTreeOrEmpty as HoldsTree}
 use Rattle.btree.specs.Entries.{Entry, entries_of}
 use Rattle.btree.proofs.One.{one_tree}
 use Rattle.records.specs.declared.key.KeyOfReference.TheVariants.{Prime}
@@ -19,9 +17,11 @@ use Rattle.records.specs.Rows.{Row}
 use Rattle.records.specs.Files.{NamedFile, Files, IsNamed}
 use Rattle.volume_format.specs.Catalog.{listing_bytes, catalog_layout}
 use Rattle.volume_format.specs.Trees.{entry_under, layout_under}
+use Rattle.volume_format.specs.Chained.{chained_bytes}
 use Rattle.volume_format.specs.Forest.{TreeLevels, IsTreeIn}
 use Rattle.volume_format.specs.Volume.{FileTrees, IsKept, MapHolds, Holds, trees_of, listing_of, catalog_entry}
 use Rattle.volume_format.proofs.Forests.{all_right}
+use Rattle.volume_format.proofs.OneTree.{one_planted}
 use Rattle.file_bytes.proofs.Descriptions.{one_name, one_spec}
 use Rattle.volume_format.proofs.Listings.{spec_read, prime_read, next_read_most, long}
 use Rattle.volume_format.proofs.Values.{reads_back}
@@ -65,16 +65,15 @@ same_named m one two few small is is_too grows grows_too named named_too same =
     sym (next_read_most (listing_of one) named.file.spec (counted one is.count) (omega arith))
     ∙ ap (λ (b : List ℕ). big_number 8 (drop 75 b)) bytes
     ∙ next_read_most (listing_of two) named_too.file.spec (counted two is_too.count) (omega arith) in
-    let layout : two.prime.tree.layout ≡ one.prime.tree.layout =
-    is_too.layout ∙ ap (λ (x : Spec). layout_under x Prime) (sym spec) ∙ sym is.layout in
-    let there : HoldsTree one.prime.tree.layout m.pages one.prime.tree.root two.prime.levels =
-    subst (λ (l : RowLayout). HoldsTree l m.pages one.prime.tree.root two.prime.levels) layout
-    (subst (λ (r : ℕ). HoldsTree two.prime.tree.layout m.pages r two.prime.levels) (sym root) grows_too) in
-    let levels : one.prime.levels ≡ two.prime.levels =
-    one_tree one.prime.tree.layout m.pages one.prime.tree.root one.prime.levels two.prime.levels small grows there in
+    let layout : one.prime.tree.layout ≡ two.prime.tree.layout =
+    is.layout ∙ ap (λ (x : Spec). layout_under x Prime) spec ∙ sym is_too.layout in
+    let form : one.prime.record_bytes ≡ two.prime.record_bytes =
+    is.form ∙ ap chained_bytes spec ∙ sym is_too.form in
     let listed : map (entry_under s Prime) one.named.file.rows ≡ map (entry_under s Prime) two.named.file.rows =
-    sym is.rows ∙ ap (entries_of one.prime.tree.layout) levels ∙ ap (λ (l : RowLayout). entries_of l two.prime.levels)
-    (sym layout) ∙ is_too.rows ∙ ap (λ (x : Spec). map (entry_under x Prime) two.named.file.rows) (sym spec) in
+    sym is.rows
+    ∙ ap (λ (t : TreeLevels). t.entries)
+    (one_planted m.pages one.prime two.prime small grows grows_too layout root form)
+    ∙ is_too.rows ∙ ap (λ (x : Spec). map (entry_under x Prime) two.named.file.rows) (sym spec) in
     let rows : one.named.file.rows ≡ two.named.file.rows = one_rows_most one.named.file two.named.file named.file
     named_too.file (sym spec) (omega arith) (omega arith) listed in
     ap (λ n. named_with n s one.named.file.rows one.named.file.next_arrival) name
@@ -112,8 +111,8 @@ one_in_map_most m one two few small first second =
     let catalog = All-head (IsTreeIn m.pages) _ _ first.keeps.forest.grow in
     let catalog_too = All-head (IsTreeIn m.pages) _ _ second.keeps.forest.grow in
     let levels =
-    one_tree (catalog_layout m.mark) m.pages m.catalog first.keeps.catalog second.keeps.catalog small catalog
-    catalog_too in
+    one_tree (catalog_layout m.mark) m.pages m.catalog first.keeps.catalog second.keeps.catalog small catalog.stands
+    catalog_too.stands in
     let entries : map (catalog_entry m.mark) first.kept ≡ map (catalog_entry m.mark) second.kept =
     sym first.keeps.listed ∙ ap (entries_of (catalog_layout m.mark)) levels ∙ second.keeps.listed in
     sym first.named

@@ -1,7 +1,8 @@
 -- How many alternate keys a file has, and how long its records are.
-use Rattle.std.proofs.Common.{◌≡◌, ◌≤◌, ◌<◌, ℕ, true, ◌&&◌, List, length, arith, nat_le}
-use Rattle.std.proofs.lemmas.Bool.{leb-true, eqb-true}
-use Rattle.std.specs.Prelude.{slice_index_or}
+use Rattle.std.proofs.Common.{◌≡◌, ◌≤◌, ◌<◌, ℕ, Bool, true, false, ◌&&◌, List, length, refl, arith}
+use Rattle.std.proofs.Common.{nat_le, nat_lt}
+use Rattle.std.proofs.lemmas.Bool.{leb-true, eqb-true, ltb-false}
+use Rattle.std.specs.Prelude.{slice_index_or, if◌then◌else◌}
 use Rattle.std.specs.List.{list_all}
 use Rattle.records.specs.declared.file_spec.AlternateKey.{AlternateKey}
 use Rattle.records.specs.declared.file_spec.Organization.{Organization}
@@ -13,6 +14,7 @@ use Rattle.records.specs.declared.key.KeyOfReference.TheVariants.{Prime, Alterna
 use Rattle.records.specs.Rows.{place_of, no_key}
 use Rattle.records.specs.Stores.{IsKey}
 use Rattle.btree_pages.specs.RowLayouts.{IsRowLayout}
+use Rattle.volume_format.specs.Chained.{is_long, kept_bytes}
 use Rattle.volume_format.specs.Trees.{layout_under}
 use Rattle.records.proofs.Places.{both, all_places, spec as spec_with}
 
@@ -56,8 +58,17 @@ alternate_sized n place keys i is within =
     (all_places n keys i (both (is_place n place && nat_le (length keys) 7 && in_order keys
     && list_all (begins_elsewhere place) keys) _ is).1 within)
 
-layout_by : (n : ℕ) (o : Organization) (keys : List AlternateKey) (key : KeyOfReference) → n ≤ 1000 → length keys ≤ 7
-    → are_keys n o keys ≡ true → IsKey (spec_with n o keys) key → IsRowLayout (layout_under (spec_with n o keys) key)
+-- at most 1,000 bytes of a row's entry stand for its record, however long that is
+kept_by : (n : ℕ) (long : Bool) → nat_lt 1000 n ≡ long → (if long then 4 else n) ≤ 1000
+kept_by n true is = omega arith
+kept_by n false is = ltb-false 1000 n is
+
+few_kept : (s : Spec) → kept_bytes s ≤ 1000
+few_kept s = kept_by s.record_length (is_long s) refl
+
+layout_by : (n : ℕ) (o : Organization) (keys : List AlternateKey) (key : KeyOfReference)
+    → kept_bytes (spec_with n o keys) ≤ 1000 → length keys ≤ 7 → are_keys n o keys ≡ true
+    → IsKey (spec_with n o keys) key → IsRowLayout (layout_under (spec_with n o keys) key)
 layout_by n Sequential keys Prime short few is within =
     record { key = omega arith; leaf = omega (arith, short, few); inner = omega arith }
 layout_by n Relative keys Prime short few is within =
@@ -81,7 +92,7 @@ layout_by n (Indexed place) keys (Alternate i) short few is within =
 pub layouts_fit : (spec : Spec) (key : KeyOfReference) → is_spec spec ≡ true → IsKey spec key
     → IsRowLayout (layout_under spec key)
 layouts_fit spec key is within =
-    layout_by spec.record_length spec.organization spec.alternates key (short_record spec is) (few_alternates spec is)
+    layout_by spec.record_length spec.organization spec.alternates key (few_kept spec) (few_alternates spec is)
     (both (nat_le 1 spec.record_length && nat_le spec.record_length 1000) _ is).1 within
 
 -- the value of a key is short

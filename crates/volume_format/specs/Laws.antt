@@ -1,7 +1,6 @@
 -- What holds of trees in one map, and of what a map holds.
 use Rattle.std.specs.Prelude.{◌≡◌, ◌<◌, ◌^◌, ◌++◌, ℕ, true, List, [], ◌∷◌, length, map, Option}
 use Rattle.station.specs.Disk.{Sector}
-use Rattle.btree.specs.Tree.{pages_of}
 use Rattle.btree.specs.Moves.{Moves}
 use Rattle.pages.specs.Image.{Map}
 use Rattle.pages.specs.Pages.{next_generation}
@@ -15,13 +14,13 @@ use Rattle.records.specs.Spec.{Spec, is_spec}
 use Rattle.records.specs.Stores.{IsKey}
 use Rattle.volume_format.specs.Trees.{entry_under, layout_under}
 use Rattle.volume_format.specs.Pairs.{IsUnder}
-use Rattle.volume_format.specs.Forest.{TreeLevels, IsForest, IsTreeIn}
+use Rattle.volume_format.specs.Forest.{TreeLevels, IsForest, IsTreeIn, pages_under}
 use Rattle.volume_format.specs.Volume.{MapHolds, Holds}
 
 -- One tree of a forest became another, and the others stay.
 abbrev pub ForestMoves : Type 0
 ForestMoves = (before after : List (Option Sector)) (left right : List TreeLevels) (old new : TreeLevels) →
-    IsForest before (left ++ old ∷ right) → Moves before (pages_of old.levels) after (pages_of new.levels) → IsTreeIn after new →
+    IsForest before (left ++ old ∷ right) → Moves before (pages_under old) after (pages_under new) → IsTreeIn after new →
     IsForest after (left ++ new ∷ right)
 
 -- the next generation holds the same files

@@ -1,4 +1,5 @@
 pub mod Catalog
+pub mod Chained
 pub mod Trees
 pub mod Pairs
 pub mod Forest

@@ -7,6 +7,7 @@ use Rattle.records.specs.declared.key.KeyOfReference.{KeyOfReference}
 use Rattle.records.specs.declared.key.KeyOfReference.TheVariants.{Prime, Alternate}
 use Rattle.records.specs.Spec.{Spec}
 use Rattle.records.specs.Rows.{Row, part, prime_place, place_of, Pair, pair_under}
+use Rattle.volume_format.specs.Chained.{kept_bytes}
 use Rattle.file_bytes.specs.Rows.{prime_key_length, prime_key, row_value}
 
 -- the key of a pair under an alternate key
@@ -18,9 +19,9 @@ abbrev pub key_under : Spec → KeyOfReference → Pair → List ℕ
 key_under spec Prime pair = prime_key spec.organization pair
 key_under spec (Alternate i) pair = pair_key pair
 
--- the tree of rows has the record and the arrivals of a row under its key
+-- the tree of rows has the record of a row, or the first page of its chain, and its arrivals under its key
 abbrev pub prime_layout : Spec → RowLayout
-prime_layout spec = record { key_length = prime_key_length spec.organization; value_length = spec.record_length + 8 * length spec.alternates }
+prime_layout spec = record { key_length = prime_key_length spec.organization; value_length = kept_bytes spec + 8 * length spec.alternates }
 
 -- an entry of an alternate key's tree: the pair, and the prime key
 abbrev pub alternate_layout : Spec → ℕ → RowLayout

@@ -4,20 +4,17 @@ use Rattle.std.specs.List.{All, flat_map}
 use Rattle.station.specs.Disk.{Sector}
 use Rattle.pages.specs.Image.{Map, IsImageOf as HoldsMap}
 use Rattle.btree.specs.Tree.{TreeNode}
-use Rattle.btree.specs.Rooted.{RootedTree}
 use Rattle.btree.specs.Entries.{Entry, entries_of}
 use Rattle.records.specs.declared.key.KeyOfReference.TheVariants.{Prime, Alternate}
 use Rattle.records.specs.Files.{File, NamedFile, Files, AreFiles}
 use Rattle.volume_format.specs.Catalog.{Listing, listing_bytes, catalog_value, catalog_layout}
 use Rattle.file_bytes.specs.Description.{padded_name}
 use Rattle.volume_format.specs.Trees.{entry_under, layout_under, AreOf}
-use Rattle.volume_format.specs.Forest.{TreeLevels, IsForest}
-
-abbrev pub tree_levels : RootedTree → List (List TreeNode) → TreeLevels
-tree_levels tree levels = record { tree = tree; levels = levels }
+use Rattle.volume_format.specs.Chained.{chained_bytes}
+use Rattle.volume_format.specs.Forest.{TreeLevels, tree_levels, IsForest}
 
 abbrev pub no_tree : TreeLevels
-no_tree = record { tree = record { layout = catalog_layout 0; root = 0 }; levels = [] }
+no_tree = tree_levels (record { layout = catalog_layout 0; root = 0 }) []
 
 -- a file of the volume, with its trees
 pub record FileTrees : Type 0 where
@@ -48,13 +45,14 @@ catalog_entry mark kept =
 -- the tree of an alternate key has exactly the pairs of the rows
 pub record IsIndex (file : File) (i : ℕ) (tree : TreeLevels) : Type 0 where
   pub layout : tree.tree.layout ≡ layout_under file.spec (Alternate i)
-  pub pairs : AreOf file.spec (Alternate i) file.rows (entries_of tree.tree.layout tree.levels)
+  pub whole : tree.record_bytes ≡ 0
+  pub pairs : AreOf file.spec (Alternate i) file.rows tree.entries
 
 -- the trees of the file are its rows and its pairs
 pub record IsKept (generation : ℕ) (kept : FileTrees) : Type 0 where
   pub layout : kept.prime.tree.layout ≡ layout_under kept.named.file.spec Prime
-  pub rows : entries_of kept.prime.tree.layout kept.prime.levels
-      ≡ map (entry_under kept.named.file.spec Prime) kept.named.file.rows
+  pub form : kept.prime.record_bytes ≡ chained_bytes kept.named.file.spec
+  pub rows : kept.prime.entries ≡ map (entry_under kept.named.file.spec Prime) kept.named.file.rows
   pub count : length kept.alternates ≡ length kept.named.file.spec.alternates
   pub indexes : (i : ℕ) → i < length kept.named.file.spec.alternates
       → IsIndex kept.named.file i (slice_index_or kept.alternates i no_tree)

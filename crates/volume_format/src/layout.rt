@@ -2,6 +2,7 @@
 ghost use Rattle.std.specs.Prelude.{◌≡◌};
 ghost use Rattle.btree_pages.specs.RowLayouts.{IsRowLayout};
 ghost use Rattle.records.specs.Stores.{spec_of, IsKey};
+ghost use Rattle.volume_format.specs.Chained.{is_long, kept_bytes};
 ghost use Rattle.volume_format.specs.Trees.{layout_under};
 
 use crate::laws::layouts_fit;
@@ -11,6 +12,12 @@ use records::{FileSpec, KeyOfReference};
 
 /// The bytes of an arrival.
 const ARRIVAL_BYTES: usize = 8;
+
+/// The bytes of a page's number.
+const PAGE_NUMBER_BYTES: usize = 4;
+
+/// The bytes of the longest record that is in the tree of rows itself.
+const LONGEST_IN_TREE: u16 = 1000;
 
 /// The lengths of keys and values in the tree of a key: of the rows under the prime key, and of pairs under an alternate key.
 pub fn tree_layout(file: &FileSpec, key: KeyOfReference) -> RowLayout
@@ -23,11 +30,29 @@ pub fn tree_layout(file: &FileSpec, key: KeyOfReference) -> RowLayout
     match key {
         KeyOfReference::Prime => RowLayout {
             key_length: key_length(file.organization),
-            value_length: file.record_length as usize + ARRIVAL_BYTES * file.alternates.len(),
+            value_length: kept_bytes(file) + ARRIVAL_BYTES * file.alternates.len(),
         },
         KeyOfReference::Alternate(_) => RowLayout {
             key_length: file.key_place(key).length as usize + ARRIVAL_BYTES,
             value_length: prime,
         },
+    }
+}
+
+/// Whether the records of a file are in chains of pages.
+pub fn is_long(file: &FileSpec) -> bool
+    ensures { result ≡ is_long (spec_of file.now) }
+{
+    LONGEST_IN_TREE < file.record_length
+}
+
+/// The bytes of a row's entry that stand for its record: the record, or the first page of its chain.
+fn kept_bytes(file: &FileSpec) -> usize
+    ensures { result ≡ kept_bytes (spec_of file.now) }
+{
+    if is_long(file) {
+        PAGE_NUMBER_BYTES
+    } else {
+        file.record_length as usize
     }
 }

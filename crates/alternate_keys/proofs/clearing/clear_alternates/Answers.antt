@@ -56,7 +56,7 @@ returns-in_err-clear_tree-clause-damaged g c = λ honest agrees kept left right 
     subst (λ (p : List (Option Sector)). IsForest p (left ++ (t ∷ (drop (loop.key + 1) kept.alternates ++ right))))
     (sym same) (subst (λ (ts : List TreeLevels). IsForest here (left ++ ts)) rest forest_here) in
     c.clear_tree.ensures.damaged honest_then agrees_then l t left (drop (loop.key + 1) kept.alternates ++ right)
-    stored.good stored.says (omega (arith, low)) (stored.trees loop.key low) standing told
+    stored.good stored.says (omega (arith, low)) (stored.trees loop.key low) (stored.whole loop.key low) standing told
 
 pub loop-key-preserved : goal.loop-key-preserved
 loop-key-preserved g c = record {
@@ -88,7 +88,7 @@ loop-key-preserved g c = record {
       (sym same) (subst (λ (ts : List TreeLevels). IsForest here (left ++ ts)) rest forest_here) in
       let done =
       c.in_ok-clear_tree.ensures.cleared honest_then agrees_then l t left (drop (loop.key + 1) kept.alternates ++ right)
-      stored.good stored.says (omega (arith, low)) (stored.trees loop.key low) standing in
+      stored.good stored.says (omega (arith, low)) (stored.trees loop.key low) (stored.whole loop.key low) standing in
       subst (λ (s : State). IsForest (map_now c.clear_tree.new.pages s.disk.present).pages
       (left ++ (drop (loop.key + 1) kept.alternates ++ right))) still done;
   filled = let was = c.loop-key.invariant.filled in let now = c.clear_tree.ensures.filled in omega (arith, was, now);

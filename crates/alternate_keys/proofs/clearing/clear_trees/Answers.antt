@@ -21,7 +21,7 @@ returns-in_err-clear_tree-clause-damaged g c = λ honest agrees spec named gener
     let good = good_spec spec named generation before left right c.args.value.now has in
     let told_prime = prime_told spec named generation before left right c.args.value.now has in
     c.clear_tree.ensures.damaged honest agrees (listing_of kept) kept.prime left (kept.alternates ++ right) good
-    has.placed.says (omega arith) told_prime has.placed.forest told
+    has.placed.says (omega arith) told_prime has.placed.is.form has.placed.forest told
 
 pub returns-clause-cleared : goal.returns-clause-cleared
 returns-clause-cleared g c = λ honest agrees spec named generation left right has.
@@ -33,7 +33,7 @@ returns-clause-cleared g c = λ honest agrees spec named generation left right h
     let edits = c.clear_tree.ensures.edits in
     let still = edits.only.state honest in
     let first = c.in_ok-clear_tree.ensures.cleared honest agrees (listing_of kept) kept.prime left
-    (kept.alternates ++ right) good has.placed.says (omega arith) told_prime has.placed.forest in
+    (kept.alternates ++ right) good has.placed.says (omega arith) told_prime has.placed.is.form has.placed.forest in
     let there = subst (λ (s : State). IsForest (map_now c.clear_tree.new.pages s.disk.present).pages
     (left ++ (kept.alternates ++ right))) (sym still) first in
     let done = c.clear_alternates.ensures.cleared (edits.only.honest.0 honest) (edits.agrees honest agrees) kept left
@@ -51,7 +51,7 @@ returns-clause-damaged g c = λ honest agrees spec named generation left right h
     let edits = c.clear_tree.ensures.edits in
     let still = edits.only.state honest in
     let first = c.in_ok-clear_tree.ensures.cleared honest agrees (listing_of kept) kept.prime left
-    (kept.alternates ++ right) good has.placed.says (omega arith) told_prime has.placed.forest in
+    (kept.alternates ++ right) good has.placed.says (omega arith) told_prime has.placed.is.form has.placed.forest in
     let there = subst (λ (s : State). IsForest (map_now c.clear_tree.new.pages s.disk.present).pages
     (left ++ (kept.alternates ++ right))) (sym still) first in
     c.clear_alternates.ensures.damaged (edits.only.honest.0 honest) (edits.agrees honest agrees) kept left right

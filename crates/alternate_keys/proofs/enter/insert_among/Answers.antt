@@ -8,8 +8,9 @@ use Rattle.records.specs.declared.fault.StoreFault.TheVariants.{Full, Damaged}
 use Rattle.btree.specs.Tree.{IsTreeOrEmpty}
 use Rattle.btree.specs.Rooted.{RootedTree}
 use Rattle.btree.specs.Entries.{Entry, entries_of, entry_with, with_new_entry}
-use Rattle.volume_format.specs.Forest.{TreeLevels}
+use Rattle.volume_format.specs.Forest.{TreeLevels, tree_levels}
 use Rattle.volume_format.proofs.Forests.{forest_moves}
+use Rattle.volume_format.proofs.Whole.{whole_grows}
 use Rattle.alternate_keys.proofs.Among.{grows}
 use Rattle.volume_format.proofs.Faults.{damaged_back, full_back}
 use Rattle.alternate_keys.proofs.enter.insert_among.Goals as goal
@@ -25,14 +26,15 @@ returns-in-Ok-clause-inserted g c = λ honest agrees left right entries stands i
     let came : c.in-Ok.new ≡ true = cc in
     let told =
     c.in-Ok.ensures.inserted honest agrees stands.levels (grows before left right old entries stands) (ap Ok came) in
-    let one : TreeLevels = record { tree = old; levels = stands.levels } in
-    let two : TreeLevels = record { tree = new; levels = told.1.levels } in
+    let one : TreeLevels = tree_levels old stands.levels in
+    let two : TreeLevels = tree_levels new told.1.levels in
     let holds = subst (λ (l : RowLayout). IsTreeOrEmpty l after new.root told.1.levels) (sym c.in-Ok.ensures.layout)
     told.1.holds in (
       ap (λ (es : List Entry). entry_with es c.args.key.now) (sym stands.listed) ∙ told.0,
       record {
         levels = told.1.levels;
-        forest = forest_moves before after left right one two stands.forest told.1.moves holds;
+        forest = forest_moves before after left right one two stands.forest told.1.moves
+            (whole_grows after new told.1.levels holds);
         listed = ap (λ (l : RowLayout). entries_of l told.1.levels) c.in-Ok.ensures.layout ∙ told.1.listed
             ∙ ap (λ (es : List Entry). with_new_entry es made) stands.listed;
       },

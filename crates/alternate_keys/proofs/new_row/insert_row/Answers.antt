@@ -12,6 +12,7 @@ use Rattle.volume_format.specs.Grows.{IsTreeAmong}
 use Rattle.volume_format.specs.Trees.{entry_under}
 use Rattle.alternate_keys.specs.NewRow.{row_with}
 use Rattle.alternate_keys.proofs.NewRows.{value_long}
+use Rattle.alternate_keys.proofs.WholeTrees.{value_whole}
 use Rattle.alternate_keys.proofs.new_row.insert_row.Goals as goal
 
 made : List ℕ → List ℕ → Entry
@@ -21,6 +22,7 @@ pub insert_among-requires-clause-value : goal.insert_among-requires-clause-value
 insert_among-requires-clause-value g c =
     ap (λ (l : List ℕ). length l) (c.deref-2.ensures.value ∙ c.in_ok-value.ensures.value)
     ∙ value_long (spec_of c.args.file.now) c.args.arrival c.args.bytes.now c.requires.bytes
+    ∙ sym (value_whole (spec_of c.args.file.now) c.args.file.now.sound)
     ∙ sym (ap (λ (l : RowLayout). l.value_length) c.requires.layout)
 
 pub returns-clause-inserted : goal.returns-clause-inserted

@@ -123,7 +123,8 @@ returns-clause-few g c = λ honest agrees named generation left right has.
 pub move_row-requires-clause-values : goal.move_row-requires-clause-values
 move_row-requires-clause-values g c =
     value_long (spec_of c.args.file.now) c.file_tree-prime.result.layout c.in_ok-row.field-0 c.in-Some.row
-    c.value.result.now c.file_tree-prime.ensures.layout c.in_ok-row.ensures.lengths c.in-Some.is c.value.ensures
+    c.value.result.now c.args.file.now.sound c.file_tree-prime.ensures.layout c.in_ok-row.ensures.lengths c.in-Some.is
+    c.value.ensures
 
 pub returns-in_err-row-clause-edits : goal.returns-in_err-row-clause-edits
 returns-in_err-row-clause-edits g c =

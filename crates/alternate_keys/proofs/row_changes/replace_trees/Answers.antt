@@ -1,5 +1,6 @@
 use Rattle.std.proofs.Common.{◌≡◌, Err, ℕ, List, length, sym, ap, ◌∙◌, arith, refl}
 use Rattle.btree.proofs.Frames.{unchanged_on}
+use Rattle.btree_pages.specs.declared.row_layout.RowLayout.{RowLayout}
 use Rattle.records.specs.declared.fault.StoreFault.TheVariants.{Device, Damaged}
 use Rattle.records.specs.Rows.{named_pair}
 use Rattle.records.specs.Changes.{FileChange, replacement}
@@ -14,6 +15,7 @@ use Rattle.alternate_keys.proofs.Calling.{looks_edits, edits_blamed, edits_last,
 use Rattle.alternate_keys.proofs.Faults.{never_device, never_full, refused_by_call, never_full_memory, never_spent}
 use Rattle.alternate_keys.proofs.FileTrees.{arrival_few, arrival_is, prime_stands, prime_rows, all_pairs}
 use Rattle.alternate_keys.proofs.FoundRow.{none_at, entry_there, value_long}
+use Rattle.alternate_keys.proofs.WholeTrees.{value_whole}
 use Rattle.alternate_keys.proofs.HeldTrees.{HoldsRow, still_holds, holds_row}
 use Rattle.alternate_keys.proofs.Moving.{IsMoving, room_then, few_then, placed_then}
 use Rattle.alternate_keys.proofs.MovingRows.{replaced_moves}
@@ -180,21 +182,28 @@ returns-clause-few g c = λ honest agrees named generation left right has.
 pub find_duplicate_key-requires-clause-values : goal.find_duplicate_key-requires-clause-values
 find_duplicate_key-requires-clause-values g c = (
   value_long (spec_of c.args.file.now) c.file_tree-prime.result.layout c.in_ok-row.field-0 c.in-Some.row
-      c.value-old.result.now c.file_tree-prime.ensures.layout c.in_ok-row.ensures.lengths c.in-Some.is
-      c.value-old.ensures,
+      c.value-old.result.now c.args.file.now.sound c.file_tree-prime.ensures.layout c.in_ok-row.ensures.lengths
+      c.in-Some.is c.value-old.ensures,
   c.requires.bytes,
 )
 
 pub value_after-requires-clause-old : goal.value_after-requires-clause-old
 value_after-requires-clause-old g c =
     value_long (spec_of c.args.file.now) c.file_tree-prime.result.layout c.in_ok-row.field-0 c.in-Some.row
-    c.value-old.result.now c.file_tree-prime.ensures.layout c.in_ok-row.ensures.lengths c.in-Some.is c.value-old.ensures
+    c.value-old.result.now c.args.file.now.sound c.file_tree-prime.ensures.layout c.in_ok-row.ensures.lengths
+    c.in-Some.is c.value-old.ensures
+
+pub replace_among-requires-clause-value : goal.replace_among-requires-clause-value
+replace_among-requires-clause-value g c =
+    ap (λ (l : List ℕ). length l) c.deref.ensures.value ∙ c.in_ok-value.ensures.long
+    ∙ sym (value_whole (spec_of c.args.file.now) c.args.file.now.sound)
+    ∙ sym (ap (λ (l : RowLayout). l.value_length) c.file_tree-prime.ensures.layout)
 
 pub move_row-requires-clause-values : goal.move_row-requires-clause-values
 move_row-requires-clause-values g c = (
   value_long (spec_of c.args.file.now) c.file_tree-prime.result.layout c.in_ok-row.field-0 c.in-Some.row
-      c.value-old.result.now c.file_tree-prime.ensures.layout c.in_ok-row.ensures.lengths c.in-Some.is
-      c.value-old.ensures,
+      c.value-old.result.now c.args.file.now.sound c.file_tree-prime.ensures.layout c.in_ok-row.ensures.lengths
+      c.in-Some.is c.value-old.ensures,
   c.requires.bytes,
 )
 

@@ -34,7 +34,7 @@ returns-clause-placed g c = λ honest agrees held after generation left right m.
     let says = c.in_ok-new.ensures.bytes ∙ ap (λ (l : List ℕ). listing_bytes
     (record { spec = spec; prime = c.args.root; alternates = l; next_arrival = c.args.next })) c.deref.ensures.value in
     placed_by spec after generation pages left right m.prime m.trees c.in_ok-roots.roots.items c.in_ok-new.new.items
-    c.args.root c.args.next become m.layout m.root_is m.rows m.spec_then m.next_is m.low
+    c.args.root c.args.next become m.layout m.root_is m.form m.rows m.spec_then m.next_is m.low
     (m.indexes.count ∙ ap (λ (s : Spec). length s.alternates) m.spec_is) says
 
 pub returns-clause-few : goal.returns-clause-few

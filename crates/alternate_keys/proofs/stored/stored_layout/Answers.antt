@@ -9,6 +9,7 @@ use Rattle.file_bytes.specs.Description.{organization_byte}
 use Rattle.volume_format.specs.Trees.{layout_under}
 use Rattle.file_bytes.specs.Rows.{prime_key_length}
 use Rattle.alternate_keys.proofs.Heads.{organization_at, count_at, record_at, prime_at, alternate_at, key_by, layout_as}
+use Rattle.alternate_keys.proofs.WholeTrees.{value_whole}
 use Rattle.alternate_keys.proofs.stored.stored_layout.Goals as goal
 
 pub returns-in-Prime : goal.returns-in-Prime
@@ -31,7 +32,7 @@ returns-in-Prime c = λ l spec says within.
     (c.number_at-record.result + 8 * slice_index value 7) ≡ layout_under l.spec k) (sym c.in-Prime.is)
     (ap (λ (n : ℕ). layout_as n (c.number_at-record.result + 8 * slice_index value 7)) key
     ∙ ap (layout_as (prime_key_length l.spec.organization)) (ap (λ (n : ℕ). n + 8 * slice_index value 7) size
-    ∙ ap (λ (n : ℕ). l.spec.record_length + 8 * n) count))
+    ∙ ap (λ (n : ℕ). l.spec.record_length + 8 * n) count ∙ sym (value_whole l.spec spec)))
 
 pub returns-in-Alternate : goal.returns-in-Alternate
 returns-in-Alternate c = λ l spec says within.

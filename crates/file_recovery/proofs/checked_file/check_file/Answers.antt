@@ -19,12 +19,13 @@ use Rattle.records.specs.Stores.{spec_of}
 use Rattle.file_bytes.specs.declared.stored.StoredRow.{StoredRow}
 use Rattle.records.specs.Laws.{RowsAscend}
 use Rattle.volume_format.specs.Trees.{entry_under, layout_under}
-use Rattle.volume_format.specs.Volume.{tree_levels}
+use Rattle.volume_format.specs.Forest.{tree_levels}
 use Rattle.file_recovery.specs.Found.{FindsIndexes, NoIndexes}
 use Rattle.file_recovery.specs.Rows.{IsSized}
 use Rattle.file_bytes.specs.Stored.{row_of, rows_of}
 use Rattle.file_recovery.proofs.Ascents.{rows_ascend}
 use Rattle.volume_format.proofs.Looks.{looks_then}
+use Rattle.volume_format.proofs.Whole.{whole_grows, short_spec}
 use Rattle.file_recovery.proofs.Calling.{pages_kept}
 use Rattle.file_recovery.proofs.Entered.{is_none}
 use Rattle.file_recovery.proofs.FirstMark.{without_count, counted_as, none_counted, none_miscounted, finds_counted}
@@ -163,8 +164,8 @@ returns-clause-file g c = λ honest agrees.
     (tree_levels tree found.levels) c.args.seen.now c.check_pages.new.seen c.check_alternates.new.seen heading layout
     (root_told entry c.key.result.now c.listing_part-value.result.now c.key.ensures c.listing_part-value.ensures.part
     tree.root
-    (c.new-tree.ensures.root ∙ c.prime_root.ensures))
-    found.holds found.marks listed c.in_ok-rows.ensures.are ascend there in
+    (c.new-tree.ensures.root ∙ c.prime_root.ensures)) (sym (short_spec spec file.sound))
+    (whole_grows before tree found.levels found.holds) found.marks listed c.in_ok-rows.ensures.are ascend there in
     let to = goal.at.returns-clause-file g c in
     finds_counted finds (counted_as c.value.ensures (mark_read g to.After-is_counted)
     (rows_counted g to.After-is_counted) (c.is_counted.ensures.yes c.if-not-is_counted.false))

@@ -1,0 +1,9 @@
+pub mod Following
+pub mod Staying
+pub mod Links
+pub mod Fronts
+pub mod Loops
+pub mod Parts
+pub mod Refusing
+pub mod Entries
+pub mod Rows

@@ -1,0 +1,6 @@
+pub mod Chain
+pub mod Links
+pub mod Changes
+pub mod Calls
+pub mod Rows
+pub mod Laws

@@ -1,0 +1,195 @@
+//! One page of a chain is read or written.
+ghost use Rattle.std.specs.Prelude.{◌≡◌, ◌≤◌, ◌<◌, ◌+◌, Err, Some, suc, List, length, take, IfOk, IfErr, OnOk, OnErr};
+ghost use Rattle.station.specs.Disk.{Sector};
+ghost use Rattle.station.specs.Calls.{OnlyReads};
+ghost use Rattle.pages.specs.Pages.{sectors_of, Agrees, IsOpen, IsPage, IsUnchanged, KeepsCommitted};
+ghost use Rattle.btree_pages.specs.Bytes.{put_at};
+ghost use Rattle.btree.specs.Calls.{IfAgrees, OnPages};
+ghost use Rattle.btree.specs.Changes.{pages_of_map};
+ghost use Rattle.btree.specs.Reading.{IsReadRefusal};
+ghost use Rattle.btree.specs.Refusals.{IsWriteRefusal};
+ghost use Rattle.btree.specs.Results.{ExactlyIfSpent, FullIfUsed, FewChanged, FewFilled, ReturnsDamaged};
+ghost use Rattle.chains.specs.Chain.{IsLink, next_in, part_in, next_at, link_bytes};
+ghost use Rattle.chains.specs.Links.{PutsLink, ReadsLink, NoLink};
+ghost use Rattle.chains.specs.Calls.{OnChain, OnNoChain};
+
+use byteorder::{BigEndian, ByteOrder};
+use pages::{PageMap, PagesError};
+use station::Device;
+
+/// The first byte of a page of a chain.
+const LINK_BYTE: u8 = 3;
+
+/// Where the next page begins, in 4 bytes.
+const NEXT_AT: usize = 4;
+
+/// Where the part of the record begins.
+const PART_AT: usize = 16;
+
+/// Puts a part of a record on a page that wasn't in the map, in front of the page of the next part.
+pub(crate) fn put_link(pages: &mut PageMap, next: u32, part: &[u8]) -> Result<u32, PagesError>
+    requires open { IsOpen pages.old }
+    requires part { length part.now ≤ 4080 }
+    ensures pages { IfOk result (λ page. (image : List Sector)
+        → PutsLink (pages_of_map pages.old image) next part.now (pages_of_map pages.new image)
+        page) }
+    ensures changed_pages { FewChanged 1 pages.old pages.new }
+    ensures filled { FewFilled 1 pages.old pages.new }
+    ensures keeps { KeepsCommitted pages.old pages.new }
+    ensures full { FullIfUsed pages.new result }
+    ensures spent { ExactlyIfSpent pages.old result }
+    ensures cause { IfErr result IsWriteRefusal }
+{
+    // How many page numbers there are is needed below.
+    let _page_count = pages.page_count();
+    let page = pages.allocate()?;
+    let spelled = link(next, part);
+    pages.edit(page, &spelled)?;
+    Ok(page)
+}
+
+/// The bytes of a page of a chain.
+pub(crate) fn link(next: u32, part: &[u8]) -> [u8; 4096]
+    requires { length part.now ≤ 4080 }
+    ensures bytes { result ≡ link_bytes next part.now }
+    ensures reads { next_in (link_bytes next part.now) ≡ next }
+{
+    let mut bytes = [0; 4096];
+    put(&mut bytes, PART_AT, part);
+    put(&mut bytes, NEXT_AT, &next.to_be_bytes());
+    bytes[0] = LINK_BYTE;
+    bytes
+}
+
+/// Puts bytes into others from this place on.
+fn put(bytes: &mut [u8], at: usize, part: &[u8])
+    requires { at + length part.now ≤ length bytes.old }
+    ensures { bytes.new ≡ put_at at part.now bytes.old }
+{
+    bytes[at..at + part.len()].copy_from_slice(part);
+}
+
+/// The page after a page of a chain, after which there are so many. The last page isn't read. `Damaged` tells that no chain of that
+/// length stands there.
+pub(crate) fn page_after<D: Device>(
+    pages: &mut PageMap,
+    device: &mut D,
+    page: u32,
+    more: usize,
+) -> Result<u32, PagesError>
+    requires open { IsOpen pages.old }
+    requires sectors { sectors_of pages.old ≤ D.sectors device.old }
+    ensures only { OnlyReads D.Device (result ≡ Err PagesError.Device) device.old device.new }
+    ensures unchanged { IsUnchanged pages.old pages.new }
+    ensures agrees { IfAgrees D.Device pages.old device.old
+        (Agrees pages.new (D.state device.new).disk) }
+    ensures open { IsOpen pages.new }
+    ensures page { OnOk result (IsPage pages.old page) }
+    ensures next { OnChain D.Device (suc more) page pages.old device.old
+        (λ before. IfOk result (λ next. next ≡ next_at before page)) }
+    ensures damaged { OnNoChain D.Device (suc more) page pages.old device.old
+        (ReturnsDamaged result) }
+    ensures spent { ExactlyIfSpent pages.old result }
+    ensures cause { IfErr result IsReadRefusal }
+{
+    if pages.is_spent() {
+        return Err(PagesError::Spent);
+    }
+    if page == 0 {
+        return Err(PagesError::Damaged);
+    }
+    if pages.page_count() <= page as usize {
+        return Err(PagesError::Damaged);
+    }
+    if more == 0 {
+        return Ok(0);
+    }
+    read_part(pages, device, page, &mut [])
+}
+
+/// Reads the beginning of the part of a record that is on a page of a chain, as much as there is room for, and returns the next page.
+/// `Damaged` tells that the page is none of a chain. After a refusal nothing was read.
+pub(crate) fn read_part<D: Device>(
+    pages: &mut PageMap,
+    device: &mut D,
+    page: u32,
+    part: &mut [u8],
+) -> Result<u32, PagesError>
+    requires open { IsOpen pages.old }
+    requires sectors { sectors_of pages.old ≤ D.sectors device.old }
+    requires part { length part.old ≤ 4080 }
+    ensures only { OnlyReads D.Device (result ≡ Err PagesError.Device) device.old device.new }
+    ensures unchanged { IsUnchanged pages.old pages.new }
+    ensures agrees { IfAgrees D.Device pages.old device.old
+        (Agrees pages.new (D.state device.new).disk) }
+    ensures open { IsOpen pages.new }
+    ensures link { OnPages D.Device pages.old device.old
+        (λ before. IfOk result (ReadsLink before page part.new)) }
+    ensures kept { OnErr result (part.new ≡ part.old) }
+    ensures damaged { OnPages D.Device pages.old device.old
+        (NoLink page (ReturnsDamaged result)) }
+    ensures spent { ExactlyIfSpent pages.old result }
+    ensures cause { IfErr result IsReadRefusal }
+{
+    if let Some(bytes) = pages.view(page) {
+        return copy_part(page, bytes, part);
+    }
+    part_read(pages, device, page, part)
+}
+
+/// The same of a page that isn't in memory. Refusals are those of `read_part`.
+fn part_read<D: Device>(
+    pages: &mut PageMap,
+    device: &mut D,
+    page: u32,
+    part: &mut [u8],
+) -> Result<u32, PagesError>
+    requires open { IsOpen pages.old }
+    requires sectors { sectors_of pages.old ≤ D.sectors device.old }
+    requires part { length part.old ≤ 4080 }
+    ensures only { OnlyReads D.Device (result ≡ Err PagesError.Device) device.old device.new }
+    ensures unchanged { IsUnchanged pages.old pages.new }
+    ensures agrees { IfAgrees D.Device pages.old device.old
+        (Agrees pages.new (D.state device.new).disk) }
+    ensures open { IsOpen pages.new }
+    ensures link { OnPages D.Device pages.old device.old
+        (λ before. IfOk result (ReadsLink before page part.new)) }
+    ensures kept { OnErr result (part.new ≡ part.old) }
+    ensures damaged { OnPages D.Device pages.old device.old
+        (NoLink page (ReturnsDamaged result)) }
+    ensures spent { ExactlyIfSpent pages.old result }
+    ensures cause { IfErr result IsReadRefusal }
+{
+    match pages.read(device, page)? {
+        Some(bytes) => copy_part(page, &bytes, part),
+        None => Err(PagesError::Damaged),
+    }
+}
+
+/// Copies the beginning of a part from the bytes of a page, and returns the next page. Refusals are those of `read_part`.
+fn copy_part(page: u32, bytes: &[u8; 4096], part: &mut [u8]) -> Result<u32, PagesError>
+    requires { length part.old ≤ 4080 }
+    ensures long { length bytes.now ≡ 4096 }
+    ensures some { OnOk result (0 < page) }
+    ensures link { OnOk result (IsLink (Some bytes.now)) }
+    ensures next { IfOk result (λ next. next ≡ next_in bytes.now) }
+    ensures part { OnOk result (part.new ≡ take (length part.old) (part_in bytes.now)) }
+    ensures kept { OnErr result (part.new ≡ part.old) }
+    ensures damaged { OnErr result (0 < page → IsLink (Some bytes.now) → ⊥) }
+    ensures cause { OnErr result (result ≡ Err PagesError.Damaged) }
+{
+    if page == 0 || bytes[0] != LINK_BYTE {
+        return Err(PagesError::Damaged);
+    }
+    let end = PART_AT + part.len();
+    part.copy_from_slice(&bytes[PART_AT..end]);
+    Ok(next_of(bytes))
+}
+
+/// The next page that the bytes of a page name.
+fn next_of(bytes: &[u8; 4096]) -> u32
+    ensures { result ≡ next_in bytes.now }
+{
+    let (_, rest) = bytes.split_at(NEXT_AT);
+    BigEndian::read_u32(rest)
+}
