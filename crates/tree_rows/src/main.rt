@@ -2,6 +2,7 @@
 #![tactic(auto)]
 
 mod case;
+mod chain_calls;
 mod drawings;
 mod tree_run;
 mod volume;

@@ -1,4 +1,5 @@
 //! The rows of a case over a tree: `CALL OPERANDS -> ANSWER`. Beside the tree is the list of the numbers that it has to hold.
+use crate::chain_calls::chain_call;
 use crate::drawings::{draw, entries_in, leaves_in, plant};
 use crate::volume::{Answer, Volume, key_of, tree_of, value_of};
 use btree::{Entry, Tree};
@@ -28,14 +29,16 @@ pub struct TreeRun {
     thin: usize,
 }
 
-fn number(words: &mut Words<'_>) -> Result<u32, Fault> {
+/// The number that is the next word.
+pub fn number(words: &mut Words<'_>) -> Result<u32, Fault> {
     match words.number().and_then(|number| u32::try_from(number).ok()) {
         Some(number) => Ok(number),
         None => Err(Fault::Spelling("a number belongs here")),
     }
 }
 
-fn refusal(alloc: Global, error: PagesError) -> Result<String, AllocError> {
+/// What is said of a refusal.
+pub fn refusal(alloc: Global, error: PagesError) -> Result<String, AllocError> {
     let number = error.number();
     format!(in alloc; "refused {number}")
 }
@@ -94,6 +97,9 @@ impl TreeRun {
             b"commit" => self.commit(),
             b"try" => self.try_commit(),
             b"drawn" => self.drawing_words(),
+            b"lay" | b"record" | b"rewrite" | b"release" | b"bytes" | b"zeros" => {
+                chain_call(self.alloc, &mut self.volume, call, words)
+            }
             other => self.volume_call(other, words),
         }
     }

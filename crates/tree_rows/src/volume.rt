@@ -5,6 +5,7 @@
 use btree::{Entry, Tree};
 use btree_check::check_tree;
 use btree_pages::{RowLayout, TreePage};
+use chains::{lay, read_into, release, rewrite};
 use pages::{PageMap, PagesError, format};
 use row_scripts::Fault;
 use station::{Device, MemoryStation};
@@ -270,6 +271,35 @@ impl Volume {
             return Err(small());
         }
         Ok(check_tree(self.alloc, tree, &mut self.pages, &mut self.station, seen))
+    }
+
+    /// Puts a record into a new chain. The answer is its first page.
+    pub fn lay(&mut self, record: &[u8]) -> Answer<u32> {
+        lay(&mut self.pages, record)
+    }
+
+    /// Reads the record of a chain.
+    pub fn read_record(&mut self, first: u32, into: &mut [u8]) -> Result<Answer<()>, Fault> {
+        if self.pages.sectors() > self.station.count() {
+            return Err(small());
+        }
+        Ok(read_into(&mut self.pages, &mut self.station, first, into))
+    }
+
+    /// Puts another record into a chain.
+    pub fn rewrite(&mut self, first: u32, record: &[u8]) -> Result<Answer<()>, Fault> {
+        if self.pages.sectors() > self.station.count() {
+            return Err(small());
+        }
+        Ok(rewrite(&mut self.pages, &mut self.station, first, record))
+    }
+
+    /// Gives up the pages of the chain of a record of so many bytes.
+    pub fn release(&mut self, first: u32, size: usize) -> Result<Answer<()>, Fault> {
+        if self.pages.sectors() > self.station.count() {
+            return Err(small());
+        }
+        Ok(release(&mut self.pages, &mut self.station, first, size))
     }
 
     /// Gives up all pages of a tree.
