@@ -1,7 +1,8 @@
 -- The number in a RELATIVE KEY item.
 use Rattle.std.proofs.Common.{◌≡◌, ◌<◌, ◌≤◌, ℕ, ◌*◌, ◌/◌, ◌%◌, ◌^◌, Bool, true, false, not, ◌&&◌, ◌||◌, ◌==◌, List}
-use Rattle.std.proofs.Common.{length, Some, None, refl, sym, ◌∙◌, ap, subst, arith, ℤ, pos, unsigned_abs, int_div}
-use Rattle.std.proofs.Common.{if◌then◌else◌}
+use Rattle.std.proofs.Common.{length, Option, Some, None, refl, sym, ◌∙◌, ap, subst, arith, ℤ, pos, negsuc}
+use Rattle.std.proofs.Common.{unsigned_abs}
+use Rattle.std.proofs.Common.{if◌then◌else◌, int_div}
 use Rattle.std.proofs.lemmas.Bool.Decides.{nat_tests}
 use Rattle.decimal18.specs.Fraction.{Fraction, is_negative}
 use Rattle.decimal18.specs.Digits.{integer_of}
@@ -17,6 +18,8 @@ use Rattle.items.specs.Numbers.{CanHold, is_signed}
 use Rattle.items.proofs.Bounds.{below}
 use Rattle.items.proofs.Held.{held_number}
 use Rattle.source_tree.specs.FileRules.{is_unsigned_integer}
+use Rattle.source_tree.specs.FileStatements.{number_held}
+use Rattle.data_instructions.specs.Table.{natural_by, natural_in}
 
 -- ---- what is held
 
@@ -54,6 +57,22 @@ held_below (kind.Alphabetic justified) bytes x z form is e = absurd cc
 held_below (kind.Alphanumeric justified) bytes x z form is e = absurd cc
 held_below kind.AlphanumericEdited bytes x z form is e = absurd cc
 held_below (kind.NumericEdited blank) bytes x z form is e = absurd cc
+
+-- what counts as a number from 0 on
+natural_small : (o : Option ℤ) → ((z : ℤ) → o ≡ Some z → unsigned_abs z < 10 ^ 18) → natural_by o < 10 ^ 18
+natural_small None small = omega arith
+natural_small (Some (pos n)) small = small (pos n) refl
+natural_small (Some (negsuc n)) small = omega arith
+
+pub natural_below : (k : Kind) (bytes : List ℕ) (x : Option Fraction) → IsOfLength k (length bytes)
+    → x ≡ number_in k bytes → natural_in x < 10 ^ 18
+natural_below k bytes None form is = omega arith
+natural_below k bytes (Some x) form is = natural_small (integer_of x) (λ z. held_below k bytes x z form (sym is))
+
+pub natural_held : (o : Option ℤ) → natural_by o ≡ number_held o
+natural_held None = refl
+natural_held (Some (pos n)) = refl
+natural_held (Some (negsuc n)) = refl
 
 -- ---- what is stored
 

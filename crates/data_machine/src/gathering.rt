@@ -4,22 +4,115 @@ ghost use Rattle.std.specs.Prelude.{◌≡◌, ◌+◌, ◌<◌, ◌≤◌, leng
 ghost use Rattle.items.specs.Items.{HasLengthOf};
 ghost use Rattle.items.specs.Texts.{padded_text};
 ghost use Rattle.text_ops.specs.Strings.{delimited_characters};
+ghost use Rattle.source_tree.specs.Inspecting.{text_at};
+ghost use Rattle.source_tree.specs.References.{part_of as bytes_at};
 ghost use Rattle.data_instructions.specs.Table as spec;
+ghost use Rattle.data_instructions.specs.Tables.{item_place};
 ghost use Rattle.data_instructions.specs.declared.gather.Gather.TheVariants as gathers;
 ghost use Rattle.data_instructions.specs.declared.instruction.DataInstruction.TheVariants as instructions;
 ghost use Rattle.data_machine.specs.Data.{scratch_of};
 ghost use Rattle.data_machine.specs.Comes.{IsStepOf, KeepsRoom};
-ghost use Rattle.data_machine.specs.Finds.{FindsItem, FindsNext};
+ghost use Rattle.data_machine.specs.Finds.{IsAtOffset, FindsItem, FindsNext};
 ghost use Rattle.data_machine.specs.Lines.{HasPartRoom, HasTextRoom, HasWholeRoom};
 ghost use Rattle.data_machine.specs.Ready.{IsReady};
 
 use crate::data::Data;
 use crate::seen::{part_of, seen};
+use crate::superinstruction_work::{item_of, text_of};
 use data_instructions::{DataItem, DataTables, Gather, ProgramFault, TextIndex};
 use decimal18::Dec;
 use text_ops::delimited;
 
 impl Data {
+    /// The bytes of an item at an offset are added to the line.
+    #[inline]
+    fn gather_at(&mut self, one: &DataItem, offset: usize) -> Result<(), ProgramFault>
+        requires item { IsAtOffset one.now self.old.areas offset }
+        requires room { length self.old.line.bytes + one.now.item.length ≤ self.old.line.room }
+        ensures does { IsStepOf result (scratch_of self.new) (spec.append_step
+            (bytes_at self.old.areas (item_place one.now offset)) (scratch_of self.old)) }
+        ensures keeps { KeepsRoom self.old self.new }
+    {
+        self.line.append(self.areas.bytes(one, offset));
+        Ok(())
+    }
+
+    /// The same up to a delimiter.
+    #[inline]
+    fn gather_up_to_at(
+        &mut self,
+        one: &DataItem,
+        offset: usize,
+        delimiter: &[u8],
+    ) -> Result<(), ProgramFault>
+        requires item { IsAtOffset one.now self.old.areas offset }
+        requires room { length self.old.line.bytes + one.now.item.length ≤ self.old.line.room }
+        ensures does { IsStepOf result (scratch_of self.new)
+            (spec.append_step (delimited_characters delimiter.now
+            (bytes_at self.old.areas (item_place one.now offset))) (scratch_of self.old)) }
+        ensures keeps { KeepsRoom self.old self.new }
+    {
+        let bytes = self.areas.bytes(one, offset);
+        self.line.append(up_to(delimiter, bytes));
+        Ok(())
+    }
+
+    /// The same up to the bytes of another item.
+    #[inline]
+    fn gather_between(
+        &mut self,
+        one: &DataItem,
+        offset: usize,
+        other: &DataItem,
+        behind: usize,
+    ) -> Result<(), ProgramFault>
+        requires item { IsAtOffset one.now self.old.areas offset }
+        requires delimiter { IsAtOffset other.now self.old.areas behind }
+        requires room { length self.old.line.bytes + one.now.item.length ≤ self.old.line.room }
+        ensures does { IsStepOf result (scratch_of self.new)
+            (spec.append_step (delimited_characters
+            (bytes_at self.old.areas (item_place other.now behind))
+            (bytes_at self.old.areas (item_place one.now offset))) (scratch_of self.old)) }
+        ensures keeps { KeepsRoom self.old self.new }
+    {
+        let delimiter = self.areas.bytes(other, behind);
+        let bytes = self.areas.bytes(one, offset);
+        self.line.append(up_to(delimiter, bytes));
+        Ok(())
+    }
+
+    /// A text up to the bytes of an item at an offset is added to the line.
+    #[inline]
+    fn gather_before(
+        &mut self,
+        text: &[u8],
+        one: &DataItem,
+        offset: usize,
+    ) -> Result<(), ProgramFault>
+        requires item { IsAtOffset one.now self.old.areas offset }
+        requires room { length self.old.line.bytes + length text.now ≤ self.old.line.room }
+        ensures does { IsStepOf result (scratch_of self.new) (spec.append_step (delimited_characters
+            (bytes_at self.old.areas (item_place one.now offset)) text.now) (scratch_of self.old)) }
+        ensures keeps { KeepsRoom self.old self.new }
+    {
+        let delimiter = self.areas.bytes(one, offset);
+        self.line.append(up_to(delimiter, text));
+        Ok(())
+    }
+
+    /// The bytes of an item at an offset are added to the line, as many as the item has.
+    #[inline]
+    fn gather_sized_at(&mut self, one: &DataItem, offset: usize) -> Result<(), ProgramFault>
+        requires item { IsAtOffset one.now self.old.areas offset }
+        requires room { length self.old.line.bytes + one.now.item.length ≤ self.old.line.room }
+        ensures does { IsStepOf result (scratch_of self.new) (spec.append_step
+            (text_at self.old.areas (item_place one.now offset)) (scratch_of self.old)) }
+        ensures keeps { KeepsRoom self.old self.new }
+    {
+        self.line.append(sized(one, self.areas.bytes(one, offset)));
+        Ok(())
+    }
+
     /// `gather bytes`: those at the newest place.
     pub fn gather_bytes(&mut self, tables: &DataTables) -> Result<(), ProgramFault>
         requires operand { FindsItem tables.now self.old.areas self.old.places.newest_first }
@@ -30,11 +123,9 @@ impl Data {
         ensures keeps { KeepsRoom self.old self.new }
     {
         let place = self.places.pop();
-        let one = &tables.items.as_slice()[place.item.number as usize];
+        let one = item_of(tables, place.item);
         let part = part_of(one, place.length);
-        let one = seen(one, &part);
-        self.line.append(self.areas.bytes(one, place.offset));
-        Ok(())
+        self.gather_at(seen(one, &part), place.offset)
     }
 
     /// `gather up to place`: the bytes at the newest place, up to those at the next one, which stays.
@@ -49,19 +140,17 @@ impl Data {
         ensures keeps { KeepsRoom self.old self.new }
     {
         let place = self.places.pop();
-        let next = self.places.pop();
-        let items = tables.items.as_slice();
-        let one = &items[place.item.number as usize];
+        let next = self.places.below(0);
+        let one = item_of(tables, place.item);
         let part = part_of(one, place.length);
-        let one = seen(one, &part);
-        let other = &items[next.item.number as usize];
+        let other = item_of(tables, next.item);
         let other_part = part_of(other, next.length);
-        let other = seen(other, &other_part);
-        let delimiter = self.areas.bytes(other, next.offset);
-        let bytes = self.areas.bytes(one, place.offset);
-        self.line.append(up_to(delimiter, bytes));
-        self.places.push(next);
-        Ok(())
+        self.gather_between(
+            seen(one, &part),
+            place.offset,
+            seen(other, &other_part),
+            next.offset,
+        )
     }
 
     /// `gather up to text`: the bytes at the newest place, up to a text of the table.
@@ -78,14 +167,11 @@ impl Data {
             (spec.gather_step tables.now (gathers.UpToText delimiter) (scratch_of self.old)) }
         ensures keeps { KeepsRoom self.old self.new }
     {
-        let delimiter = tables.texts.as_slice()[delimiter.number as usize].as_slice();
+        let delimiter = text_of(tables, delimiter.number as usize);
         let place = self.places.pop();
-        let one = &tables.items.as_slice()[place.item.number as usize];
+        let one = item_of(tables, place.item);
         let part = part_of(one, place.length);
-        let one = seen(one, &part);
-        let bytes = self.areas.bytes(one, place.offset);
-        self.line.append(up_to(delimiter, bytes));
-        Ok(())
+        self.gather_up_to_at(seen(one, &part), place.offset, delimiter)
     }
 
     /// `gather text up to place`: a text of the table, up to the bytes at the newest place, which stays.
@@ -99,15 +185,11 @@ impl Data {
             (spec.gather_step tables.now (gathers.TextUpToPlace text) (scratch_of self.old)) }
         ensures keeps { KeepsRoom self.old self.new }
     {
-        let bytes = tables.texts.as_slice()[text.number as usize].as_slice();
-        let next = self.places.pop();
-        let other = &tables.items.as_slice()[next.item.number as usize];
+        let bytes = text_of(tables, text.number as usize);
+        let next = self.places.below(0);
+        let other = item_of(tables, next.item);
         let part = part_of(other, next.length);
-        let other = seen(other, &part);
-        let delimiter = self.areas.bytes(other, next.offset);
-        self.line.append(up_to(delimiter, bytes));
-        self.places.push(next);
-        Ok(())
+        self.gather_before(bytes, seen(other, &part), next.offset)
     }
 
     /// `gather sized`: the bytes at the newest place, as many as its item has.
@@ -120,12 +202,9 @@ impl Data {
         ensures keeps { KeepsRoom self.old self.new }
     {
         let place = self.places.pop();
-        let one = &tables.items.as_slice()[place.item.number as usize];
+        let one = item_of(tables, place.item);
         let part = part_of(one, place.length);
-        let one = seen(one, &part);
-        self.line
-            .append(sized(one, self.areas.bytes(one, place.offset)));
-        Ok(())
+        self.gather_sized_at(seen(one, &part), place.offset)
     }
 
     /// `gather measured`: the bytes at the newest place, padded to the size of its item in the table, and where in the line they

@@ -125,7 +125,7 @@ fn length_at(numbers: &[Option<Dec>], at: u32) -> Option<u128>
 }
 
 /// The number, if it is an integer from 0 on, or 0.
-fn natural_in(number: Option<Dec>) -> u128
+pub(crate) fn natural_in(number: Option<Dec>) -> u128
     ensures { result ≡ natural_in number }
 {
     match number.and_then(|number| number.to_integer()) {

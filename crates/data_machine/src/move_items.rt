@@ -12,7 +12,7 @@ ghost use Rattle.edited_move.specs.Moves.{moved_bytes, received_number, IsPlainK
 
 use crate::fitting::put_number;
 use crate::short::Short;
-use crate::short_fitting::{plain_number, put_short, short_fitted};
+use crate::short_fitting::{put_short, short_fitted, short_number};
 use decimal18::{Dec, Rounding};
 use items::{DataFault, Figurative, Item, Kind, Numeric, number, put_padded};
 
@@ -35,35 +35,13 @@ pub fn move_numbers(
     ensures { Writes result bytes.old bytes.new (option_map (λ x.
         bytes_of receiver.now (received_number receiver.now x)) (value_of sender.now from.now)) }
 {
-    match plain_number(*sender, from) {
+    match short_number(*sender, from) {
         Some(x) => {
             move_short(x, *receiver, bytes);
             Ok(())
         }
-        None => move_any(*sender, from, *receiver, bytes),
+        None => Err(DataFault),
     }
-}
-
-/// The same, whatever form the sender has.
-#[inline(always)]
-fn move_any(
-    sender: Numeric,
-    from: &[u8],
-    receiver: Numeric,
-    bytes: &mut [u8],
-) -> Result<(), DataFault>
-    requires sender { IsNumeric sender }
-    requires receiver { IsNumeric receiver }
-    requires from { length from.now ≡ length_of sender }
-    requires length { length bytes.old ≡ length_of receiver }
-    ensures { Writes result bytes.old bytes.new (option_map (λ x.
-        bytes_of receiver (received_number receiver x)) (value_of sender from.now)) }
-{
-    let Some(x) = number(sender, from) else {
-        return Err(DataFault);
-    };
-    cut_number(x, receiver, bytes);
-    Ok(())
 }
 
 /// Moves a number of 64 bits to a numeric item. If it fits, no decimal is made of it.
@@ -146,18 +124,8 @@ pub fn is_copy(from: &Item, receiver: &Item) -> bool
 
 /// Moves a number to a numeric item, cut to its digits.
 #[inline(never)]
-fn move_number(x: Dec, receiver: Numeric, bytes: &mut [u8])
-    requires receiver { IsNumeric receiver }
-    requires length { length bytes.old ≡ length_of receiver }
-    ensures { bytes.new ≡ bytes_of receiver (received_number receiver x) }
-{
-    cut_number(x, receiver, bytes);
-}
-
-/// The same in the caller's own code.
-#[inline(always)]
 #[tactic(auto, unfolding(decimal18::specs::Receiver::low_digits))]
-fn cut_number(x: Dec, receiver: Numeric, bytes: &mut [u8])
+fn move_number(x: Dec, receiver: Numeric, bytes: &mut [u8])
     requires receiver { IsNumeric receiver }
     requires length { length bytes.old ≡ length_of receiver }
     ensures { bytes.new ≡ bytes_of receiver (received_number receiver x) }

@@ -4,14 +4,16 @@ ghost use Rattle.std.specs.Prelude.{◌≡◌, ◌+◌, ◌<◌, ◌≤◌, leng
 ghost use Rattle.source_tree.specs.Initializing.{overlaid};
 ghost use Rattle.data_instructions.specs.Scratch.{Continues};
 ghost use Rattle.data_instructions.specs.Table as spec;
+ghost use Rattle.data_instructions.specs.Tables.{item_place};
 ghost use Rattle.data_machine.specs.Data.{scratch_of};
 ghost use Rattle.data_machine.specs.Comes.{IsStepOf, KeepsRoom};
-ghost use Rattle.data_machine.specs.Finds.{FindsItem};
+ghost use Rattle.data_machine.specs.Finds.{IsAtOffset, FindsItem};
 ghost use Rattle.data_machine.specs.Overlays.{byte_over};
 ghost use Rattle.data_machine.specs.Writing.{with_part};
 
 use crate::data::Data;
 use crate::seen::{part_of, seen};
+use crate::superinstruction_work::{item_of, text_of};
 use data_instructions::{DataItem, DataTables, ProgramFault, TextIndex};
 
 /// The same in an item at an offset in its area: the other bytes stay.
@@ -52,14 +54,29 @@ impl Data {
             (spec.overlaid_by tables.now text (scratch_of self.old)) }
         ensures keeps { KeepsRoom self.old self.new }
     {
-        let texts = tables.texts.as_slice();
-        let bytes = texts[text.number as usize].as_slice();
-        let marks = texts[text.number as usize + 1].as_slice();
+        let bytes = text_of(tables, text.number as usize);
+        let marks = text_of(tables, text.number as usize + 1);
         let place = self.places.pop();
-        let one = &tables.items.as_slice()[place.item.number as usize];
+        let one = item_of(tables, place.item);
         let part = part_of(one, place.length);
-        let one = seen(one, &part);
-        self.areas.overlay(one, place.offset, bytes, marks);
+        self.overlay_at(seen(one, &part), place.offset, bytes, marks)
+    }
+
+    /// The same with an item at an offset.
+    fn overlay_at(
+        &mut self,
+        one: &DataItem,
+        offset: usize,
+        bytes: &[u8],
+        marks: &[u8],
+    ) -> Result<(), ProgramFault>
+        requires { IsAtOffset one.now self.old.areas offset }
+        ensures does { IsStepOf result (scratch_of self.new) (spec.laid_over
+            (spec.pattern_of bytes.now marks.now) (item_place one.now offset)
+            (scratch_of self.old)) }
+        ensures keeps { KeepsRoom self.old self.new }
+    {
+        self.areas.overlay(one, offset, bytes, marks);
         Ok(())
     }
 

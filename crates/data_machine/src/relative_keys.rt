@@ -10,26 +10,17 @@ ghost use Rattle.source_tree.specs.FileRules.{is_unsigned_integer};
 ghost use Rattle.source_tree.specs.FileStatements as spec;
 ghost use Rattle.data_machine.specs.Writing.{with_part};
 
+use crate::measuring::natural_in;
 use crate::numbers::number_in;
 use decimal18::{Dec, Rounding};
 use items::{Kind, Numeric, store};
 
 /// The integer that the bytes of an item hold, 0 where they hold none or one below 0.
-#[tactic(auto, using(crate::proofs::HeldIntegers::held_below))]
 pub fn number_held(kind: Kind, bytes: &[u8]) -> u64
     requires { IsOfLength kind (length bytes.now) }
     ensures { result ≡ spec.number_held (whole_part (number_in kind bytes.now)) }
 {
-    let Some(number) = number_in(kind, bytes) else {
-        return 0;
-    };
-    let Some(integer) = number.to_integer() else {
-        return 0;
-    };
-    if integer < 0 {
-        return 0;
-    }
-    integer as u64
+    natural_in(number_in(kind, bytes)) as u64
 }
 
 /// An integer as a decimal.

@@ -1,6 +1,6 @@
 //! What receivers keep of numbers of 64 bits that fit, and the bytes in which they hold them.
 
-ghost use Rattle.std.specs.Prelude.{◌≡◌, ◌+◌, ◌<◌, ◌≤◌, ◌^◌, length, pos, unsigned_abs, IfSome, Ok, Some};
+ghost use Rattle.std.specs.Prelude.{◌≡◌, ◌+◌, ◌-◌, ◌<◌, ◌≤◌, ◌^◌, length, nat_le, pos, unsigned_abs, IfSome, Ok, Some, if◌then◌else◌};
 ghost use Rattle.decimal18.specs.Receiver.{fitted_decimal};
 ghost use Rattle.items.specs.declared.usage.Usage.TheVariants as usage;
 ghost use Rattle.items.specs.declared.usage.OperationalSign.TheVariants as sign;
@@ -21,7 +21,14 @@ use decimal18::{Dec, number_after, put_digits, short_power};
 use items::{Kind, Numeric, OperationalSign, Usage, number, store};
 use source_tree::Operator;
 
-/// The number in the bytes of a numeric item, if they hold one. Bytes that are all digits take a shorter way.
+/// What a minus adds to the byte of the digit that carries it.
+const MINUS_MARK: u8 = 0x40;
+
+/// The byte of the digit 0 that carries a minus.
+const MARKED_ZERO: u8 = b'0' + MINUS_MARK;
+
+/// The number in the bytes of a numeric item, if they hold one. Items in DISPLAY usage that have no sign, or have it in the
+/// last digit, take a shorter way.
 #[inline(always)]
 pub(crate) fn short_number(item: Numeric, bytes: &[u8]) -> Option<Short>
     requires item { IsNumeric item }
@@ -32,20 +39,6 @@ pub(crate) fn short_number(item: Numeric, bytes: &[u8]) -> Option<Short>
         Usage::Display(OperationalSign::Unsigned) => unsigned_number(item, bytes),
         Usage::Display(OperationalSign::Trailing) => trailing_number(item, bytes),
         _ => any_number(item, bytes),
-    }
-}
-
-/// The number in the bytes of an item in DISPLAY usage, if they are digits alone.
-#[inline(always)]
-pub(crate) fn plain_number(item: Numeric, bytes: &[u8]) -> Option<Short>
-    requires item { IsNumeric item }
-    requires length { length bytes.now ≡ length_of item }
-    ensures { IfSome result (λ x. Some x ≡ value_of item bytes.now) }
-{
-    match item.usage {
-        Usage::Display(OperationalSign::Unsigned) => unsigned_number(item, bytes),
-        Usage::Display(OperationalSign::Trailing) => positive_number(item, bytes),
-        _ => None,
     }
 }
 
@@ -71,46 +64,32 @@ fn trailing_number(item: Numeric, bytes: &[u8]) -> Option<Short>
     requires length { length bytes.now ≡ length_of item }
     ensures { result ≡ value_of item bytes.now }
 {
-    match positive_number(item, bytes) {
-        Some(x) => Some(x),
-        None => marked_number(item, bytes),
-    }
-}
-
-/// The same number, if no digit carries a minus.
-#[inline(always)]
-fn positive_number(item: Numeric, bytes: &[u8]) -> Option<Short>
-    requires item { IsNumeric item }
-    requires trailing { item.usage ≡ usage.Display sign.Trailing }
-    requires length { length bytes.now ≡ length_of item }
-    ensures { IfSome result (λ x. Some x ≡ value_of item bytes.now) }
-{
-    if !ends_in_digit(bytes) {
+    let [front @ .., last] = bytes else {
+        return None;
+    };
+    let digit = unmarked(*last);
+    if !digit.is_ascii_digit() {
         return None;
     }
-    match number_after(0, bytes) {
-        Some(digits) => Some(whole_number(digits, item.scale)),
+    match number_after(0, front) {
+        Some(front) => {
+            let digits = 10 * front + u64::from(digit - b'0');
+            Some(Short::new(signed(*last >= MARKED_ZERO, digits), item.scale))
+        }
         None => None,
     }
 }
 
-/// The last byte is a digit, which carries no minus. Else the digits before it are not read in vain.
+/// The byte of a digit without the minus that it may carry.
 #[inline(always)]
-fn ends_in_digit(bytes: &[u8]) -> bool {
-    match bytes {
-        [.., last] => last.is_ascii_digit(),
-        [] => false,
-    }
-}
-
-/// The same number, with whatever sign.
-#[inline(never)]
-fn marked_number(item: Numeric, bytes: &[u8]) -> Option<Short>
-    requires item { IsNumeric item }
-    requires length { length bytes.now ≡ length_of item }
-    ensures { result ≡ value_of item bytes.now }
+fn unmarked(byte: u8) -> u8
+    ensures { result ≡ (if nat_le 112 byte then byte - 64 else byte) }
 {
-    any_number(item, bytes)
+    if byte >= MARKED_ZERO {
+        byte - MINUS_MARK
+    } else {
+        byte
+    }
 }
 
 /// The number in the bytes of a numeric item, if they hold one.

@@ -9,6 +9,7 @@ ghost use Rattle.data_machine.specs.Finds.{FindsItem};
 
 use crate::data::Data;
 use crate::seen::{part_of, seen};
+use crate::superinstruction_work::item_of;
 use data_instructions::{DataTables, ProgramFault};
 
 impl Data {
@@ -27,15 +28,9 @@ impl Data {
         ensures keeps { KeepsRoom self.old self.new }
     {
         let place = self.places.pop();
-        let number = self.numbers.pop();
-        let one = &tables.items.as_slice()[place.item.number as usize];
+        let one = item_of(tables, place.item);
         let part = part_of(one, place.length);
-        let one = seen(one, &part);
-        let size_error = self.areas.store(one, place.offset, number, rounded, keep)?;
-        if size_error {
-            self.truth = true;
-        }
-        Ok(())
+        self.give_at(seen(one, &part), place.offset, rounded, keep)
     }
 
     /// `clear truth`: no size error arose.

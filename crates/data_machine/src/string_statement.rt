@@ -118,10 +118,19 @@ impl Data {
         ensures keeps { KeepsRoom self.old self.new }
     {
         let place = self.places.pop();
-        let one = &tables.items.as_slice()[place.item.number as usize];
+        let one = item_of(tables, place.item);
         let part = part_of(one, place.length);
-        let one = seen(one, &part);
-        self.truth = put_from_first(&mut self.areas, one, place.offset, self.line.bytes());
+        self.string_first_at(seen(one, &part), place.offset)
+    }
+
+    /// The same with an item at an offset.
+    fn string_first_at(&mut self, one: &DataItem, offset: usize) -> Result<(), ProgramFault>
+        requires { IsAtOffset one.now self.old.areas offset }
+        ensures does { IsStepOf result (scratch_of self.new)
+            (spec.strung_to None 1 (item_place one.now offset) (scratch_of self.old)) }
+        ensures keeps { KeepsRoom self.old self.new }
+    {
+        self.truth = put_from_first(&mut self.areas, one, offset, self.line.bytes());
         self.line.clear();
         Ok(())
     }

@@ -1,0 +1,50 @@
+use Rattle.std.proofs.Common.{ap}
+use Rattle.std.specs.Prelude.{Ok}
+use Rattle.items.specs.Texts.{padded_text}
+use Rattle.source_tree.specs.References.{storage_with}
+use Rattle.data_instructions.specs.declared.tables.DataItem.{DataItem}
+use Rattle.data_instructions.specs.Scratch.{Continues}
+use Rattle.data_machine.specs.Data.{scratch_of}
+use Rattle.data_machine.proofs.Newest.{some_place, item_within, item_whole, part_editing, seen_stands, newest_does}
+use Rattle.data_machine.proofs.data.Data.accept.Goals as goal
+
+pub pop-place-requires : goal.pop-place-requires
+pop-place-requires c =
+    some_place c.args.tables.now c.args.self.now.areas c.args.self.now.places.newest_first c.requires.operand
+
+pub item_of-one-requires : goal.item_of-one-requires
+item_of-one-requires c =
+    item_within c.args.tables.now c.args.self.now.areas c.args.self.now.places.newest_first
+    c.requires.operand c.pop-place.result c.pop-place.new.self.newest_first c.pop-place.ensures.newest
+
+pub seen-requires-clause-whole : goal.seen-requires-clause-whole
+seen-requires-clause-whole c =
+    item_whole c.args.tables.now c.args.self.now.areas c.args.self.now.places.newest_first
+    c.requires.operand c.pop-place.result c.pop-place.new.self.newest_first c.pop-place.ensures.newest
+    c.item_of-one.result.now c.item_of-one.ensures
+
+pub seen-requires-clause-shortened : goal.seen-requires-clause-shortened
+seen-requires-clause-shortened c =
+    part_editing c.args.tables.now c.args.self.now.areas c.args.self.now.places.newest_first
+    c.requires.operand c.pop-place.result c.pop-place.new.self.newest_first c.pop-place.ensures.newest
+    c.item_of-one.result.now c.item_of-one.ensures c.part_of-part.result
+    (ap (λ (d : DataItem). d.item.length) c.part_of-part.ensures)
+
+pub accept_at-requires : goal.accept_at-requires
+accept_at-requires c =
+    seen_stands c.args.tables.now c.args.self.now.areas c.args.self.now.places.newest_first
+    c.requires.operand c.pop-place.result c.pop-place.new.self.newest_first c.pop-place.ensures.newest
+    c.item_of-one.result.now c.item_of-one.ensures c.part_of-part.result
+    (ap (λ (d : DataItem). d.item.length) c.part_of-part.ensures)
+    c.seen.result.now c.seen.ensures
+
+pub returns-clause-does : goal.returns-clause-does
+returns-clause-does c =
+    newest_does c.args.tables.now c.args.self.now.areas c.args.self.now.places.newest_first
+    c.requires.operand c.pop-place.result c.pop-place.new.self.newest_first c.pop-place.ensures.newest
+    c.item_of-one.result.now c.item_of-one.ensures c.part_of-part.result
+    (ap (λ (d : DataItem). d.item.length) c.part_of-part.ensures)
+    c.seen.result.now c.seen.ensures (Ok c.pop-place.result) (scratch_of c.accept_at.new.self)
+    (scratch_of c.args.self.now) (λ place t. Continues
+    (record t { storage = storage_with place (padded_text place.item.length c.args.line.now) t.storage }))
+    c.pop-place.ensures.newest c.accept_at.ensures.does
