@@ -160,7 +160,8 @@ module _ (m : Map) (files : Files) (holds : MapHolds m files) (name : List ℕ) 
       let root : TreeLevels = tree_levels (catalog_at m.mark catalog) stands.levels in
       let P : FileTrees → Type 0 = IsKept m.generation in
       let Q : FileTrees → Type 0 = IsKept (m.generation + 1) in
-      let older : All Q (here.before ++ here.after) = All-weaker P Q (next_kept m.generation) (here.before ++ here.after)
+      let older : All Q (here.before ++ here.after) = All-weaker P Q (next_kept m.generation) (here.before ++
+      here.after)
       (subst (λ (l : List FileTrees). All P l) here.is holds.keeps.each) in
       let parted : flat_map trees_of holds.kept ≡ flat_map trees_of here.before ++ flat_map trees_of here.after =
       ap (flat_map trees_of) here.is ∙ flat_map-append trees_of here.before here.after in

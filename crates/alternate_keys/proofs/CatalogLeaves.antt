@@ -13,7 +13,7 @@ use Rattle.pages.specs.Pages.{map_now}
 use Rattle.pages.specs.declared.page_map.PageMap.{PageMap}
 use Rattle.btree_pages.specs.declared.row_layout.Kind.TheVariants.{Leaf}
 use Rattle.btree_pages.specs.declared.row_layout.RowLayout.{RowLayout}
-use Rattle.btree_pages.specs.Edits.{empty_node, node_with_row}
+use Rattle.btree_pages.specs.EditsPages.{empty_node, node_with_row}
 use Rattle.btree_pages.specs.Keys.{Ascend, key_of, keys_of}
 use Rattle.btree_pages.specs.Node.{Node}
 use Rattle.btree_pages.specs.RowLayouts.{capacity, rest_length}

@@ -17,7 +17,7 @@ use Rattle.pages.specs.Volumes.{volume_of}
 use Rattle.pages.specs.declared.change.Change.{Change}
 use Rattle.pages.specs.declared.page_map.PageMap.{PageMap}
 use Rattle.pages.specs.declared.volume.VolumeMap.{VolumeMap}
-use Rattle.pages.proofs.Edits.{Away, away_same, length-applied}
+use Rattle.pages.proofs.EditsPages.{Away, away_same, length-applied}
 
 abbrev page_in : Change → ℕ
 page_in c = c.page

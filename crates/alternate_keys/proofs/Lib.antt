@@ -1,6 +1,9 @@
 pub mod Least
 pub mod Aims
 pub mod Sought
+pub mod RowForms
+pub mod Seeing
+pub mod ThereSeen
 pub mod Tells
 pub mod RowFor
 pub mod Faults

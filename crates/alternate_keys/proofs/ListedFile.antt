@@ -22,7 +22,7 @@ use Rattle.volume_format.specs.Forest.{TreeLevels}
 use Rattle.volume_format.specs.Grows.{IsTreeAmong}
 use Rattle.volume_format.specs.Volume.{MapHolds, catalog_entry}
 use Rattle.alternate_keys.specs.Among.{OnAmong}
-use Rattle.alternate_keys.specs.Calls.{Edits}
+use Rattle.row_trees.specs.Calls.{EditsPages}
 use Rattle.alternate_keys.specs.Listed.{catalog_at}
 use Rattle.alternate_keys.specs.Moved.{named_after}
 use Rattle.alternate_keys.specs.Placed.{HasFileTrees}
@@ -119,7 +119,7 @@ module _ {D : Type 0} (d : Devices D) where
             listing
 
       pub changed_from : {A B : Type 0} {changed : FileChange} {listing : List ℕ} {q r : PageMap} {b c : D}
-          → LooksAt d A p a q b → Edits d B q b r c
+          → LooksAt d A p a q b → EditsPages d B q b r c
           → HasFileTrees (named_after named_at changed) (map_at.generation + 1)
           (pages_on d r b) lefts rights listing → HoldsChanged changed listing r c
       changed_from {changed} {listing} {r} looks edits placed =
@@ -154,7 +154,8 @@ module _ {D : Type 0} (d : Devices D) where
               put.placed (catalog_of q) put.catalog)
 
           -- the files, once the catalog says it, with their number of rows
-          pub files_listed : {A : Type 0} {r : PageMap} {c : D} {asked value : List ℕ} (rows : ℕ) → Edits d A q b r c
+          pub files_listed : {A : Type 0} {r : PageMap} {c : D} {asked value : List ℕ} (rows : ℕ) → EditsPages d A q b r
+              c
               → asked ≡ name → value ≡ listing
               → catalog_value map_at.mark listing rows ≡ catalog_value map_at.mark listing (length changed.file.rows)
               → OnAmong d (catalog_at (mark_of q) (catalog_of q)) q b (λ left right entries.

@@ -37,7 +37,7 @@ use Rattle.volume_format.specs.Catalog.{catalog_layout}
 use Rattle.volume_format.specs.Faults.{fault_of}
 use Rattle.volume_format.specs.Forest.{IsForest}
 use Rattle.volume_format.specs.Volume.{Holds, MapHolds, catalog_entry, trees_of}
-use Rattle.alternate_keys.specs.Calls.{Edits}
+use Rattle.row_trees.specs.Calls.{EditsPages}
 use Rattle.alternate_keys.specs.Created.{Prepares}
 use Rattle.alternate_keys.specs.Faults.{IsWriteFault}
 use Rattle.alternate_keys.specs.Held.{held_law}
@@ -58,7 +58,7 @@ not_second Second never = absurd (never refl)
 
 -- a call on pages alone
 pub edits_kept : {D : Type 0} (d : Devices D) (p q : PageMap) (a : D) → IsOpen p → KeepsCommitted p q
-    → Edits d ⊥ p a q a
+    → EditsPages d ⊥ p a q a
 edits_kept d p q a is keeps = record {
   only = reads_nothing d a;
   committed = keeps.committed;

@@ -6,7 +6,6 @@ pub mod Stands
 pub mod Opened
 pub mod Among
 pub mod NewRow
-pub mod Calls
 pub mod Placed
 pub mod Held
 pub mod Settles

@@ -6,7 +6,7 @@ ghost use Rattle.pages.specs.Pages.{map_now, is_spent, sectors_of, Agrees, IsOpe
 ghost use Rattle.records.specs.Rows.{Row};
 ghost use Rattle.records.specs.Order.{RowBound, sought_row, found_row};
 ghost use Rattle.records.specs.Stores.{spec_of, IsKey, record_of};
-ghost use Rattle.btree.specs.Reading.{IsReadRefusal};
+ghost use Rattle.row_trees.specs.Reading.{IsRecordRefusal};
 ghost use Rattle.alternate_keys.specs.Seen.{IsSought};
 
 use crate::found_rows::{read_alternate_row, read_prime_row};
@@ -15,12 +15,15 @@ use crate::search_start::SearchStart;
 use btree::Tree;
 use pages::{PageMap, PagesError};
 use records::{FileSpec, Found, KeyOfReference};
+use row_trees::RowTree;
 use station::Device;
+use std::alloc::Global;
 
 /// Seeks a row in the trees of a file: the tree of the rows, and that of the key, which is looked into from `at` on. The row's record
 /// is put into `bytes`, which stays where there is no such row, and after a refusal.
 pub fn seek_row<D: Device>(
-    prime: &Tree,
+    alloc: Global,
+    prime: &RowTree,
     under: &Tree,
     pages: &mut PageMap,
     device: &mut D,
@@ -33,7 +36,7 @@ pub fn seek_row<D: Device>(
     requires open { IsOpen pages.old }
     requires sectors { sectors_of pages.old ≤ D.sectors device.old }
     requires key { IsKey (spec_of file.now) key }
-    requires short { (prime.now.layout.key_length ≤ 128) × (under.now.layout.key_length ≤ 128) }
+    requires short { under.now.layout.key_length ≤ 128 }
     ensures only { OnlyReads D.Device (result ≡ Err PagesError.Device) device.old device.new }
     ensures unchanged { IsUnchanged pages.old pages.new }
     ensures agrees { D.is_honest device.old → Agrees pages.old (D.state device.old).disk
@@ -58,7 +61,7 @@ pub fn seek_row<D: Device>(
         length bytes.old ≡ file.now.record_length → ⊥ }
     ensures spent { result ≡ Err PagesError.Spent → is_spent pages.old ≡ true }
     ensures kept { OnErr result (bytes.new ≡ bytes.old) }
-    ensures cause { IfErr result IsReadRefusal }
+    ensures cause { IfErr result IsRecordRefusal }
 {
     let entry = match look(under, pages, device, aim, at)? {
         Some(entry) => entry,
@@ -66,12 +69,15 @@ pub fn seek_row<D: Device>(
     };
     match key {
         KeyOfReference::Prime => {
-            let told = read_prime_row(file.organization, &entry, bytes)?;
+            let organization = file.organization;
+            let told = read_prime_row(alloc, prime, pages, device, organization, &entry, bytes)?;
             Ok(Some(told))
         }
         KeyOfReference::Alternate(_) => {
             let length = file.key_place(key).length as usize;
-            let told = read_alternate_row(prime, under, pages, device, length, &entry, bytes)?;
+            let told = read_alternate_row(
+                alloc, prime, under, pages, device, length, &entry, bytes,
+            )?;
             Ok(Some(told))
         }
     }

@@ -10,7 +10,7 @@ ghost use Rattle.records.specs.Stores.{spec_of, Has, IsKey, key_length, bound_at
 ghost use Rattle.volume_format.specs.Volume.{MapHolds};
 ghost use Rattle.alternate_keys.specs.Faults.{IsReadFault};
 
-use crate::file_tree::file_tree;
+use crate::file_tree::{file_tree, row_tree};
 use crate::listing::find_listing;
 use crate::search_keys::{key_for, search_start_for};
 use crate::seek::seek_row;
@@ -64,11 +64,13 @@ pub(crate) fn seek_in<D: Device>(
         Some(entry) => entry,
         None => return Ok(None),
     };
-    let prime = file_tree(alloc, file, KeyOfReference::Prime, listing_part(&entry));
+    let prime = row_tree(alloc, file, listing_part(&entry));
     let under = file_tree(alloc, file, key, listing_part(&entry));
     let at = key_for(alloc, file, key, side, value, number)?;
     let aim = search_start_for(file, key, side, value, number);
-    match seek_row(&prime, &under, pages, device, file, key, aim, &at, bytes) {
+    match seek_row(
+        alloc, &prime, &under, pages, device, file, key, aim, &at, bytes,
+    ) {
         Ok(found) => Ok(found),
         Err(error) => Err(to_fault(error)),
     }

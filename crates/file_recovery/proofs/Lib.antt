@@ -3,6 +3,9 @@ pub mod Passed
 pub mod Calling
 pub mod Faults
 pub mod Entered
+pub mod Following
+pub mod ChainedRows
+pub mod PlantedRows
 pub mod Matching
 pub mod Halving
 pub mod PairsOf

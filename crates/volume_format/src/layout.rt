@@ -2,7 +2,7 @@
 ghost use Rattle.std.specs.Prelude.{◌≡◌};
 ghost use Rattle.btree_pages.specs.RowLayouts.{IsRowLayout};
 ghost use Rattle.records.specs.Stores.{spec_of, IsKey};
-ghost use Rattle.volume_format.specs.Chained.{is_long, kept_bytes};
+ghost use Rattle.volume_format.specs.Chained.{is_long, chained_bytes, kept_bytes};
 ghost use Rattle.volume_format.specs.Trees.{layout_under};
 
 use crate::laws::layouts_fit;
@@ -44,6 +44,13 @@ pub fn is_long(file: &FileSpec) -> bool
     ensures { result ≡ is_long (spec_of file.now) }
 {
     LONGEST_IN_TREE < file.record_length
+}
+
+/// The bytes of each record of a file that are in a chain of pages, or 0 if its tree of rows has the records itself.
+pub fn chained_bytes(file: &FileSpec) -> u16
+    ensures { result ≡ chained_bytes (spec_of file.now) }
+{
+    if is_long(file) { file.record_length } else { 0 }
 }
 
 /// The bytes of a row's entry that stand for its record: the record, or the first page of its chain.

@@ -1,4 +1,4 @@
-use Rattle.std.proofs.Common.{◌≡◌, ◌+◌, ℕ, Bool, List, length, sym, ap, subst, ◌∙◌, arith}
+use Rattle.std.proofs.Common.{◌≡◌, inr, Err, ◌+◌, ℕ, Bool, List, length, sym, ap, subst, ◌∙◌, arith}
 use Rattle.std.specs.Prelude.{take, drop, Option, Some, None}
 use Rattle.std.specs.List.{flat_map}
 use Rattle.std.proofs.lemmas.List.{length-append, take_at}
@@ -6,9 +6,9 @@ use Rattle.std.proofs.lemmas.List.Elements.{All-contains}
 use Rattle.byteorder.specs.Endian.{big_bytes, big_number}
 use Rattle.station.specs.Disk.{Sector}
 use Rattle.pages.specs.Pages.{map_now}
-use Rattle.btree.specs.Tree.{IsTreeOrEmpty}
 use Rattle.btree.specs.Rooted.{RootedTree}
 use Rattle.btree.specs.Entries.{Entry, entries_of, entry_with}
+use Rattle.row_trees.specs.RowTree.{ChainedTree, IsRowTree}
 use Rattle.records.specs.declared.answer.Found.{Found}
 use Rattle.records.specs.declared.key.KeyOfReference.TheVariants.{Prime, Alternate}
 use Rattle.records.specs.Rows.{Row}
@@ -17,26 +17,119 @@ use Rattle.volume_format.specs.Pairs.{IsUnder}
 use Rattle.alternate_keys.specs.Aims.{found_entry}
 use Rattle.alternate_keys.specs.Seen.{begins_with_value}
 use Rattle.volume_format.specs.Trees.{entry_under}
-use Rattle.btree.proofs.Frames.{unchanged_on, same_pages}
+use Rattle.btree.proofs.Frames.{same_pages}
+use Rattle.btree.proofs.Passing.{never_ok, same_error}
+use Rattle.pages.specs.declared.error.PagesError.TheVariants.{Device, Damaged}
+use Rattle.volume_format.specs.Calls.{LooksAt}
+use Rattle.volume_format.proofs.Looks.{looks_then}
 use Rattle.alternate_keys.proofs.Tells.{repeated_is, row_there, alternate_number, alternate_long}
 use Rattle.alternate_keys.proofs.Faults.{refused_by_call}
+use Rattle.alternate_keys.proofs.found_rows.read_alternate_row.Given.{Over}
 use Rattle.alternate_keys.proofs.found_rows.read_alternate_row.Goals as goal
+use Rattle.alternate_keys.proofs.found_rows.read_alternate_row.Goals.{After-find}
+
+-- the calls only read
+both : (g : Over) (c : After-find g) (C : Type 0) → (C → c.find.result ≡ Err Device)
+    → LooksAt g.D.Device C c.args.pages.now c.args.device.now c.find.new.pages c.find.new.device
+both g c C from =
+    looks_then g.D.Device (c.is_repeated.result ≡ Err Device) (c.find.result ≡ Err Device) C _ _ _ _ _ _
+    (λ is. inr (from is)) (record {
+      only = c.is_repeated.ensures.only;
+      unchanged = c.is_repeated.ensures.unchanged;
+      agrees = c.is_repeated.ensures.agrees;
+      is_open = c.is_repeated.ensures.open;
+    }) c.find.ensures.looks
+
+damaged_clash : {A : Type 0} → Damaged ≡ Device → A
+damaged_clash is = cc
+
+pub returns-in_err-row-clause-only : goal.returns-in_err-row-clause-only
+returns-in_err-row-clause-only g c =
+    (both g (goal.at.returns-in_err-row-clause-only g c).After-find _
+    (λ is. refused_by_call c.in_err-row.was c.from_residual-in_err-row.ensures.1 is)).only
 
 pub returns-in_err-row-clause-unchanged : goal.returns-in_err-row-clause-unchanged
-returns-in_err-row-clause-unchanged g c = unchanged_on c.args.pages.now c.is_repeated.new.pages c.get.new.pages
-    c.is_repeated.ensures.unchanged c.get.ensures.unchanged
+returns-in_err-row-clause-unchanged g c =
+    (both g (goal.at.returns-in_err-row-clause-unchanged g c).After-find _
+    (λ is. refused_by_call c.in_err-row.was c.from_residual-in_err-row.ensures.1 is)).unchanged
+
+pub returns-in_err-row-clause-agrees : goal.returns-in_err-row-clause-agrees
+returns-in_err-row-clause-agrees g c =
+    (both g (goal.at.returns-in_err-row-clause-agrees g c).After-find _
+    (λ is. refused_by_call c.in_err-row.was c.from_residual-in_err-row.ensures.1 is)).agrees
+
+pub returns-in_err-row-clause-open : goal.returns-in_err-row-clause-open
+returns-in_err-row-clause-open g c =
+    (both g (goal.at.returns-in_err-row-clause-open g c).After-find _
+    (λ is. refused_by_call c.in_err-row.was c.from_residual-in_err-row.ensures.1 is)).is_open
+
+pub returns-in-None-clause-only : goal.returns-in-None-clause-only
+returns-in-None-clause-only g c =
+    (both g (goal.at.returns-in-None-clause-only g c).After-find _
+    (λ is. damaged_clash (same_error is))).only
 
 pub returns-in-None-clause-unchanged : goal.returns-in-None-clause-unchanged
-returns-in-None-clause-unchanged g c = unchanged_on c.args.pages.now c.is_repeated.new.pages c.get.new.pages
-    c.is_repeated.ensures.unchanged c.get.ensures.unchanged
+returns-in-None-clause-unchanged g c =
+    (both g (goal.at.returns-in-None-clause-unchanged g c).After-find _
+    (λ is. damaged_clash (same_error is))).unchanged
+
+pub returns-in-None-clause-agrees : goal.returns-in-None-clause-agrees
+returns-in-None-clause-agrees g c =
+    (both g (goal.at.returns-in-None-clause-agrees g c).After-find _
+    (λ is. damaged_clash (same_error is))).agrees
+
+pub returns-in-None-clause-open : goal.returns-in-None-clause-open
+returns-in-None-clause-open g c =
+    (both g (goal.at.returns-in-None-clause-open g c).After-find _
+    (λ is. damaged_clash (same_error is))).is_open
+
+pub returns-in_err-copy_record-clause-only : goal.returns-in_err-copy_record-clause-only
+returns-in_err-copy_record-clause-only g c =
+    (both g (goal.at.returns-in_err-copy_record-clause-only g c).After-find _
+    (λ is. damaged_clash (sym c.in_err-copy_record.ensures.err.0
+    ∙ same_error (sym c.in_err-copy_record.was
+    ∙ refused_by_call c.in_err-copy_record.was c.from_residual-in_err-copy_record.ensures.1 is)))).only
 
 pub returns-in_err-copy_record-clause-unchanged : goal.returns-in_err-copy_record-clause-unchanged
-returns-in_err-copy_record-clause-unchanged g c = unchanged_on c.args.pages.now c.is_repeated.new.pages c.get.new.pages
-    c.is_repeated.ensures.unchanged c.get.ensures.unchanged
+returns-in_err-copy_record-clause-unchanged g c =
+    (both g (goal.at.returns-in_err-copy_record-clause-unchanged g c).After-find _
+    (λ is. damaged_clash (sym c.in_err-copy_record.ensures.err.0
+    ∙ same_error (sym c.in_err-copy_record.was
+    ∙ refused_by_call c.in_err-copy_record.was c.from_residual-in_err-copy_record.ensures.1 is)))).unchanged
+
+pub returns-in_err-copy_record-clause-agrees : goal.returns-in_err-copy_record-clause-agrees
+returns-in_err-copy_record-clause-agrees g c =
+    (both g (goal.at.returns-in_err-copy_record-clause-agrees g c).After-find _
+    (λ is. damaged_clash (sym c.in_err-copy_record.ensures.err.0
+    ∙ same_error (sym c.in_err-copy_record.was
+    ∙ refused_by_call c.in_err-copy_record.was c.from_residual-in_err-copy_record.ensures.1 is)))).agrees
+
+pub returns-in_err-copy_record-clause-open : goal.returns-in_err-copy_record-clause-open
+returns-in_err-copy_record-clause-open g c =
+    (both g (goal.at.returns-in_err-copy_record-clause-open g c).After-find _
+    (λ is. damaged_clash (sym c.in_err-copy_record.ensures.err.0
+    ∙ same_error (sym c.in_err-copy_record.was
+    ∙ refused_by_call c.in_err-copy_record.was c.from_residual-in_err-copy_record.ensures.1 is)))).is_open
+
+pub returns-clause-only : goal.returns-clause-only
+returns-clause-only g c =
+    (both g (goal.at.returns-clause-only g c).After-find _
+    (λ is. never_ok is)).only
 
 pub returns-clause-unchanged : goal.returns-clause-unchanged
-returns-clause-unchanged g c = unchanged_on c.args.pages.now c.is_repeated.new.pages c.get.new.pages
-    c.is_repeated.ensures.unchanged c.get.ensures.unchanged
+returns-clause-unchanged g c =
+    (both g (goal.at.returns-clause-unchanged g c).After-find _
+    (λ is. never_ok is)).unchanged
+
+pub returns-clause-agrees : goal.returns-clause-agrees
+returns-clause-agrees g c =
+    (both g (goal.at.returns-clause-agrees g c).After-find _
+    (λ is. never_ok is)).agrees
+
+pub returns-clause-open : goal.returns-clause-open
+returns-clause-open g c =
+    (both g (goal.at.returns-clause-open g c).After-find _
+    (λ is. never_ok is)).is_open
 
 pub returns-in_err-row-clause-damaged : goal.returns-in_err-row-clause-damaged
 returns-in_err-row-clause-damaged g c = λ honest agrees is spec i rows row told fits.
@@ -44,11 +137,11 @@ returns-in_err-row-clause-damaged g c = λ honest agrees is spec i rows row told
     let same =
     same_pages c.args.pages.now c.is_repeated.new.pages (g.D.Device.state c.args.device.now) (g.D.Device.state
     c.is_repeated.new.device) c.is_repeated.ensures.unchanged (c.is_repeated.ensures.only.state honest) in
-    let prime : RootedTree = c.args.prime.now in
-    let here = subst (λ (p : List (Option Sector)). IsTreeOrEmpty prime.layout p prime.root told.there.levels)
-    (sym same) told.there.holds in
-    c.get.ensures.damaged (c.is_repeated.ensures.only.honest.0 honest) (c.is_repeated.ensures.agrees honest agrees)
-    damaged told.there.levels here
+    let prime : ChainedTree = c.args.prime.now in
+    let here = subst (λ (p : List (Option Sector)). IsRowTree p prime told.there.planted) (sym same)
+    told.there.stands in
+    c.find.ensures.damaged (c.is_repeated.ensures.only.honest.0 honest) (c.is_repeated.ensures.agrees honest agrees)
+    told.there.planted here damaged
 
 pub returns-in-None-clause-damaged : goal.returns-in-None-clause-damaged
 returns-in-None-clause-damaged g c = λ honest agrees is spec i rows row told fits.
@@ -57,13 +150,13 @@ returns-in-None-clause-damaged g c = λ honest agrees is spec i rows row told fi
     let same =
     same_pages c.args.pages.now c.is_repeated.new.pages (g.D.Device.state c.args.device.now) (g.D.Device.state
     c.is_repeated.new.device) c.is_repeated.ensures.unchanged (c.is_repeated.ensures.only.state honest) in
-    let prime : RootedTree = c.args.prime.now in
-    let here = subst (λ (p : List (Option Sector)). IsTreeOrEmpty prime.layout p prime.root told.there.levels)
-    (sym same) told.there.holds in
-    let got = c.in_ok-row.ensures.entry (c.is_repeated.ensures.only.honest.0 honest)
-    (c.is_repeated.ensures.agrees honest agrees) told.there.levels here in
+    let prime : ChainedTree = c.args.prime.now in
+    let here = subst (λ (p : List (Option Sector)). IsRowTree p prime told.there.planted) (sym same)
+    told.there.stands in
+    let got = c.in_ok-row.ensures.row (c.is_repeated.ensures.only.honest.0 honest)
+    (c.is_repeated.ensures.agrees honest agrees) told.there.planted here in
     let there = row_there spec i c.args.value_length pages rows prime c.args.under.now c.args.entry.now row told in
-    let found = got ∙ ap (entry_with (entries_of prime.layout told.there.levels)) c.value.ensures ∙ there in
+    let found = got ∙ ap (entry_with told.there.planted.entries) c.value.ensures ∙ there in
     let clash : None ≡ Some (entry_under spec Prime row) = sym c.in-None.is ∙ found in
     cc
 
@@ -74,17 +167,18 @@ returns-in_err-copy_record-clause-damaged g c = λ honest agrees is spec i rows 
     let same =
     same_pages c.args.pages.now c.is_repeated.new.pages (g.D.Device.state c.args.device.now) (g.D.Device.state
     c.is_repeated.new.device) c.is_repeated.ensures.unchanged (c.is_repeated.ensures.only.state honest) in
-    let prime : RootedTree = c.args.prime.now in
-    let here = subst (λ (p : List (Option Sector)). IsTreeOrEmpty prime.layout p prime.root told.there.levels)
-    (sym same) told.there.holds in
-    let got = c.in_ok-row.ensures.entry (c.is_repeated.ensures.only.honest.0 honest)
-    (c.is_repeated.ensures.agrees honest agrees) told.there.levels here in
+    let prime : ChainedTree = c.args.prime.now in
+    let here = subst (λ (p : List (Option Sector)). IsRowTree p prime told.there.planted) (sym same)
+    told.there.stands in
+    let got = c.in_ok-row.ensures.row (c.is_repeated.ensures.only.honest.0 honest)
+    (c.is_repeated.ensures.agrees honest agrees) told.there.planted here in
     let there = row_there spec i c.args.value_length pages rows prime c.args.under.now c.args.entry.now row told in
-    let found = got ∙ ap (entry_with (entries_of prime.layout told.there.levels)) c.value.ensures ∙ there in
+    let found = got ∙ ap (entry_with told.there.planted.entries) c.value.ensures ∙ there in
     let some : Some c.in-Some.row ≡ Some (entry_under spec Prime row) = sym c.in-Some.is ∙ found in
     let whole : c.in-Some.row ≡ entry_under spec Prime row = cc in
     let count =
-    ap (λ (e : Entry). length e.value) whole ∙ length-append row.bytes (flat_map (big_bytes 8) row.arrivals) in
+    ap (λ (l : List ℕ). length l) c.value-2.ensures ∙ ap (λ (e : Entry). length e.value) whole
+    ∙ length-append row.bytes (flat_map (big_bytes 8) row.arrivals) in
     let record_is =
     All-contains (λ (r : Row). length r.bytes ≡ spec.record_length) rows row told.there.records told.has in
     let low = c.in_err-copy_record.ensures.err.1 in
@@ -126,16 +220,17 @@ returns-clause-bytes g c = λ honest agrees spec i rows row told fits.
     let same =
     same_pages c.args.pages.now c.is_repeated.new.pages (g.D.Device.state c.args.device.now) (g.D.Device.state
     c.is_repeated.new.device) c.is_repeated.ensures.unchanged (c.is_repeated.ensures.only.state honest) in
-    let prime : RootedTree = c.args.prime.now in
-    let here = subst (λ (p : List (Option Sector)). IsTreeOrEmpty prime.layout p prime.root told.there.levels)
-    (sym same) told.there.holds in
-    let got = c.in_ok-row.ensures.entry (c.is_repeated.ensures.only.honest.0 honest)
-    (c.is_repeated.ensures.agrees honest agrees) told.there.levels here in
+    let prime : ChainedTree = c.args.prime.now in
+    let here = subst (λ (p : List (Option Sector)). IsRowTree p prime told.there.planted) (sym same)
+    told.there.stands in
+    let got = c.in_ok-row.ensures.row (c.is_repeated.ensures.only.honest.0 honest)
+    (c.is_repeated.ensures.agrees honest agrees) told.there.planted here in
     let there = row_there spec i c.args.value_length pages rows prime c.args.under.now c.args.entry.now row told in
-    let found = got ∙ ap (entry_with (entries_of prime.layout told.there.levels)) c.value.ensures ∙ there in
+    let found = got ∙ ap (entry_with told.there.planted.entries) c.value.ensures ∙ there in
     let some : Some c.in-Some.row ≡ Some (entry_under spec Prime row) = sym c.in-Some.is ∙ found in
     let whole : c.in-Some.row ≡ entry_under spec Prime row = cc in
     let record_is =
     All-contains (λ (r : Row). length r.bytes ≡ spec.record_length) rows row told.there.records told.has in
-    c.in_ok-copy_record.ensures.ok ∙ ap (λ (e : Entry). take (length c.args.bytes.now) e.value) whole
+    c.in_ok-copy_record.ensures.ok ∙ ap (take (length c.args.bytes.now)) c.value-2.ensures
+    ∙ ap (λ (e : Entry). take (length c.args.bytes.now) e.value) whole
     ∙ take_at row.bytes (flat_map (big_bytes 8) row.arrivals) (length c.args.bytes.now) (record_is ∙ sym fits)

@@ -25,7 +25,7 @@ use Rattle.alternate_keys.proofs.seeking.seek_in.Goals.{After-seek_row}
 knows : (g : Over) (c : After-seek_row g) → OnFile g.D.Device c.args.file.now c.args.pages.now c.args.device.now
     (λ files held. Knows (map_now c.args.pages.now (g.D.Device.state c.args.device.now).disk.present)
     (file_at c.args.file.now.name.items files) held (spec_of c.args.file.now) c.args.key c.in_ok-entry.field-0
-    c.in-Some.entry c.file_tree-prime.result c.file_tree-under.result)
+    c.in-Some.entry c.row_tree-prime.result c.file_tree-under.result)
 knows g c honest agrees files held holds has =
     let image = (g.D.Device.state c.args.device.now).disk.present in
     let bounds = c.map_bounds.ensures.open c.args.pages.now image c.requires.open c.requires.unspent in
@@ -39,8 +39,9 @@ knows g c honest agrees files held holds has =
       spec_is = has.spec;
       good = c.args.file.now.sound;
       key_is = c.requires.key;
-      prime_layout = c.file_tree-prime.ensures.layout;
-      prime_root = c.file_tree-prime.ensures.root ∙ ap (root_in Prime) c.listing_part.ensures.part;
+      prime_layout = c.row_tree-prime.ensures.layout;
+      prime_root = c.row_tree-prime.ensures.root ∙ ap (root_in Prime) c.listing_part.ensures.part;
+      prime_form = c.row_tree-prime.ensures.form;
       under_layout = c.file_tree-under.ensures.layout;
       under_root = c.file_tree-under.ensures.root ∙ ap (root_in c.args.key) c.listing_part-2.ensures.part;
     }
@@ -49,12 +50,12 @@ knows g c honest agrees files held holds has =
 sought : (g : Over) (c : After-seek_row g) → OnFile g.D.Device c.args.file.now c.args.pages.now c.args.device.now
     (λ files held. IsSought (spec_of c.args.file.now) c.args.key
     (bound_at c.args.side c.args.value.now c.args.number)
-    (pages_on g.D.Device c.find_listing.new.pages c.find_listing.new.device) held.rows c.file_tree-prime.result
+    (pages_on g.D.Device c.find_listing.new.pages c.find_listing.new.device) held.rows c.row_tree-prime.result
     c.file_tree-under.result c.search_start_for-aim.result c.deref-2.result.now)
 sought g c honest agrees files held holds has =
     let way = sought_in _ _ held (spec_of c.args.file.now) c.args.key
     (bound_at c.args.side c.args.value.now c.args.number) c.in_ok-entry.field-0 c.in-Some.entry
-    c.file_tree-prime.result c.file_tree-under.result c.search_start_for-aim.result c.deref-2.result.now
+    c.row_tree-prime.result c.file_tree-under.result c.search_start_for-aim.result c.deref-2.result.now
     (knows g c honest agrees files held holds has)
     (record { value = c.requires.value; number = let low = c.ranges.number.fits in omega arith })
     c.search_start_for-aim.ensures (c.deref-2.ensures.value ∙ c.in_ok-at.ensures.bytes) in
@@ -62,7 +63,7 @@ sought g c honest agrees files held holds has =
     (g.D.Device.state c.find_listing.new.device) c.find_listing.ensures.unchanged
     (c.find_listing.ensures.only.state honest) in
     subst (λ (p : List (Option Sector)). IsSought (spec_of c.args.file.now) c.args.key
-    (bound_at c.args.side c.args.value.now c.args.number) p held.rows c.file_tree-prime.result
+    (bound_at c.args.side c.args.value.now c.args.number) p held.rows c.row_tree-prime.result
     c.file_tree-under.result c.search_start_for-aim.result c.deref-2.result.now) (sym same) way
 
 pub returns-in_err-entry-clause-damaged : goal.returns-in_err-entry-clause-damaged
@@ -90,10 +91,8 @@ pub seek_row-requires-clause-short : goal.seek_row-requires-clause-short
 seek_row-requires-clause-short g c =
     let spec : Spec = spec_of c.args.file.now in
     let sound = c.args.file.now.sound in
-    let P : RowLayout → Type 0 = λ l. l.key_length ≤ 128 in (
-      subst P (sym c.file_tree-prime.ensures.layout) (layout_short spec Prime sound (omega arith)),
-      subst P (sym c.file_tree-under.ensures.layout) (layout_short spec c.args.key sound c.requires.key),
-    )
+    let P : RowLayout → Type 0 = λ l. l.key_length ≤ 128 in
+    subst P (sym c.file_tree-under.ensures.layout) (layout_short spec c.args.key sound c.requires.key)
 
 pub returns-in-Ok-clause-unchanged : goal.returns-in-Ok-clause-unchanged
 returns-in-Ok-clause-unchanged g c = unchanged_on c.args.pages.now c.find_listing.new.pages c.seek_row.new.pages
