@@ -18,9 +18,9 @@ use Rattle.volume_format.specs.Chained.{is_long, kept_bytes}
 use Rattle.volume_format.specs.Trees.{layout_under}
 use Rattle.records.proofs.Places.{both, all_places, spec as spec_with}
 
-pub short_record : (s : Spec) → is_spec s ≡ true → s.record_length ≤ 1000
-short_record s is = leb-true s.record_length 1000
-    (both (nat_le 1 s.record_length) _ (both (nat_le 1 s.record_length && nat_le s.record_length 1000) _ is).0).1
+pub short_record : (s : Spec) → is_spec s ≡ true → s.record_length ≤ 16000
+short_record s is = leb-true s.record_length 16000
+    (both (nat_le 1 s.record_length) _ (both (nat_le 1 s.record_length && nat_le s.record_length 16000) _ is).0).1
 
 few_keys : (n : ℕ) (o : Organization) (keys : List AlternateKey) → are_keys n o keys ≡ true → length keys ≤ 7
 few_keys n Sequential keys is = let none : length keys ≡ 0 = eqb-true _ _ is in omega arith
@@ -33,7 +33,7 @@ few_keys n (Indexed place) keys is =
 
 pub few_alternates : (s : Spec) → is_spec s ≡ true → length s.alternates ≤ 7
 few_alternates s is = few_keys s.record_length s.organization s.alternates
-    (both (nat_le 1 s.record_length && nat_le s.record_length 1000) _ is).1
+    (both (nat_le 1 s.record_length && nat_le s.record_length 16000) _ is).1
 
 -- keys have at most 100 bytes, and one at least where the file has keys
 sized : (n : ℕ) (place : KeyPlace) → is_place n place ≡ true → (1 ≤ place.length) × (place.length ≤ 100)
