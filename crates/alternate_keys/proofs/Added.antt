@@ -13,7 +13,7 @@ use Rattle.btree_pages.specs.Keys.{key_cmp}
 use Rattle.btree.specs.Entries.{Entry, with_new_entry}
 use Rattle.records.specs.Spec.{Spec, is_name}
 use Rattle.records.specs.Rows.{bytes_cmp}
-use Rattle.records.specs.Files.{File, Files, NamedFile, IsNamed, AreFiles, empty_file, file_at, with_file}
+use Rattle.records.specs.Files.{File, Files, NamedFile, IsNamed, AreFiles, AreShort, empty_file, file_at, with_file}
 use Rattle.file_bytes.specs.Description.{padded_name}
 use Rattle.volume_format.specs.Catalog.{listing_bytes, catalog_value}
 use Rattle.volume_format.specs.Forest.{TreeLevels, IsForest, tree_levels}
@@ -154,13 +154,15 @@ module _ (m : Map) (files : Files) (holds : MapHolds m files) (name : List ℕ) 
       listing ≡ listing_bytes
       (record { spec = spec; prime = 0; alternates = replicate (length spec.alternates) 0; next_arrival = 1 })
       → AreFiles (with_file name (empty_file spec) files)
+      → (m.mark ≡ 0 → AreShort (with_file name (empty_file spec) files))
       → MapHolds (map_with m.mark (m.generation + 1) catalog pages) (with_file name (empty_file spec) files)
-  holds_added pages catalog listing stands says are =
+  holds_added pages catalog listing stands says are short =
       let here = gap in
       let root : TreeLevels = tree_levels (catalog_at m.mark catalog) stands.levels in
       let P : FileTrees → Type 0 = IsKept m.generation in
       let Q : FileTrees → Type 0 = IsKept (m.generation + 1) in
-      let older : All Q (here.before ++ here.after) = All-weaker P Q (next_kept m.generation) (here.before ++ here.after)
+      let older : All Q (here.before ++ here.after) = All-weaker P Q (next_kept m.generation) (here.before ++
+      here.after)
       (subst (λ (l : List FileTrees). All P l) here.is holds.keeps.each) in
       let parted : flat_map trees_of holds.kept ≡ flat_map trees_of here.before ++ flat_map trees_of here.after =
       ap (flat_map trees_of) here.is ∙ flat_map-append trees_of here.before here.after in
@@ -192,4 +194,5 @@ module _ (m : Map) (files : Files) (holds : MapHolds m files) (name : List ℕ) 
             ∙ ap (λ (l : List FileTrees). with_file name (empty_file spec) (named_of l)) here.is
             ∙ added_in name here.before new here.after refl here.lower here.above);
         are = are;
+        short = short;
       }

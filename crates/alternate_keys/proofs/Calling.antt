@@ -9,13 +9,13 @@ use Rattle.pages.specs.Pages.{sectors_of, Agrees, IsOpen, SameCommitted}
 use Rattle.pages.specs.declared.page_map.PageMap.{PageMap}
 use Rattle.volume_format.specs.Calls.{LooksAt}
 use Rattle.volume_format.proofs.Looks.{reads_blamed, looks_nowhere}
-use Rattle.alternate_keys.specs.Calls.{Edits}
+use Rattle.row_trees.specs.Calls.{EditsPages}
 use Rattle.alternate_keys.specs.Created.{Prepares}
 use Rattle.alternate_keys.proofs.Still.{same_volume}
 
 module _ {D : Type 0} (d : Devices D) where
   -- a call that only reads changes nothing
-  pub looks_edits : (A : Type 0) (p q : PageMap) (a b : D) → LooksAt d A p a q b → Edits d A p a q b
+  pub looks_edits : (A : Type 0) (p q : PageMap) (a b : D) → LooksAt d A p a q b → EditsPages d A p a q b
   looks_edits A p q a b looks = record {
     only = looks.only;
     committed = looks.unchanged.committed;
@@ -24,10 +24,11 @@ module _ {D : Type 0} (d : Devices D) where
     is_open = looks.is_open;
   }
 
-  pub edits_nothing : (p : PageMap) (a : D) → IsOpen p → Edits d ⊥ p a p a
+  pub edits_nothing : (p : PageMap) (a : D) → IsOpen p → EditsPages d ⊥ p a p a
   edits_nothing p a is = looks_edits ⊥ p p a a (looks_nowhere d p a is)
 
-  pub edits_blamed : (A B : Type 0) (p q : PageMap) (a b : D) → (B → A) → Edits d A p a q b → Edits d B p a q b
+  pub edits_blamed : (A B : Type 0) (p q : PageMap) (a b : D) → (B → A) → EditsPages d A p a q b → EditsPages d B p a q
+      b
   edits_blamed A B p q a b from edits = record {
     only = reads_blamed d A B a b from edits.only;
     committed = edits.committed;
@@ -36,8 +37,9 @@ module _ {D : Type 0} (d : Devices D) where
     is_open = edits.is_open;
   }
 
-  pub edits_then : (A B C : Type 0) (p q r : PageMap) (a b c : D) → (C → A ⊎ B) → Edits d A p a q b → Edits d B q b r c
-      → Edits d C p a r c
+  pub edits_then : (A B C : Type 0) (p q r : PageMap) (a b c : D) → (C → A ⊎ B) → EditsPages d A p a q b → EditsPages d
+      B q b r c
+      → EditsPages d C p a r c
   edits_then A B C p q r a b c which first second = record {
     only = reads_then d A B C a b c which first.only second.only;
     committed = record {
@@ -58,16 +60,17 @@ module _ {D : Type 0} (d : Devices D) where
       omega (arith, same, many, fits)
 
   -- the last call alone is to blame
-  pub edits_last : (A B C : Type 0) (p q r : PageMap) (a b c : D) → (C → B) → Edits d A p a q b → Edits d B q b r c
-      → Edits d C p a r c
+  pub edits_last : (A B C : Type 0) (p q r : PageMap) (a b c : D) → (C → B) → EditsPages d A p a q b → EditsPages d B q
+      b r c
+      → EditsPages d C p a r c
   edits_last A B C p q r a b c from first second = edits_then A B C p q r a b c (λ is. inr (from is)) first second
 
   -- and where the root of the catalog may be another
-  pub prepares_of : (A : Type 0) (p q : PageMap) (a b : D) → Edits d A p a q b → Prepares d A p a q b
+  pub prepares_of : (A : Type 0) (p q : PageMap) (a b : D) → EditsPages d A p a q b → Prepares d A p a q b
   prepares_of A p q a b edits =
       record { only = edits.only; committed = edits.committed; agrees = edits.agrees; is_open = edits.is_open }
 
-  pub prepares_then : (A B C : Type 0) (p q r : PageMap) (a b c : D) → (C → B) → Edits d A p a q b
+  pub prepares_then : (A B C : Type 0) (p q r : PageMap) (a b c : D) → (C → B) → EditsPages d A p a q b
       → Prepares d B q b r c → Prepares d C p a r c
   prepares_then A B C p q r a b c from first second = record {
     only = reads_then d A B C a b c (λ is. inr (from is)) first.only second.only;
@@ -80,7 +83,7 @@ module _ {D : Type 0} (d : Devices D) where
     is_open = second.is_open;
   }
 
-  pub prepares_set : (A B : Type 0) (p q r : PageMap) (a b : D) → (B → A) → Edits d A p a q b → SameCommitted q r
+  pub prepares_set : (A B : Type 0) (p q r : PageMap) (a b : D) → (B → A) → EditsPages d A p a q b → SameCommitted q r
       → ((disk : Disk) → Agrees q disk → Agrees r disk) → IsOpen r → Prepares d B p a r b
   prepares_set A B p q r a b from edits same agrees is_open = record {
     only = reads_blamed d A B a b from edits.only;

@@ -12,13 +12,13 @@ use Rattle.pages.specs.Image.{Map, Volume, map_of}
 use Rattle.pages.specs.Pages.{map_now, committed_of, next_generation, Agrees, IsFull, SameCommitted}
 use Rattle.pages.specs.declared.page_map.PageMap.{PageMap}
 use Rattle.records.specs.declared.fault.StoreFault.{StoreFault}
-use Rattle.records.specs.declared.fault.StoreFault.TheVariants.{Full, Damaged}
+use Rattle.records.specs.declared.fault.StoreFault.TheVariants.{Full, Damaged, Old}
 use Rattle.records.specs.Files.{Files}
 use Rattle.records.specs.Stores.{Either}
 use Rattle.volume_format.specs.Volume.{MapHolds, Holds}
 use Rattle.alternate_keys.specs.Held.{held_law}
 use Rattle.alternate_keys.specs.Settles.{IsChanged, CommitsFiles}
-use Rattle.alternate_keys.specs.Stands.{Represents, LacksSpace}
+use Rattle.alternate_keys.specs.Stands.{Represents, LacksSpace, LacksMark}
 use Rattle.alternate_keys.specs.Turned.{HasChangedFiles}
 use Rattle.alternate_keys.proofs.Passing.{passed}
 use Rattle.alternate_keys.proofs.Still.{same_volume, lacks_room}
@@ -45,8 +45,9 @@ module _ {D : Type 0} (d : Devices D) (A : Type 0) (before between : PageMap) (d
   module _ {T : Type 0} (result : Result T StoreFault) (is_new : Bool) (name : List ℕ) where
     pub refused_turned : (fault : StoreFault) → IsErrAnd result (λ x. x ≡ fault) → (result ≡ Err Damaged → ⊥)
         → (result ≡ Err Full → LacksSpace (committed_of before) is_new name after)
+        → (result ≡ Err Old → LacksMark (d.state device).disk.present is_new name after)
         → HasChangedFiles d result is_new name files after before device between now
-    refused_turned fault from sound room =
+    refused_turned fault from sound room marked =
         let old = d.state device in
         let leaves : State → Type 0 = CrashLeaves old.events (Either Holds files after) in
         record {
@@ -59,12 +60,13 @@ module _ {D : Type 0} (d : Devices D) (A : Type 0) (before between : PageMap) (d
               })));
           sound = sound;
           room = λ is. lacks_room before old.disk is_new name after stands.agrees (room is);
+          mark = marked;
         }
 
     pub put_turned : (last : PageMap) (end : D) → CommitsFiles d result files after between now last end
-        → (IsFull between → LacksSpace (committed_of before) is_new name after)
+        → (IsFull between → LacksSpace (committed_of before) is_new name after) → (result ≡ Err Old → ⊥)
         → HasChangedFiles d result is_new name files after before device last end
-    put_turned last end settles room =
+    put_turned last end settles room marked =
         let through = subst (λ (h : List State). Through h (d.history end) (d.state end)
         (CrashLeaves (d.state now).events (Either Holds files after))) (only.history honest) settles.moments in
         record {
@@ -73,4 +75,5 @@ module _ {D : Type 0} (d : Devices D) (A : Type 0) (before between : PageMap) (d
               (CrashLeaves s.events (Either Holds files after))) (only.state honest) through;
           sound = settles.sound;
           room = λ is. lacks_room before (d.state device).disk is_new name after stands.agrees (room (settles.full is));
+          mark = λ is. absurd (marked is);
         }

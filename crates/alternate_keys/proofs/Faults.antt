@@ -1,13 +1,13 @@
 -- Which refusal of the pages was told.
-use Rattle.std.proofs.Common.{◌≡◌, ◌⊎◌, inl, inr, Result, Err, IfErr, sym, ap, subst, ◌∙◌}
+use Rattle.std.proofs.Common.{◌≡◌, ◌⊎◌, inl, inr, Result, Ok, Err, IfErr, sym, ap, subst, ◌∙◌}
 use Rattle.std.specs.Prelude.{IsOkUnless}
 use Rattle.std.specs.Result.{IsErrAnd}
 use Rattle.records.specs.declared.fault.StoreFault.{StoreFault}
 use Rattle.pages.specs.declared.error.PagesError.{PagesError}
 use Rattle.pages.specs.declared.error.PagesError.TheVariants as pages
-use Rattle.records.specs.declared.fault.StoreFault.TheVariants.{Device, Full, Damaged, Memory, Spent}
+use Rattle.records.specs.declared.fault.StoreFault.TheVariants.{Device, Full, Damaged, Memory, Spent, Layout, Old}
 use Rattle.volume_format.specs.Faults.{fault_of}
-use Rattle.alternate_keys.specs.Faults.{IsReadFault}
+use Rattle.alternate_keys.specs.Faults.{IsReadFault, IsWriteFault, IsCreateFault}
 
 -- a refusal that is passed on is that of the call
 pub refused_by_call : {T U E : Type 0} {call : Result T E} {given : Result U E} {e fault : E} → call ≡ Err e
@@ -40,3 +40,22 @@ never_damaged result only is = let clash : Damaged ≡ Memory = subst (λ r. IfE
 -- a call that only reads is never refused for want of room
 pub never_full : {T : Type 0} (result : Result T StoreFault) → IfErr result IsReadFault → result ≡ Err Full → ⊥
 never_full result cause is = subst (λ r. IfErr r IsReadFault) is cause
+
+-- one that changes pages is never refused for the volume's mark
+pub never_old : {T : Type 0} (result : Result T StoreFault) → IfErr result IsWriteFault → result ≡ Err Old → ⊥
+never_old result cause is = subst (λ r. IfErr r IsWriteFault) is cause
+
+-- its reasons are among those of the call that makes a file
+pub write_is_create : (fault : StoreFault) → IsWriteFault fault → IsCreateFault fault
+write_is_create Device why = tt
+write_is_create Full why = tt
+write_is_create Damaged why = tt
+write_is_create Memory why = tt
+write_is_create Spent why = tt
+write_is_create Layout why = why
+write_is_create Old why = tt
+
+pub writes_create : {T : Type 0} (result : Result T StoreFault) → IfErr result IsWriteFault
+    → IfErr result IsCreateFault
+writes_create (Ok x) cause = tt
+writes_create (Err fault) cause = write_is_create fault cause

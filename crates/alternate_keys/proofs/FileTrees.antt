@@ -19,20 +19,20 @@ use Rattle.records.specs.Files.{File, NamedFile, IsNamed, IsRow, IsArrival}
 use Rattle.records.specs.Laws.{RowsAscend}
 use Rattle.volume_format.specs.Trees.{entry_under, layout_under}
 use Rattle.volume_format.specs.Pairs.{IsUnder}
-use Rattle.volume_format.specs.Forest.{TreeLevels, IsTreeIn, IsForest, tree_levels}
-use Rattle.volume_format.specs.Grows.{IsTreeAmong}
+use Rattle.volume_format.specs.Forest.{TreeLevels, IsTreeIn, IsForest}
+use Rattle.volume_format.specs.Chained.{chained_bytes}
 use Rattle.volume_format.specs.Volume.{FileTrees, IsIndex, trees_of, listing_of, no_tree}
 use Rattle.volume_format.proofs.Forests.{all_left, all_right}
 use Rattle.volume_format.proofs.Keeping.{rows_fit}
 use Rattle.volume_format.proofs.Listings.{next_read}
-use Rattle.volume_format.proofs.Whole.{short_spec}
+use Rattle.row_trees.specs.RowTree.{ChainedTree, IsRowTreeAmong}
 use Rattle.alternate_keys.specs.Created.{HasStored}
 use Rattle.alternate_keys.specs.Listed.{IsFoundFile, root_in}
 use Rattle.alternate_keys.specs.Moved.{IsRowOf}
 use Rattle.alternate_keys.specs.Placed.{HasTrees, HasIndexes, HasAllPairs, listed_tree}
-use Rattle.alternate_keys.specs.Seen.{HasRows, HasPairs}
+use Rattle.alternate_keys.specs.Seen.{HasRows, HasPairs, row_tree_of}
 use Rattle.alternate_keys.proofs.Keeping.{tree_is, root_is, rows_seen, pairs_seen, tree_under}
-use Rattle.alternate_keys.proofs.WholeTrees.{whole_stands}
+use Rattle.alternate_keys.proofs.RowForms.{same_rows}
 
 module _ (spec : Spec) (named : NamedFile) (generation : ℕ) (pages : List (Option Sector)) (left right :
     List TreeLevels) (listing : List ℕ) (has : HasTrees spec named generation pages left right listing) where
@@ -89,24 +89,29 @@ module _ (spec : Spec) (named : NamedFile) (generation : ℕ) (pages : List (Opt
   prime_same prime layout root = tree_is the_map (Some kept_in.named.file) kept_in spec Prime
       listing prime found has.small spec_here (omega arith) has.placed.says layout root
 
-  pub prime_stands : (prime : RootedTree) → prime.layout ≡ layout_under spec Prime → prime.root ≡ root_in Prime listing
-      → IsTreeAmong pages left (kept_in.alternates ++ right) prime (map (entry_under spec Prime) named.file.rows)
-  prime_stands prime layout root =
-      let same = prime_same prime layout root in
-      subst (λ (es : List Entry). IsTreeAmong pages left (kept_in.alternates ++ right) prime es)
-      (has.placed.is.rows ∙ ap (λ (s : Spec). map (entry_under s Prime) kept_in.named.file.rows) spec_here
-      ∙ ap (λ (f : File). map (entry_under spec Prime) f.rows) file_is)
-      (whole_stands pages left (kept_in.alternates ++ right) kept_in.prime prime
-      (has.placed.is.form ∙ short_spec kept_in.named.file.spec good_spec) (sym same) has.placed.forest)
+  pub prime_stands : (prime : ChainedTree) → prime.tree.layout ≡ layout_under spec Prime
+      → prime.tree.root ≡ root_in Prime listing → prime.record_bytes ≡ chained_bytes spec
+      → IsRowTreeAmong pages left (kept_in.alternates ++ right) prime (map (entry_under spec Prime) named.file.rows)
+  prime_stands prime layout root form = record {
+    planted = kept_in.prime;
+    tree_is = sym (prime_same prime.tree layout root);
+    form_is = has.placed.is.form ∙ ap chained_bytes spec_here ∙ sym form;
+    forest = has.placed.forest;
+    listed = has.placed.is.rows ∙ ap (λ (s : Spec). map (entry_under s Prime) kept_in.named.file.rows) spec_here
+        ∙ ap (λ (f : File). map (entry_under spec Prime) f.rows) file_is;
+  }
 
-  pub prime_rows : (prime : RootedTree) → prime.layout ≡ layout_under spec Prime → prime.root ≡ root_in Prime listing
+  pub prime_rows : (prime : ChainedTree) → prime.tree.layout ≡ layout_under spec Prime
+      → prime.tree.root ≡ root_in Prime listing → prime.record_bytes ≡ chained_bytes spec
       → HasRows spec pages named.file.rows prime
-  prime_rows prime layout root =
+  prime_rows prime layout root form =
       let own = rows_seen the_map (Some kept_in.named.file) kept_in found has.few in
-      let here : HasRows spec pages kept_in.named.file.rows kept_in.prime.tree =
-      subst (λ (s : Spec). HasRows s pages kept_in.named.file.rows kept_in.prime.tree) spec_here own in
-      subst (λ (t : RootedTree). HasRows spec pages named.file.rows t) (sym (prime_same prime layout root))
-      (subst (λ (f : File). HasRows spec pages f.rows kept_in.prime.tree) file_is here)
+      let tree : ChainedTree = row_tree_of spec kept_in.prime.tree in
+      let here : HasRows spec pages kept_in.named.file.rows tree =
+      subst (λ (s : Spec). HasRows s pages kept_in.named.file.rows (row_tree_of s kept_in.prime.tree)) spec_here own in
+      subst (λ (t : ChainedTree). HasRows spec pages named.file.rows t)
+      (sym (same_rows prime tree (prime_same prime.tree layout root) form))
+      (subst (λ (f : File). HasRows spec pages f.rows tree) file_is here)
 
   pub all_pairs : HasAllPairs spec pages named.file.rows listing
   all_pairs i low =
@@ -144,11 +149,11 @@ module _ (spec : Spec) (named : NamedFile) (generation : ℕ) (pages : List (Opt
             omega (arith, given, few);
       }
 
-  pub indexes_then : (after : List (Option Sector)) (prime : RootedTree) (entries : List Entry)
-      → (stands : IsTreeAmong after left (kept_in.alternates ++ right) prime entries) →
-      HasIndexes named.file after (left ++ tree_levels prime stands.levels ∷ []) right kept_in.alternates listing
+  pub indexes_then : (after : List (Option Sector)) (prime : ChainedTree) (entries : List Entry)
+      → (stands : IsRowTreeAmong after left (kept_in.alternates ++ right) prime entries) →
+      HasIndexes named.file after (left ++ stands.planted ∷ []) right kept_in.alternates listing
   indexes_then after prime entries stands =
-      let x : TreeLevels = tree_levels prime stands.levels in
+      let x : TreeLevels = stands.planted in
       let fits : (i : ℕ) → i < length named.file.spec.alternates → i < length kept_in.named.file.spec.alternates =
       λ i low. subst (λ (f : File). i < length f.spec.alternates) (sym file_is) low in
       record {

@@ -1,25 +1,26 @@
 -- The row that was found in the tree of rows.
-use Rattle.std.proofs.Common.{◌≡◌, ◌+◌, ◌*◌, ℕ, true, List, length, refl, sym, ap, subst, ◌∙◌}
+use Rattle.std.proofs.Common.{◌≡◌, ◌+◌, ◌*◌, ℕ, List, length, refl, sym, ap, subst, ◌∙◌}
 use Rattle.std.specs.Prelude.{map, Option, Some, None, IfSome, IsSome, is_some}
 use Rattle.std.specs.Option.{option_map}
 use Rattle.std.proofs.lemmas.List.Elements.{All-contains}
 use Rattle.station.specs.Disk.{Sector}
-use Rattle.btree_pages.specs.declared.row_layout.RowLayout.{RowLayout}
-use Rattle.btree.specs.Entries.{Entry, HasLengths, entry_with}
+use Rattle.btree.specs.Entries.{Entry, entry_with}
 use Rattle.records.specs.declared.key.KeyOfReference.TheVariants.{Prime}
-use Rattle.records.specs.Spec.{Spec, is_spec}
+use Rattle.records.specs.Spec.{Spec}
 use Rattle.records.specs.Rows.{Row, Pair, prime_pair}
 use Rattle.records.specs.Changes.{row_at}
 use Rattle.records.specs.Files.{NamedFile}
 use Rattle.records.proofs.Changed.{pair_same}
+use Rattle.volume_format.specs.Chained.{chained_bytes}
 use Rattle.volume_format.specs.Trees.{entry_under, key_under, layout_under}
 use Rattle.volume_format.specs.Pairs.{IsPair, IsUnder}
 use Rattle.volume_format.specs.Forest.{TreeLevels}
+use Rattle.row_trees.specs.RowTree.{ChainedTree, HasWholeLengths}
 use Rattle.alternate_keys.specs.Moved.{IsRowOf}
 use Rattle.alternate_keys.specs.Placed.{HasTrees}
 use Rattle.alternate_keys.proofs.FileTrees.{rows_under, is_row_of}
 use Rattle.alternate_keys.proofs.RowEdits.{row_there, row_found}
-use Rattle.alternate_keys.proofs.WholeTrees.{value_whole}
+use Rattle.alternate_keys.proofs.RowForms.{value_whole}
 
 none_of : (spec : Spec) (found : Option Row) → None ≡ option_map (entry_under spec Prime) found → found ≡ None
 none_of spec None is = refl
@@ -78,10 +79,11 @@ entry_there {spec} {named} {entry} found key is =
     (ap (entry_with (map (entry_under spec Prime) named.file.rows)) (is ∙ found.key) ∙ found.found)
 
 -- how long its value is
-pub value_long : (spec : Spec) (layout : RowLayout) (answer : Option Entry) (entry : Entry) (value : List ℕ)
-    → is_spec spec ≡ true → layout ≡ layout_under spec Prime → IfSome answer (HasLengths layout)
-    → answer ≡ Some entry → value ≡ entry.value → length value ≡ spec.record_length + 8 * length spec.alternates
-value_long spec layout answer entry value good is lengths some value_is =
-    let own : HasLengths layout entry = subst (λ (o : Option Entry). IfSome o (HasLengths layout)) some lengths in
-    ap (λ (l : List ℕ). length l) value_is ∙ own.1 ∙ ap (λ (l : RowLayout). l.value_length) is
-    ∙ value_whole spec good
+pub value_long : (spec : Spec) (rows : ChainedTree) (answer : Option Entry) (entry : Entry) (value : List ℕ)
+    → rows.tree.layout ≡ layout_under spec Prime → rows.record_bytes ≡ chained_bytes spec
+    → IfSome answer (HasWholeLengths rows) → answer ≡ Some entry → value ≡ entry.value
+    → length value ≡ spec.record_length + 8 * length spec.alternates
+value_long spec rows answer entry value is form lengths some value_is =
+    let own : HasWholeLengths rows entry =
+    subst (λ (o : Option Entry). IfSome o (HasWholeLengths rows)) some lengths in
+    ap (λ (l : List ℕ). length l) value_is ∙ own.1 ∙ value_whole spec rows is form

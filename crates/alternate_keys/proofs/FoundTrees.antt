@@ -17,14 +17,17 @@ use Rattle.records.specs.Rows.{prime_place}
 use Rattle.records.specs.Order.{RowBound}
 use Rattle.records.specs.Stores.{IsKey}
 use Rattle.records.specs.Files.{File, Files, file_at}
+use Rattle.volume_format.specs.Chained.{chained_bytes}
 use Rattle.volume_format.specs.Trees.{layout_under}
+use Rattle.row_trees.specs.RowTree.{ChainedTree}
 use Rattle.file_bytes.specs.Rows.{prime_key_length}
 use Rattle.volume_format.specs.Volume.{FileTrees}
 use Rattle.volume_format.proofs.Small.{place_short, spec_keys}
 use Rattle.alternate_keys.specs.declared.search_start.SearchStart.{SearchStart}
 use Rattle.alternate_keys.specs.Aims.{IsBound, aim_of, aim_key}
 use Rattle.alternate_keys.specs.Listed.{IsFoundFile, IsListed, root_in}
-use Rattle.alternate_keys.specs.Seen.{HasRows, HasPairs, IsSought}
+use Rattle.alternate_keys.specs.Seen.{HasRows, HasPairs, IsSought, row_tree_of}
+use Rattle.alternate_keys.proofs.RowForms.{same_rows}
 use Rattle.alternate_keys.proofs.Keeping.{rows_seen, pairs_seen, tree_is, tree_under, listing_kept}
 
 -- only an indexed file has alternate keys
@@ -57,11 +60,12 @@ layout_short spec Prime is within = key_by spec spec.organization refl is
 layout_short spec (Alternate i) is within = let short = place_short spec (Alternate i) is within in omega (arith, short)
 
 -- the file that was found, under another name for it and its spec
-rows_as : (pages : List (Option Sector)) (one : File) (held : File) (spec : Spec) (own : RootedTree) (tree : RootedTree)
+rows_as : (pages : List (Option Sector)) (one : File) (held : File) (spec : Spec) (own : ChainedTree) (tree :
+    ChainedTree)
     → one ≡ held → held.spec ≡ spec → tree ≡ own → HasRows one.spec pages one.rows own
     → HasRows spec pages held.rows tree
 rows_as pages one held spec own tree same is there rows =
-    subst (λ (t : RootedTree). HasRows spec pages held.rows t) (sym there)
+    subst (λ (t : ChainedTree). HasRows spec pages held.rows t) (sym there)
     (subst (λ (s : Spec). HasRows s pages held.rows own) is
     (subst (λ (f : File). HasRows f.spec pages f.rows own) same rows))
 
@@ -87,7 +91,7 @@ unlisted m found listed held is none there =
 
 -- what is known where the trees of a file are looked into
 pub record Knows (m : Map) (found : Option File) (held : File) (spec : Spec) (key : KeyOfReference)
-    (listed : Option Entry) (entry : Entry) (prime under : RootedTree) : Type 0 where
+    (listed : Option Entry) (entry : Entry) (prime : ChainedTree) (under : RootedTree) : Type 0 where
   pub few : m.generation < 2 ^ 63
   pub small : length m.pages ≤ 921600
   pub listing : IsListed m found listed
@@ -96,13 +100,15 @@ pub record Knows (m : Map) (found : Option File) (held : File) (spec : Spec) (ke
   pub spec_is : held.spec ≡ spec
   pub good : is_spec spec ≡ true
   pub key_is : IsKey spec key
-  pub prime_layout : prime.layout ≡ layout_under spec Prime
-  pub prime_root : prime.root ≡ root_in Prime (take 83 entry.value)
+  pub prime_layout : prime.tree.layout ≡ layout_under spec Prime
+  pub prime_root : prime.tree.root ≡ root_in Prime (take 83 entry.value)
+  pub prime_form : prime.record_bytes ≡ chained_bytes spec
   pub under_layout : under.layout ≡ layout_under spec key
   pub under_root : under.root ≡ root_in key (take 83 entry.value)
 
 pub sought_in : (m : Map) (found : Option File) (held : File) (spec : Spec) (key : KeyOfReference) (bound : RowBound)
-    (listed : Option Entry) (entry : Entry) (prime under : RootedTree) (way : SearchStart) (at : List ℕ) →
+    (listed : Option Entry) (entry : Entry) (prime : ChainedTree) (under : RootedTree) (way : SearchStart) (at : List
+    ℕ) →
     Knows m found held spec key listed entry prime under → IsBound spec key bound → way ≡ aim_of spec key bound
     → at ≡ aim_key spec key bound → IsSought spec key bound m.pages held.rows prime under way at
 sought_in m found held spec key bound listed entry prime under way at knows bounded way_is at_is =
@@ -116,14 +122,15 @@ sought_in m found held spec key bound listed entry prime under way at knows boun
     let small : length m.pages ≤ 2 ^ 20 = omega (arith, low) in
     let value = ap (λ (e : Entry). take 83 e.value) there.2 ∙ listing_kept m found kept is in
     let own : IsKey kept.named.file.spec key = subst (λ (s : Spec). IsKey s key) (sym spec_is) knows.key_is in
-    let prime_is =
-    tree_is m found kept spec Prime (take 83 entry.value) prime is small spec_is (omega arith) value knows.prime_layout
-    knows.prime_root in
+    let own_rows : ChainedTree = row_tree_of kept.named.file.spec kept.prime.tree in
+    let prime_is : prime ≡ own_rows = same_rows prime own_rows
+    (tree_is m found kept spec Prime (take 83 entry.value) prime.tree is small spec_is (omega arith) value
+    knows.prime_layout knows.prime_root) (knows.prime_form ∙ ap chained_bytes (sym spec_is)) in
     let under_is =
     tree_is m found kept spec key (take 83 entry.value) under is small spec_is knows.key_is value knows.under_layout
     knows.under_root in
     record {
-      there = rows_as m.pages kept.named.file held spec kept.prime.tree prime same knows.spec_is prime_is
+      there = rows_as m.pages kept.named.file held spec own_rows prime same knows.spec_is prime_is
           (rows_seen m found kept is knows.few);
       pairs = pairs_as m.pages kept.named.file held spec key (tree_under key kept).tree under same knows.spec_is
           under_is (pairs_seen m found kept key is knows.few own);

@@ -20,9 +20,8 @@ use Rattle.records.specs.Stores.{IsNewNumber, is_change}
 use Rattle.volume_format.specs.Trees.{entry_under, layout_under, AreOf}
 use Rattle.volume_format.specs.Pairs.{IsUnder}
 use Rattle.volume_format.specs.Forest.{TreeLevels}
-use Rattle.volume_format.specs.Grows.{IsTreeAmong}
-use Rattle.volume_format.specs.Forest.{tree_levels}
-use Rattle.volume_format.proofs.Whole.{short_spec}
+use Rattle.volume_format.specs.Chained.{chained_bytes}
+use Rattle.row_trees.specs.RowTree.{ChainedTree, IsRowTreeAmong}
 use Rattle.volume_format.proofs.Comes.{row_comes, pair_comes}
 use Rattle.alternate_keys.specs.declared.row_verb.RowVerb.{RowVerb}
 use Rattle.alternate_keys.specs.declared.row_verb.RowVerb.TheVariants.{Insert}
@@ -30,7 +29,7 @@ use Rattle.alternate_keys.specs.Moved.{HasChangedRows, PairsMove, PairsMayMove, 
 use Rattle.alternate_keys.specs.NewRow.{row_with, file_with, named_with}
 use Rattle.alternate_keys.specs.Placed.{HasTrees}
 use Rattle.alternate_keys.proofs.Arrivals.{arrival_at}
-use Rattle.alternate_keys.proofs.FileTrees.{kept_in, good_here, arrival_low, arrival_few, rows_under, indexes_then}
+use Rattle.alternate_keys.proofs.FileTrees.{kept_in, arrival_low, arrival_few, rows_under, indexes_then}
 use Rattle.alternate_keys.proofs.Fresh.{new_under, key_there, not_there, arrivals_before}
 
 abbrev pub change_to : Outcome → File → FileChange
@@ -151,19 +150,21 @@ module _ (spec : Spec) (named : NamedFile) (generation : ℕ) (pages : List (Opt
       arrivals_before named.file r i has.is_named.file there within in omega (arith, before, same))
       (subst (λ (k : List ℕ). IsSome (entry_with entries k)) (sym key) some))
 
-  pub insert_moving : (later : List (Option Sector)) (prime : RootedTree) → prime.layout ≡ layout_under spec Prime →
-      IsTreeAmong later left ((kept_in spec named generation pages left right listing has).alternates ++ right) prime
+  pub insert_moving : (later : List (Option Sector)) (prime : ChainedTree) → prime.tree.layout ≡ layout_under spec Prime
+      → prime.record_bytes ≡ chained_bytes spec →
+      IsRowTreeAmong later left ((kept_in spec named generation pages left right listing has).alternates ++ right) prime
       (with_new_entry (map (entry_under spec Prime) named.file.rows) (entry_under spec Prime row)) →
-      HasChangedRows Insert spec named (named_with row named) generation later left right listing prime.root [] bytes
+      HasChangedRows Insert spec named (named_with row named) generation later left right listing prime.tree.root []
+      bytes
       arrival (arrival + 1)
-  insert_moving later prime layout stands = record {
-    prime = tree_levels prime stands.levels;
+  insert_moving later prime layout form stands = record {
+    prime = stands.planted;
     trees = (kept_in spec named generation pages left right listing has).alternates;
     indexes = indexes_then spec named generation pages left right listing has later prime
         (with_new_entry (map (entry_under spec Prime) named.file.rows) (entry_under spec Prime row)) stands;
-    layout = layout;
-    root_is = refl;
-    form = sym (short_spec spec (good_here spec named generation pages left right listing has));
+    layout = ap (λ (t : RootedTree). t.layout) stands.tree_is ∙ layout;
+    root_is = ap (λ (t : RootedTree). t.root) stands.tree_is;
+    form = stands.form_is ∙ form;
     rows = stands.listed
         ∙ row_comes spec named.file.rows row (rows_under spec named generation pages left right listing has) own_under
         ∙ ap (λ (s : Spec). map (entry_under spec Prime) (with_row s.organization row named.file.rows))

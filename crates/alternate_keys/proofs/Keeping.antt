@@ -16,17 +16,19 @@ use Rattle.records.specs.Stores.{IsKey}
 use Rattle.records.specs.Files.{File, IsRow}
 use Rattle.volume_format.specs.Catalog.{listing_bytes}
 use Rattle.volume_format.specs.Trees.{entry_under, layout_under, AreOf}
-use Rattle.volume_format.specs.Forest.{TreeLevels, IsTreeIn}
+use Rattle.chains.specs.Rows.{HasChain, unrolled_entry}
+use Rattle.volume_format.specs.Chained.{form_of}
+use Rattle.volume_format.specs.Forest.{TreeLevels, IsTreeIn, stored_entries}
 use Rattle.volume_format.specs.Volume.{FileTrees, catalog_entry, listing_of, no_tree}
 use Rattle.volume_format.proofs.Comes.{in_cons}
 use Rattle.volume_format.proofs.Keeping.{rows_fit}
 use Rattle.volume_format.proofs.Listings.{prime_read, root_read, long}
 use Rattle.volume_format.proofs.Roots.{root_small}
 use Rattle.volume_format.proofs.Values.{reads_back}
-use Rattle.volume_format.proofs.Whole.{whole_entries, short_spec}
+use Rattle.volume_format.proofs.Whole.{whole_entries}
 use Rattle.btree.proofs.Runs.{in_head, in_tail, in_none}
 use Rattle.alternate_keys.specs.Listed.{IsFoundFile, root_in}
-use Rattle.alternate_keys.specs.Seen.{HasRows, HasPairs}
+use Rattle.alternate_keys.specs.Seen.{HasRows, HasPairs, row_tree_of, seen_under}
 use Rattle.alternate_keys.proofs.Tells.{in_map}
 
 of_map : {X Y : Type 0} (f : X → Y) (xs : List X) (y : Y) → Contains (map f xs) y → (x : X) × Contains xs x × (f x ≡ y)
@@ -36,16 +38,16 @@ of_map f (x ∷ xs) y has =
     of_map f xs y later in (rest.0, in_tail x xs rest.0 rest.1, rest.2)) (in_cons (f x) (map f xs) y has)
 
 pub rows_seen : (m : Map) (found : Option File) (kept : FileTrees) → IsFoundFile m found kept → m.generation < 2 ^ 63
-    → HasRows kept.named.file.spec m.pages kept.named.file.rows kept.prime.tree
+    → HasRows kept.named.file.spec m.pages kept.named.file.rows (row_tree_of kept.named.file.spec kept.prime.tree)
 rows_seen m found kept is few =
     let file : File = kept.named.file in
     let low = is.is.arrivals in
     let grows = All-head (IsTreeIn m.pages) kept.prime kept.alternates is.grow in
     record {
-      levels = kept.prime.levels;
-      holds = grows.stands;
-      entries = sym (whole_entries m.pages kept.prime grows (is.is.form ∙ short_spec file.spec is.named.file.spec))
-          ∙ is.is.rows;
+      planted = kept.prime;
+      stands = record { tree_is = refl; form_is = is.is.form; grows = grows };
+      form = refl;
+      entries = is.is.rows;
       fits = (rows_fit file is.named.file (omega arith)).0;
       records = λ k d within.
           (All-from_recursion (IsRow file.spec file.next_arrival) file.rows is.named.file.rows k d within).long;
@@ -56,14 +58,21 @@ prime_seen : (m : Map) (found : Option File) (kept : FileTrees) → IsFoundFile 
 prime_seen m found kept is few =
     let rows = rows_seen m found kept is few in
     let f = entry_under kept.named.file.spec Prime in
+    let grows = All-head (IsTreeIn m.pages) kept.prime kept.alternates is.grow in
+    let stored = stored_entries kept.prime in
+    let seen : seen_under kept.named.file.spec Prime m.pages stored ≡ map f kept.named.file.rows =
+    ap (λ (n : ℕ). map (unrolled_entry (form_of n) m.pages) stored) (sym is.is.form) ∙ sym grows.entries_are
+    ∙ is.is.rows in
     record {
-      levels = rows.levels;
-      holds = rows.holds;
+      levels = kept.prime.levels;
+      holds = grows.stands;
+      layout = is.is.layout;
+      stand = subst (λ (n : ℕ). All (HasChain (form_of n) m.pages) stored) is.is.form grows.chained.stand;
       are = record {
         each = λ row has.
-            subst (λ (es : List Entry). Contains es (f row)) (sym rows.entries) (in_map f kept.named.file.rows row has);
+            subst (λ (es : List Entry). Contains es (f row)) (sym seen) (in_map f kept.named.file.rows row has);
         only = λ entry has.
-            of_map f kept.named.file.rows entry (subst (λ (es : List Entry). Contains es entry) rows.entries has);
+            of_map f kept.named.file.rows entry (subst (λ (es : List Entry). Contains es entry) seen has);
       };
       fits = rows.fits;
     }
@@ -92,6 +101,8 @@ pairs_seen m found kept (Alternate i) is few within =
     record {
       levels = tree.levels;
       holds = grows.stands;
+      layout = index.layout;
+      stand = tt;
       are = subst (λ (es : List Entry). AreOf file.spec (Alternate i) file.rows es)
           (whole_entries m.pages tree grows index.whole) index.pairs;
       fits = (rows_fit file is.named.file (omega arith)).1 i within;

@@ -1,6 +1,9 @@
 pub mod Least
 pub mod Aims
 pub mod Sought
+pub mod RowForms
+pub mod Seeing
+pub mod ThereSeen
 pub mod Tells
 pub mod RowFor
 pub mod Faults
@@ -40,7 +43,6 @@ pub mod FoundRow
 pub mod Preparing
 pub mod Turning
 pub mod Committing
-pub mod WriteCalls
 pub mod Heads
 pub mod Empties
 pub mod Added

@@ -13,7 +13,7 @@ use Rattle.btree.specs.Entries.{Entry, entry_with, with_value}
 use Rattle.records.specs.declared.file_spec.FileSpec.{FileSpec}
 use Rattle.records.specs.Spec.{Spec, is_name}
 use Rattle.records.specs.Changes.{FileChange}
-use Rattle.records.specs.Files.{File, Files, NamedFile, AreFiles, file_at}
+use Rattle.records.specs.Files.{File, Files, NamedFile, AreFiles, AreShort, file_at}
 use Rattle.records.specs.Stores.{Has, is_change, files_after}
 use Rattle.file_bytes.specs.Description.{padded_name}
 use Rattle.volume_format.specs.Calls.{LooksAt}
@@ -22,7 +22,7 @@ use Rattle.volume_format.specs.Forest.{TreeLevels}
 use Rattle.volume_format.specs.Grows.{IsTreeAmong}
 use Rattle.volume_format.specs.Volume.{MapHolds, catalog_entry}
 use Rattle.alternate_keys.specs.Among.{OnAmong}
-use Rattle.alternate_keys.specs.Calls.{Edits}
+use Rattle.row_trees.specs.Calls.{EditsPages}
 use Rattle.alternate_keys.specs.Listed.{catalog_at}
 use Rattle.alternate_keys.specs.Moved.{named_after}
 use Rattle.alternate_keys.specs.Placed.{HasFileTrees}
@@ -119,7 +119,7 @@ module _ {D : Type 0} (d : Devices D) where
             listing
 
       pub changed_from : {A B : Type 0} {changed : FileChange} {listing : List ℕ} {q r : PageMap} {b c : D}
-          → LooksAt d A p a q b → Edits d B q b r c
+          → LooksAt d A p a q b → EditsPages d B q b r c
           → HasFileTrees (named_after named_at changed) (map_at.generation + 1)
           (pages_on d r b) lefts rights listing → HoldsChanged changed listing r c
       changed_from {changed} {listing} {r} looks edits placed =
@@ -154,15 +154,17 @@ module _ {D : Type 0} (d : Devices D) where
               put.placed (catalog_of q) put.catalog)
 
           -- the files, once the catalog says it, with their number of rows
-          pub files_listed : {A : Type 0} {r : PageMap} {c : D} {asked value : List ℕ} (rows : ℕ) → Edits d A q b r c
+          pub files_listed : {A : Type 0} {r : PageMap} {c : D} {asked value : List ℕ} (rows : ℕ) → EditsPages d A q b r
+              c
               → asked ≡ name → value ≡ listing
               → catalog_value map_at.mark listing rows ≡ catalog_value map_at.mark listing (length changed.file.rows)
               → OnAmong d (catalog_at (mark_of q) (catalog_of q)) q b (λ left right entries.
               IsTreeAmong (pages_on d r b) left right (catalog_at (mark_of q) (catalog_of q))
               (with_value entries (record { key = padded_name asked; value = catalog_value (mark_of q) value rows })))
-              → is_change changed.outcome ≡ true → AreFiles (files_after name files changed) →
+              → is_change changed.outcome ≡ true → AreFiles (files_after name files changed)
+              → (map_at.mark ≡ 0 → AreShort (files_after name files changed)) →
               MapHolds (next_generation (map_now r (d.state a).disk.present)) (files_after name files changed)
-          files_listed {r} {asked} {value} rows edits asked_is value_is counted replaced change are =
+          files_listed {r} {asked} {value} rows edits asked_is value_is counted replaced change are short =
               let entries : List Entry = map (catalog_entry map_at.mark) at.holds.kept in
               let there : State = d.state b in
               let here = replaced put.honest put.agrees [] arounds entries catalog_there in
@@ -188,7 +190,7 @@ module _ {D : Type 0} (d : Devices D) where
               holds_after map_at files at.holds name held at.named at.there changed (pages_on d q b) listing
               put.placed (pages (d.state a)) map_at.catalog (catalog_value map_at.mark listing rows) counted rooted
               change
-              are in
+              are short in
               let same : SameCommitted p r = record {
                 volume = edits.committed.volume ∙ put.committed.volume;
                 mark = edits.committed.mark ∙ put.committed.mark;

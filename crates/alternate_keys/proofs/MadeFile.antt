@@ -23,6 +23,7 @@ holds_at m n files same holds = record {
   keeps = subst (λ (x : Map). HasCatalog x holds.kept) (sym same) holds.keeps;
   named = holds.named;
   are = holds.are;
+  short = λ first. holds.short (sym (ap (λ (x : Map). x.mark) same) ∙ first);
 }
 
 -- in place of another file there are as many

@@ -1,5 +1,5 @@
 -- A file that is made, in place of another or under a new name.
-use Rattle.std.proofs.Common.{◌≡◌, ◌⊎◌, inl, inr, ◌<◌, ◌≤◌, ◌+◌, ◌^◌, true, ℕ, List, [], length, refl, sym, ap}
+use Rattle.std.proofs.Common.{◌≡◌, ◌⊎◌, inl, inr, ◌<◌, ◌≤◌, ◌+◌, ◌^◌, true, false, ℕ, List, [], length, refl, sym, ap}
 use Rattle.std.proofs.Common.{subst, ◌∙◌, arith}
 use Rattle.std.specs.Prelude.{map, take, replicate, Option, Some, None}
 use Rattle.std.specs.List.{flat_map}
@@ -18,9 +18,10 @@ use Rattle.btree.specs.Rooted.{RootedTree}
 use Rattle.btree.proofs.Frames.{same_pages}
 use Rattle.records.specs.declared.answer.Outcome.TheVariants.{Done}
 use Rattle.records.specs.Changes.{FileChange}
-use Rattle.records.specs.Files.{File, Files, AreFiles, file_at, with_file, empty_file}
-use Rattle.records.specs.Spec.{Spec, is_name, is_spec}
+use Rattle.records.specs.Files.{File, Files, AreFiles, AreShort, file_at, with_file, empty_file}
+use Rattle.records.specs.Spec.{Spec, is_name, is_spec, is_long}
 use Rattle.records.proofs.Changed.{created_are_files}
+use Rattle.records.proofs.Short.{created_short}
 use Rattle.file_bytes.specs.Description.{padded_name}
 use Rattle.volume_format.specs.Calls.{LooksAt}
 use Rattle.volume_format.specs.Catalog.{catalog_layout, catalog_value, listing_bytes}
@@ -162,13 +163,14 @@ module _ {m : Map} {files : Files} {holds : MapHolds m files} {name : List ℕ} 
 
   -- and the catalog says so
   pub made_there : (spec : Spec) (between : List (Option Sector)) (listing : List ℕ)
-      → (placed : IsEmptied spec between listing) → is_spec spec ≡ true → (p q : PageMap) (image : List Sector)
+      → (placed : IsEmptied spec between listing) → is_spec spec ≡ true → (m.mark ≡ 0 → is_long spec ≡ false)
+      → (p q : PageMap) (image : List Sector)
       → map_now p image ≡ m → SameCommitted p q → catalog_of q ≡ catalog_of p →
       IsTreeAmong (map_now q image).pages [] (all_around spec between listing placed) (catalog_at m.mark m.catalog)
       (with_value (map (catalog_entry m.mark) holds.kept)
       (entry_as (padded_name name) (catalog_value m.mark listing 0)))
       → MapHolds (next_generation (map_now q image)) (with_file name (empty_file spec) files)
-  made_there spec between listing placed sound p q image is same catalog put =
+  made_there spec between listing placed sound fits p q image is same catalog put =
       let long : length (with_file name (empty_file spec) files) ≡ length files =
       ap (λ (l : Files). length (with_file name (empty_file spec) l)) (sym holds.named)
       ∙ kept_count name holds.kept here.held (empty_file spec) (own m files holds name here.held named here.there)
@@ -176,13 +178,16 @@ module _ {m : Map} {files : Files} {holds : MapHolds m files} {name : List ℕ} 
       let count = holds.are.count in
       let are : AreFiles (with_file name (empty_file spec) files) =
       created_are_files name spec files holds.are named sound (omega (arith, long, count)) in
+      let short : m.mark ≡ 0 → AreShort (with_file name (empty_file spec) files) =
+      λ first. created_short name spec files (holds.short first) (fits first) in
       will_hold m files holds name here.held named here.there p q image (emptied spec) is same catalog
       (holds_after m files holds name here.held named here.there (emptied spec) between listing placed
-      (map_now q image).pages m.catalog (catalog_value m.mark listing 0) refl put refl are)
+      (map_now q image).pages m.catalog (catalog_value m.mark listing 0) refl put refl are short)
 
 -- Under a new name.
 pub made_new : (p q : PageMap) (image : List Sector) (files : Files) (holds : MapHolds (map_now p image) files)
-    (name : List ℕ) (spec : Spec) → is_name name ≡ true → is_spec spec ≡ true → file_at name files ≡ None
+    (name : List ℕ) (spec : Spec) → is_name name ≡ true → is_spec spec ≡ true
+    → ((map_now p image).mark ≡ 0 → is_long spec ≡ false) → file_at name files ≡ None
     → SameCommitted p q → length files < 255 → (listing : List ℕ) → listing ≡ listing_bytes
     (record { spec = spec; prime = 0; alternates = replicate (length spec.alternates) 0; next_arrival = 1 }) →
     IsTreeAmong (map_now q image).pages [] (flat_map trees_of holds.kept)
@@ -190,13 +195,13 @@ pub made_new : (p q : PageMap) (image : List Sector) (files : Files) (holds : Ma
     (with_new_entry (map (catalog_entry (map_now p image).mark) holds.kept)
     (entry_as (padded_name name) (catalog_value (map_now p image).mark listing 0)))
     → MapHolds (next_generation (map_now q image)) (with_file name (empty_file spec) files)
-made_new p q image files holds name spec named sound none same few listing says put =
+made_new p q image files holds name spec named sound fits none same few listing says put =
     let long = added_count name (empty_file spec) files none in
     let are : AreFiles (with_file name (empty_file spec) files) =
     created_are_files name spec files holds.are named sound (omega (arith, few, long)) in
     subst (λ (x : Map). MapHolds x (with_file name (empty_file spec) files)) (next_with p q image same)
     (holds_added (map_now p image) files holds name spec named none (map_now q image).pages (catalog_of q) listing put
-    says are)
+    says are (λ first. created_short name spec files (holds.short first) (fits first)))
 
 -- too little room for it was there before a call that only reads
 pub lacks_added : (p q : PageMap) (name : List ℕ) (spec : Spec) (files : Files) → file_at name files ≡ None

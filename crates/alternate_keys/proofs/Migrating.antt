@@ -26,10 +26,10 @@ use Rattle.volume_format.specs.Trees.{entry_under, layout_under}
 use Rattle.volume_format.specs.Volume.{FileTrees, IsKept, MapHolds, trees_of, catalog_entry, catalog_tree}
 use Rattle.volume_format.specs.Volume.{listing_of}
 use Rattle.volume_format.proofs.Forests.{all_right, forest_moves}
-use Rattle.volume_format.proofs.Whole.{whole_grows}
+use Rattle.volume_format.proofs.Whole.{whole_grows, same_count}
 use Rattle.alternate_keys.specs.Listed.{catalog_at, root_in}
 use Rattle.alternate_keys.specs.Placed.{HasTrees}
-use Rattle.alternate_keys.specs.Seen.{HasRows}
+use Rattle.alternate_keys.specs.Seen.{HasRows, row_tree_of}
 use Rattle.alternate_keys.proofs.Empties.{forest_with}
 use Rattle.alternate_keys.proofs.FileTrees.{good_spec, prime_rows}
 use Rattle.alternate_keys.proofs.Placing.{next_kept, own_named}
@@ -51,6 +51,7 @@ holds_counted m files holds pages catalog stands = record {
   };
   named = holds.named;
   are = holds.are;
+  short = λ first. absurd (omega (arith, first));
 }
 
 -- A tree that was built of pages that were in no tree stands among the others.
@@ -144,19 +145,22 @@ pub rows_there : (spec : Spec) (named : NamedFile) (generation : ℕ) (pages : L
     (left right : List TreeLevels) (listing : List ℕ) (has : HasTrees spec named generation pages left right listing)
     (tree : RootedTree) → ((l : Listing) → is_spec l.spec ≡ true → listing ≡ listing_bytes l → IsKey l.spec Prime
     → (tree.layout ≡ layout_under l.spec Prime) × (tree.root ≡ root_in Prime listing))
-    → HasRows spec pages named.file.rows tree
+    → HasRows spec pages named.file.rows (row_tree_of spec tree)
 rows_there spec named generation pages left right listing has tree is =
     let kept : FileTrees = has.placed.kept in
     let own = is (listing_of kept) (good_spec spec named generation pages left right listing has) has.placed.says
     (omega arith) in
     let same : kept.named.file.spec ≡ spec = ap (λ (n : NamedFile). n.file.spec) has.placed.named_is ∙ has.spec_is in
-    prime_rows spec named generation pages left right listing has tree
-    (own.0 ∙ ap (λ (s : Spec). layout_under s Prime) same) own.1
+    prime_rows spec named generation pages left right listing has (row_tree_of spec tree)
+    (own.0 ∙ ap (λ (s : Spec). layout_under s Prime) same) own.1 refl
 
 pub rows_counted : (spec : Spec) (pages : List (Option Sector)) (rows : List Row) (tree : RootedTree)
-    (has : HasRows spec pages rows tree) → length (entries_of tree.layout has.levels) ≡ length rows
+    (has : HasRows spec pages rows (row_tree_of spec tree))
+    → length (entries_of tree.layout has.planted.levels) ≡ length rows
 rows_counted spec pages rows tree has =
-    ap (λ (l : List Entry). length l) has.entries ∙ length-map rows (entry_under spec Prime)
+    ap (λ (t : RootedTree). length (entries_of t.layout has.planted.levels)) (sym has.stands.tree_is)
+    ∙ sym (same_count pages has.planted has.stands.grows)
+    ∙ ap (λ (l : List Entry). length l) has.entries ∙ length-map rows (entry_under spec Prime)
 
 -- After the old catalog has released its pages and a new one was built, the map holds the same files.
 pub remade : (m : Map) (files : Files) (holds : MapHolds m files) (cleared after : List (Option Sector)) (root : ℕ)

@@ -7,13 +7,15 @@ use Rattle.pages.specs.Use.{free_count}
 use Rattle.pages.specs.declared.page_map.PageMap.{PageMap}
 use Rattle.btree.specs.Calls.{pages_on}
 use Rattle.btree.specs.Results.{FewChanged}
+use Rattle.chains.specs.Chain.{pages_for}
 use Rattle.records.specs.Spec.{Spec}
 use Rattle.records.specs.Changes.{FileChange}
 use Rattle.records.specs.Files.{NamedFile}
+use Rattle.volume_format.specs.Chained.{chained_bytes}
 use Rattle.volume_format.specs.Calls.{LooksAt}
 use Rattle.volume_format.specs.Forest.{TreeLevels}
 use Rattle.alternate_keys.specs.declared.row_verb.RowVerb.{RowVerb}
-use Rattle.alternate_keys.specs.Calls.{Edits}
+use Rattle.row_trees.specs.Calls.{EditsPages}
 use Rattle.alternate_keys.specs.Moved.{HasChangedRows, PairsMayMove, named_after}
 use Rattle.alternate_keys.specs.Placed.{HasFileTrees}
 use Rattle.alternate_keys.proofs.HeldTrees.{HoldsTrees}
@@ -28,15 +30,15 @@ module _ {D : Type 0} (d : Devices D) where
     pub agrees : Agrees q (d.state b).disk
     pub still : d.state b ≡ d.state a
     pub committed : SameCommitted p q
-    pub few : FewChanged 42 p q
+    pub few : FewChanged (42 + pages_for (chained_bytes spec)) p q
     pub changed : HasChangedRows verb spec named after generation (pages_on d q b) left right listing root old bytes
         arrival next
     pub may : PairsMayMove verb named.file old bytes arrival
 
   pub moving_from : {A : Type 0} {verb : RowVerb} {spec : Spec} {named after : NamedFile} {generation : ℕ}
       {left right : List TreeLevels} {listing : List ℕ} {root : ℕ} {old bytes : List ℕ} {arrival next : ℕ}
-      {p q : PageMap} {a b : D} → HoldsTrees d spec named generation left right listing p a → Edits d A p a q b
-      → FewChanged 42 p q
+      {p q : PageMap} {a b : D} → HoldsTrees d spec named generation left right listing p a → EditsPages d A p a q b
+      → FewChanged (42 + pages_for (chained_bytes spec)) p q
       → HasChangedRows verb spec named after generation (pages_on d q a) left right listing root old bytes arrival next
       → PairsMayMove verb named.file old bytes arrival →
       IsMoving verb spec named after generation left right listing root old bytes arrival next p a q b
@@ -82,7 +84,8 @@ module _ {D : Type 0} (d : Devices D) where
       pub room_then : (keys : ℕ)
           → IsMoving verb spec named after generation left right listing root old bytes arrival next p a q b
           → free_count (committed_of q) < length (changed_pages_of q) + 84 * keys
-          → free_count (committed_of p) < length (changed_pages_of p) + (84 * keys + 42)
+          → free_count (committed_of p) < length (changed_pages_of p) + (84 * keys +
+          (42 + pages_for (chained_bytes spec)))
       room_then keys moving room =
           let same = ap free_count (same_volume p q moving.committed) in
           let few = moving.few in
@@ -90,7 +93,8 @@ module _ {D : Type 0} (d : Devices D) where
 
       pub few_then : (keys : ℕ)
           → IsMoving verb spec named after generation left right listing root old bytes arrival next p a q b
-          → (r : PageMap) → FewChanged (84 * keys) q r → FewChanged (84 * keys + 42) p r
+          → (r : PageMap) → FewChanged (84 * keys) q r → FewChanged (84 * keys + (42 + pages_for (chained_bytes spec)))
+          p r
       few_then keys moving r more = let few = moving.few in omega (arith, more, few)
 
       pub placed_then : IsMoving verb spec named after generation left right listing root old bytes arrival next p a q b

@@ -8,7 +8,7 @@ use Rattle.pages.specs.declared.page_map.PageMap.{PageMap}
 use Rattle.btree.specs.Calls.{pages_on}
 use Rattle.btree.specs.Entries.{Entry, entry_with, with_new_entry, with_value, without_entry}
 use Rattle.btree.specs.Results.{FewChanged}
-use Rattle.btree.specs.Rooted.{RootedTree}
+use Rattle.chains.specs.Chain.{pages_for}
 use Rattle.records.specs.declared.answer.Outcome.{Outcome}
 use Rattle.records.specs.declared.fault.StoreFault.{StoreFault}
 use Rattle.records.specs.declared.key.KeyOfReference.TheVariants.{Prime}
@@ -17,14 +17,14 @@ use Rattle.records.specs.Rows.{Row, Pair, named_pair}
 use Rattle.records.specs.Changes.{changes, arrivals_after, new_number, insertion, replacement, removal}
 use Rattle.records.specs.Files.{NamedFile}
 use Rattle.file_bytes.specs.Rows.{row_value}
+use Rattle.volume_format.specs.Chained.{chained_bytes}
 use Rattle.volume_format.specs.Calls.{LooksAt}
 use Rattle.volume_format.specs.Trees.{entry_under, layout_under}
 use Rattle.volume_format.specs.Forest.{TreeLevels}
-use Rattle.volume_format.specs.Grows.{IsTreeAmong}
 use Rattle.volume_format.specs.Pairs.{IsPair}
 use Rattle.alternate_keys.specs.declared.row_verb.RowVerb.TheVariants.{Insert, Replace, Remove}
-use Rattle.alternate_keys.specs.Among.{OnAmong}
-use Rattle.alternate_keys.specs.Calls.{Edits}
+use Rattle.row_trees.specs.Calls.{EditsPages, OnRowTreeAmong}
+use Rattle.row_trees.specs.RowTree.{ChainedTree, IsRowTreeAmong}
 use Rattle.alternate_keys.specs.Listed.{root_in}
 use Rattle.alternate_keys.specs.Moved.{HasChangedRows, PairsMayMove, IsRowOf, named_after}
 use Rattle.alternate_keys.specs.NewRow.{row_with, named_with}
@@ -39,61 +39,65 @@ use Rattle.alternate_keys.proofs.ReplaceRow.{entry_changed, replace_moving, repl
 module _ {D : Type 0} (d : Devices D) where
   -- a new row, which the tree of rows of the pages `q` has
   pub record HasNewRow (spec : Spec) (named : NamedFile) (generation : ℕ) (left right : List TreeLevels)
-      (listing : List ℕ) (number arrival : ℕ) (bytes : List ℕ) (prime : RootedTree) (p : PageMap) (b : D) (q : PageMap)
+      (listing : List ℕ) (number arrival : ℕ) (bytes : List ℕ) (prime : ChainedTree) (p : PageMap) (b : D) (q : PageMap)
       : Type 0 where
     pub trees : HoldsTrees d spec named generation left right listing p b
     pub new : IsNew spec named.file number arrival bytes
     pub none : found_new spec number arrival bytes named.file.rows ≡ None
-    pub put : IsTreeAmong (pages_on d q b) left
+    pub put : IsRowTreeAmong (pages_on d q b) left
         ((kept_in spec named generation (pages_on d p b) left right listing trees.has).alternates ++ right) prime
         (with_new_entry (map (entry_under spec Prime) named.file.rows)
         (entry_under spec Prime (row_new spec number arrival bytes)))
 
   pub has_new_row : {spec : Spec} {named : NamedFile} {generation : ℕ} {left right : List TreeLevels} {listing : List ℕ}
-      {number arrival : ℕ} {bytes : List ℕ} {prime tree : RootedTree} {p q : PageMap} {b : D} {own : ℕ}
+      {number arrival : ℕ} {bytes : List ℕ} {prime tree : ChainedTree} {p q : PageMap} {b : D} {own : ℕ}
       {given : Result Bool StoreFault} → HoldsTrees d spec named generation left right listing p b
       → IsNew spec named.file number arrival bytes → own ≡ new_number spec.organization number arrival
-      → tree.layout ≡ layout_under spec Prime → tree.root ≡ root_in Prime listing → given ≡ Ok true
-      → OnAmong d tree p b (λ left right entries. given ≡ Ok true →
+      → tree.tree.layout ≡ layout_under spec Prime → tree.tree.root ≡ root_in Prime listing
+      → tree.record_bytes ≡ chained_bytes spec → given ≡ Ok true
+      → OnRowTreeAmong d tree p b (λ left right entries. given ≡ Ok true →
       (entry_with entries (entry_under spec Prime (row_with spec own arrival bytes)).key ≡ None)
-      × IsTreeAmong (pages_on d q b) left right prime
+      × IsRowTreeAmong (pages_on d q b) left right prime
       (with_new_entry entries (entry_under spec Prime (row_with spec own arrival bytes)))) →
       HasNewRow spec named generation left right listing number arrival bytes prime p b q
   has_new_row {spec} {named} {generation} {left} {right} {listing} {number} {arrival} {bytes} {prime} {p} {q} {b} trees
-      new own_is layout_at root_at is came =
+      new own_is layout_at root_at form_at is came =
       let entries : List Entry = map (entry_under spec Prime) named.file.rows in
       let here =
-      came trees.honest trees.agrees left _ _ (prime_stands _ _ _ _ _ _ _ trees.has _ layout_at root_at) is in
+      came trees.honest trees.agrees left _ _ (prime_stands _ _ _ _ _ _ _ trees.has _ layout_at root_at form_at) is in
       record {
         trees = trees;
         new = new;
         none = subst (λ (n : ℕ). entry_with entries (entry_under spec Prime (row_with spec n arrival bytes)).key ≡ None)
             own_is here.0;
-        put = subst (λ (n : ℕ). IsTreeAmong (pages_on d q b) left
+        put = subst (λ (n : ℕ). IsRowTreeAmong (pages_on d q b) left
             ((kept_in spec named generation (pages_on d p b) left right listing trees.has).alternates ++ right) prime
             (with_new_entry entries (entry_under spec Prime (row_with spec n arrival bytes)))) own_is here.1;
       }
 
   -- it came to the tree of rows
   pub inserted_moves : {A C : Type 0} {spec : Spec} {named : NamedFile} {generation : ℕ} {left right : List TreeLevels}
-      {listing : List ℕ} {number arrival : ℕ} {bytes : List ℕ} {outcome : Outcome} {prime tree : RootedTree}
+      {listing : List ℕ} {number arrival : ℕ} {bytes : List ℕ} {outcome : Outcome} {prime tree : ChainedTree}
       {o p q : PageMap} {a b c : D} {root : ℕ} → d.is_honest a → LooksAt d A o a p b
       → HasNewRow spec named generation left right listing number arrival bytes prime p b q
-      → Inserts spec number arrival bytes named.file outcome → Edits d C p b q c
-      → OnAmong d tree p b (λ left right entries. FewChanged 42 p q) → prime.layout ≡ tree.layout
-      → tree.layout ≡ layout_under spec Prime → tree.root ≡ root_in Prime listing → root ≡ prime.root →
+      → Inserts spec number arrival bytes named.file outcome → EditsPages d C p b q c
+      → OnRowTreeAmong d tree p b (λ left right entries. FewChanged (42 + pages_for tree.record_bytes) p q)
+      → prime.tree.layout ≡ tree.tree.layout → prime.record_bytes ≡ tree.record_bytes
+      → tree.tree.layout ≡ layout_under spec Prime → tree.tree.root ≡ root_in Prime listing
+      → tree.record_bytes ≡ chained_bytes spec → root ≡ prime.tree.root →
       IsMoving d Insert spec named (named_after named (insertion number bytes named.file)) generation left right listing
       root [] bytes arrival (arrival + 1) o a q c
-  inserted_moves {spec} {named} {generation} {left} {right} {listing} {number} {arrival} {bytes} {prime} {q} {b} honest
-      finds came done edits few same_layout layout_at root_at root_is =
+  inserted_moves {spec} {named} {generation} {left} {right} {listing} {number} {arrival} {bytes} {prime} {p} {q} {b}
+      honest finds came done edits few same_layout same_form layout_at root_at form_at root_is =
       let held = came.trees in
       let new = came.new in
       let moved = insert_moving _ _ _ _ _ _ _ held.has number arrival bytes new.same new.good new.long new.low
-      new.numbered (pages_on d q b) prime (same_layout ∙ layout_at) came.put in
+      new.numbered (pages_on d q b) prime (same_layout ∙ layout_at) (same_form ∙ form_at) came.put in
       let may = pairs_may _ _ _ _ _ _ _ held.has number arrival bytes new.same new.good new.long new.low
       new.numbered in
       moving_since d honest finds (moving_as d done (moving_from d held edits
-      (few held.honest held.agrees left _ _ (prime_stands _ _ _ _ _ _ _ held.has _ layout_at root_at))
+      (subst (λ (n : ℕ). FewChanged (42 + pages_for n) p q) form_at
+      (few held.honest held.agrees left _ _ (prime_stands _ _ _ _ _ _ _ held.has _ layout_at root_at form_at)))
       (subst (λ (n : ℕ). HasChangedRows Insert spec named (named_with (row_new spec number arrival bytes) named)
       generation (pages_on d q b) left right listing n [] bytes arrival (arrival + 1)) (sym root_is) moved) may))
 
@@ -101,24 +105,27 @@ module _ {D : Type 0} (d : Devices D) where
   pub replaced_moves :
       {A B C : Type 0} {spec : Spec} {named : NamedFile} {generation : ℕ} {left right : List TreeLevels}
       {listing : List ℕ} (number : ℕ) (bytes : List ℕ) {entry : Entry} {outcome : Outcome} {o p q r : PageMap}
-      {a b c e : D} {root arrival next : ℕ} {key value changed : List ℕ} {prime tree : RootedTree} → is_spec spec ≡ true
+      {a b c e : D} {root arrival next : ℕ} {key value changed : List ℕ} {prime tree : ChainedTree} → is_spec spec ≡
+      true
       → d.is_honest a → LooksAt d A o a p b
       → (found :
       HoldsRow d spec named generation left right listing (named_pair spec.organization number bytes) entry p b)
-      → LooksAt d B p b q c → Replaces number bytes named.file found.row.old outcome → Edits d C q c r e
-      → FewChanged 42 q r → arrival ≡ big_number 8 (drop 75 listing) → key ≡ entry.key → value ≡ entry.value
+      → LooksAt d B p b q c → Replaces number bytes named.file found.row.old outcome → EditsPages d C q c r e
+      → FewChanged (42 + pages_for tree.record_bytes) q r → arrival ≡ big_number 8 (drop 75 listing)
+      → key ≡ entry.key → value ≡ entry.value
       → ((row : Row) → IsRowOf spec row → value ≡ row_value row → changed
       ≡ bytes ++ flat_map (big_bytes 8) (arrivals_after row.bytes bytes arrival spec.alternates row.arrivals))
       → next
       ≡ (if list_any (changes (take spec.record_length value) bytes) spec.alternates then arrival + 1 else arrival)
-      → prime ≡ tree → tree.layout ≡ layout_under spec Prime → tree.root ≡ root_in Prime listing → root ≡ prime.root
-      → OnAmong d tree q c (λ left right entries.
-      IsTreeAmong (pages_on d r c) left right prime (with_value entries (entry_as key changed))) →
+      → prime ≡ tree → tree.tree.layout ≡ layout_under spec Prime → tree.tree.root ≡ root_in Prime listing
+      → tree.record_bytes ≡ chained_bytes spec → root ≡ prime.tree.root
+      → OnRowTreeAmong d tree q c (λ left right entries.
+      IsRowTreeAmong (pages_on d r c) left right prime (with_value entries (entry_as key changed))) →
       IsMoving d Replace spec named (named_after named (replacement number bytes named.file)) generation left right
       listing root value bytes arrival next o a r e
   replaced_moves {spec} {named} {generation} {left} {right} {listing} number bytes {entry} {q} {r} {c} {arrival} {next}
       {key} {value} {changed} {prime} is honest finds found looks done edits few arrival_at key_at value_at changed_is
-      next_at same_tree layout_at root_at root_is put =
+      next_at same_tree layout_at root_at form_at root_is put =
       let held = still_holds d found.trees looks in
       let has = held.has in
       let row = found.row in
@@ -128,56 +135,62 @@ module _ {D : Type 0} (d : Devices D) where
       let next_is = next_told _ _ _ _ _ _ _ has number bytes entry row value value_at arrival next same next_at in
       let new = entry_changed _ _ _ _ _ _ _ has number bytes entry row value value_at arrival same key changed key_at
       (changed_is row.old row.row_is value_is) in
-      let stands = subst (λ (x : Entry). IsTreeAmong (pages_on d r c) left
+      let stands = subst (λ (x : Entry). IsRowTreeAmong (pages_on d r c) left
       ((kept_in spec named generation (pages_on d q c) left right listing has).alternates ++ right) prime
       (with_value (map (entry_under spec Prime) named.file.rows) x)) new
-      (put held.honest held.agrees left _ _ (prime_stands _ _ _ _ _ _ _ has _ layout_at root_at)) in
+      (put held.honest held.agrees left _ _ (prime_stands _ _ _ _ _ _ _ has _ layout_at root_at form_at)) in
       let good = subst (λ (s : Spec). IsPair spec Prime (named_pair s.organization number bytes)) (sym has.spec_is)
       row.good in
       let moved = replace_moving _ _ _ _ _ _ _ has is number bytes row.old there arrival next same next_is good
-      (pages_on d r c) prime (ap (λ (t : RootedTree). t.layout) same_tree ∙ layout_at) stands in
+      (pages_on d r c) prime (ap (λ (t : ChainedTree). t.tree.layout) same_tree ∙ layout_at)
+      (ap (λ (t : ChainedTree). t.record_bytes) same_tree ∙ form_at) stands in
       let after : NamedFile =
       named_changed (named_pair named.file.spec.organization number bytes) bytes row.old named in
       let changes = subst (λ (v : List ℕ). HasChangedRows Replace spec named after generation (pages_on d r c) left
-      right listing prime.root v bytes arrival next) (sym value_is) moved in
+      right listing prime.tree.root v bytes arrival next) (sym value_is) moved in
       let may = subst (λ (v : List ℕ). PairsMayMove Replace named.file v bytes arrival) (sym value_is)
       (replaced_may _ _ _ _ _ _ _ has is number bytes row.old there arrival same) in
       moving_since d honest finds (moving_since d found.trees.honest looks (moving_as d done
-      (moving_from d held edits few (subst (λ (n : ℕ). HasChangedRows Replace spec named after generation
+      (moving_from d held edits (subst (λ (n : ℕ). FewChanged (42 + pages_for n) q r) form_at few)
+      (subst (λ (n : ℕ). HasChangedRows Replace spec named after generation
       (pages_on d r c) left right listing n value bytes arrival next) (sym root_is) changes) may)))
 
   -- A row was found, and left the tree of rows.
   pub removed_moves : {A C : Type 0} {spec : Spec} {named : NamedFile} {generation : ℕ} {left right : List TreeLevels}
       {listing : List ℕ} {pair : Pair} {entry : Entry} {o p q : PageMap} {a b c : D} {root arrival : ℕ}
-      {key value : List ℕ} {prime tree : RootedTree} → is_spec spec ≡ true → d.is_honest a → LooksAt d A o a p b
-      → HoldsRow d spec named generation left right listing pair entry p b → Edits d C p b q c
-      → OnAmong d tree p b (λ left right entries. FewChanged 42 p q) → arrival ≡ big_number 8 (drop 75 listing)
-      → key ≡ entry.key → value ≡ entry.value → prime.layout ≡ tree.layout → tree.layout ≡ layout_under spec Prime
-      → tree.root ≡ root_in Prime listing → root ≡ prime.root
-      → OnAmong d tree p b (λ left right entries.
-      IsTreeAmong (pages_on d q b) left right prime (without_entry entries key)) →
+      {key value : List ℕ} {prime tree : ChainedTree} → is_spec spec ≡ true → d.is_honest a → LooksAt d A o a p b
+      → HoldsRow d spec named generation left right listing pair entry p b → EditsPages d C p b q c
+      → OnRowTreeAmong d tree p b (λ left right entries. FewChanged (42 + pages_for tree.record_bytes) p q)
+      → arrival ≡ big_number 8 (drop 75 listing)
+      → key ≡ entry.key → value ≡ entry.value → prime.tree.layout ≡ tree.tree.layout
+      → prime.record_bytes ≡ tree.record_bytes → tree.tree.layout ≡ layout_under spec Prime
+      → tree.tree.root ≡ root_in Prime listing → tree.record_bytes ≡ chained_bytes spec → root ≡ prime.tree.root
+      → OnRowTreeAmong d tree p b (λ left right entries.
+      IsRowTreeAmong (pages_on d q b) left right prime (without_entry entries key)) →
       IsMoving d Remove spec named (named_after named (removal pair named.file)) generation left right listing root
       value
       [] arrival arrival o a q c
   removed_moves {spec} {named} {generation} {left} {right} {listing} {pair} {p} {q} {b} {arrival} {key} {value} {prime}
-      is honest finds found edits few arrival_at key_at value_at same_layout layout_at root_at root_is put =
+      {tree} is honest finds found edits few arrival_at key_at value_at same_layout same_form layout_at root_at form_at
+      root_is put =
       let held = found.trees in
       let has = held.has in
       let row = found.row in
       let same : arrival ≡ named.file.next_arrival = arrival_at ∙ arrival_is _ _ _ _ _ _ _ has in
       let value_is : value ≡ row_value row.old = value_at ∙ ap (λ (e : Entry). e.value) row.is in
-      let there = prime_stands _ _ _ _ _ _ _ has _ layout_at root_at in
-      let stands = subst (λ (k : List ℕ). IsTreeAmong (pages_on d q b) left
+      let there = prime_stands _ _ _ _ _ _ _ has tree layout_at root_at form_at in
+      let stands = subst (λ (k : List ℕ). IsRowTreeAmong (pages_on d q b) left
       ((kept_in spec named generation (pages_on d p b) left right listing has).alternates ++ right) prime
       (without_entry (map (entry_under spec Prime) named.file.rows) k)) (key_at ∙ row.key)
       (put held.honest held.agrees left _ _ there) in
       let moved = remove_moving _ _ _ _ _ _ _ has is pair row.old row.there [] arrival same row.good (pages_on d q b)
-      prime (same_layout ∙ layout_at) stands in
+      prime (same_layout ∙ layout_at) (same_form ∙ form_at) stands in
       let changes = subst (λ (v : List ℕ). HasChangedRows Remove spec named (named_without pair named) generation
-      (pages_on d q b) left right listing prime.root v [] arrival arrival) (sym value_is) moved in
+      (pages_on d q b) left right listing prime.tree.root v [] arrival arrival) (sym value_is) moved in
       let may = subst (λ (v : List ℕ). PairsMayMove Remove named.file v [] arrival) (sym value_is)
       (removed_may _ _ _ _ _ _ _ has is pair row.old row.there [] arrival) in
       moving_since d honest finds (moving_as d (removed_done pair named.file row.old row.there)
-      (moving_from d held edits (few held.honest held.agrees left _ _ there)
+      (moving_from d held edits (subst (λ (n : ℕ). FewChanged (42 + pages_for n) p q) form_at
+      (few held.honest held.agrees left _ _ there))
       (subst (λ (n : ℕ). HasChangedRows Remove spec named (named_without pair named) generation (pages_on d q b) left
       right listing n value [] arrival arrival) (sym root_is) changes) may))

@@ -9,7 +9,7 @@ use Rattle.btree_pages.specs.declared.row_layout.RowLayout.{RowLayout}
 use Rattle.btree.specs.Reading.{IsReadRefusal, IsSearchRefusal}
 use Rattle.btree.specs.Refusals.{IsChangeRefusal, IsInsertRefusal}
 use Rattle.records.specs.declared.fault.StoreFault.{StoreFault}
-use Rattle.records.specs.declared.fault.StoreFault.TheVariants.{Device, Full, Damaged, Memory, Spent, Layout}
+use Rattle.records.specs.declared.fault.StoreFault.TheVariants.{Device, Full, Damaged, Memory, Spent, Layout, Old}
 use Rattle.volume_format.specs.Faults.{fault_of}
 use Rattle.alternate_keys.specs.Faults.{IsReadFault, IsWriteFault}
 pub use Rattle.btree.proofs.Passing.{passed, never_ok, same_error, still_error, committed_on, reads_where}
@@ -26,6 +26,7 @@ read_is_write Damaged why = tt
 read_is_write Memory why = tt
 read_is_write Spent why = tt
 read_is_write Layout why = why
+read_is_write Old why = why
 
 pub memory_is_read : (fault : StoreFault) → fault ≡ Memory → IsReadFault fault
 memory_is_read fault is = subst IsReadFault (sym is) tt

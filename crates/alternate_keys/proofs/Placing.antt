@@ -17,7 +17,7 @@ use Rattle.btree_pages.specs.Keys.{key_cmp}
 use Rattle.btree.specs.Entries.{Entry, entry_with, with_value}
 use Rattle.records.specs.Spec.{Spec, is_name}
 use Rattle.records.specs.Rows.{bytes_cmp}
-use Rattle.records.specs.Files.{File, Files, NamedFile, IsNamed, AreFiles, names, file_at, with_file}
+use Rattle.records.specs.Files.{File, Files, NamedFile, IsNamed, AreFiles, AreShort, names, file_at, with_file}
 use Rattle.records.proofs.Maps.{same_itself}
 use Rattle.file_bytes.specs.Description.{padded_name}
 use Rattle.volume_format.specs.Catalog.{ValueReads, listing_bytes, catalog_value}
@@ -193,10 +193,12 @@ pub holds_then : (m : Map) (files : Files) (holds : MapHolds m files) (name : Li
     ++ (trees_of placed.kept ++ flat_map trees_of found.split.after)) (catalog_at m.mark catalog)
     (with_value (map (catalog_entry m.mark) holds.kept) (record { key = padded_name name; value = value })) →
     value ≡ catalog_value m.mark listing (length after.rows)
-    → is_name name ≡ true → AreFiles (with_file name after files) → MapHolds
+    → is_name name ≡ true → AreFiles (with_file name after files) → (m.mark ≡ 0 → AreShort (with_file name after files))
+    → MapHolds
     (record { mark = m.mark; generation = m.generation + 1; catalog = catalog; pages = pages })
     (with_file name after files)
-holds_then m files holds name held found after between pages catalog listing value placed stands valued named are =
+holds_then m files holds name held found after between pages catalog listing value placed stands valued named are
+    short =
     let split = found.split in
     let new : FileTrees = placed.kept in
     let next : Map = record { mark = m.mark; generation = m.generation + 1; catalog = catalog; pages = pages } in
@@ -232,6 +234,7 @@ holds_then m files holds name held found after between pages catalog listing val
       named = sym (put_at name holds.kept found.one new split own) ∙ ap (λ (l : Files). with_file name new.named.file l)
           holds.named ∙ ap (λ (f : File). with_file name f files) file_is;
       are = are;
+      short = short;
     }
   where
     entry_as : List ℕ → List ℕ → Entry

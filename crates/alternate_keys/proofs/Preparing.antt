@@ -12,9 +12,10 @@ use Rattle.btree.specs.Entries.{Entry, entry_with, with_value}
 use Rattle.records.specs.declared.file_spec.FileSpec.{FileSpec}
 use Rattle.records.specs.Spec.{Spec, is_name}
 use Rattle.records.specs.Changes.{FileChange}
-use Rattle.records.specs.Files.{File, Files, NamedFile, AreFiles, IsByte, file_at, with_file}
+use Rattle.records.specs.Files.{File, Files, NamedFile, AreFiles, AreShort, IsByte, file_at, with_file}
 use Rattle.records.specs.Stores.{Has, spec_of, is_change, files_after, pair_of}
 use Rattle.records.proofs.Changed.{inserted_are_files, replaced_are_files, removed_are_files}
+use Rattle.records.proofs.Short.{inserted_short, replaced_short, removed_short}
 use Rattle.file_bytes.specs.Description.{padded_name}
 use Rattle.volume_format.specs.Catalog.{catalog_value}
 use Rattle.volume_format.specs.Forest.{TreeLevels}
@@ -51,6 +52,23 @@ are_then verb file files held are has number bytes asked low =
     has.spec
     (are_files verb file.name.items held files number bytes are has.there
     (subst (λ (s : Spec). IsAsked verb s number bytes) (sym has.spec) asked) low)
+
+-- and with short records alone, if they were
+are_short : (verb : RowVerb) (name : List ℕ) (file : File) (files : Files) (number : ℕ) (bytes : List ℕ)
+    → AreShort files → file_at name files ≡ Some file
+    → AreShort (files_after name files (changed_by verb file.spec.organization number bytes file))
+are_short Insert name file files number bytes short there = inserted_short name file files number bytes short there
+are_short Replace name file files number bytes short there = replaced_short name file files number bytes short there
+are_short Remove name file files number bytes short there =
+    removed_short name file files (pair_of file.spec.organization bytes number) short there
+
+pub short_then : (verb : RowVerb) (file : FileSpec) (files : Files) (held : File) → Has files file held
+    → (number : ℕ) (bytes : List ℕ) → AreShort files
+    → AreShort (files_after file.name.items files (changed_by verb file.organization number bytes held))
+short_then verb file files held has number bytes short =
+    subst
+    (λ (s : Spec). AreShort (files_after file.name.items files (changed_by verb s.organization number bytes held)))
+    has.spec (are_short verb file.name.items held files number bytes short has.there)
 
 some_clash : (x : Option Entry) (e : Entry) → x ≡ Some e → x ≡ None → ⊥
 some_clash x e some none = cc
@@ -127,14 +145,15 @@ module _ (m : Map) (files : Files) (holds : MapHolds m files) (name : List ℕ) 
         → IsTreeAmong pages [] around (catalog_at m.mark catalog)
         (with_value (map (catalog_entry m.mark) holds.kept) (record { key = padded_name name; value = value })) →
         is_change changed.outcome ≡ true → AreFiles (files_after name files changed)
+        → (m.mark ≡ 0 → AreShort (files_after name files changed))
         → MapHolds (map_with m.mark (m.generation + 1) catalog pages) (files_after name files changed)
-    holds_after pages catalog value valued stands change are =
+    holds_after pages catalog value valued stands change are short =
         let after : files_after name files changed ≡ with_file name changed.file files =
         ap (λ (b : Bool). if b then with_file name changed.file files else files) change in
         subst (λ (l : Files). MapHolds (map_with m.mark (m.generation + 1) catalog pages) l) (sym after)
         (holds_then m files holds name held own changed.file between pages catalog listing value placed stands valued
         named
-        (subst AreFiles after are))
+        (subst AreFiles after are) (λ first. subst AreShort after (short first)))
 
   pub will_hold : (p q : PageMap) (image : List Sector) (changed : FileChange)
       → map_now p image ≡ m → SameCommitted p q → catalog_of q ≡ catalog_of p

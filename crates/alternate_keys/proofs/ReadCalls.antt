@@ -41,4 +41,5 @@ reads_of d result old new spent device device' only unchanged agrees unspent tol
       spent = λ is. let clash : true ≡ false = sym (told is) ∙ unspent in cc;
       has_room = λ is. subst (λ r. IfErr r IsReadFault) is cause;
       own_layout = λ is. subst (λ r. IfErr r IsReadFault) is cause;
+      makes_none = λ is. subst (λ r. IfErr r IsReadFault) is cause;
     }

@@ -30,14 +30,14 @@ use Rattle.btree_pages.specs.declared.row_layout.RowLayout.{RowLayout}
 use Rattle.btree.specs.Builds.{Builds}
 use Rattle.btree.specs.Entries.{entries_of_rows}
 use Rattle.records.specs.declared.fault.StoreFault.{StoreFault}
-use Rattle.records.specs.declared.fault.StoreFault.TheVariants.{Device, Full, Damaged, Memory, Spent, Layout}
+use Rattle.records.specs.declared.fault.StoreFault.TheVariants.{Device, Full, Damaged, Memory, Spent, Layout, Old}
 use Rattle.records.specs.Files.{Files}
 use Rattle.records.specs.Stores.{Either}
 use Rattle.volume_format.specs.Catalog.{catalog_layout}
 use Rattle.volume_format.specs.Faults.{fault_of}
 use Rattle.volume_format.specs.Forest.{IsForest}
 use Rattle.volume_format.specs.Volume.{Holds, MapHolds, catalog_entry, trees_of}
-use Rattle.alternate_keys.specs.Calls.{Edits}
+use Rattle.row_trees.specs.Calls.{EditsPages}
 use Rattle.alternate_keys.specs.Created.{Prepares}
 use Rattle.alternate_keys.specs.Faults.{IsWriteFault}
 use Rattle.alternate_keys.specs.Held.{held_law}
@@ -58,7 +58,7 @@ not_second Second never = absurd (never refl)
 
 -- a call on pages alone
 pub edits_kept : {D : Type 0} (d : Devices D) (p q : PageMap) (a : D) → IsOpen p → KeepsCommitted p q
-    → Edits d ⊥ p a q a
+    → EditsPages d ⊥ p a q a
 edits_kept d p q a is keeps = record {
   only = reads_nothing d a;
   committed = keeps.committed;
@@ -169,6 +169,7 @@ write_refused image Damaged why full damaged spent = damaged refl
 write_refused image Memory why full damaged spent = tt
 write_refused image Spent why full damaged spent = spent refl
 write_refused image Layout why full damaged spent = absurd why
+write_refused image Old why full damaged spent = absurd why
 
 pub refused_by : {T : Type 0} (result : Result T StoreFault) (image : List Sector) → IfErr result IsWriteFault
     → (result ≡ Err Full → LacksRoomToMigrate image) → (result ≡ Err Damaged → HoldsNone image)

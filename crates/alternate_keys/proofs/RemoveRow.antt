@@ -18,13 +18,12 @@ use Rattle.volume_format.specs.Trees.{entry_under, key_under, layout_under, AreO
 use Rattle.file_bytes.specs.Rows.{row_value}
 use Rattle.volume_format.specs.Pairs.{IsPair}
 use Rattle.volume_format.specs.Forest.{TreeLevels}
-use Rattle.volume_format.specs.Grows.{IsTreeAmong}
-use Rattle.volume_format.specs.Forest.{tree_levels}
-use Rattle.volume_format.proofs.Whole.{short_spec}
+use Rattle.volume_format.specs.Chained.{chained_bytes}
+use Rattle.row_trees.specs.RowTree.{ChainedTree, IsRowTreeAmong}
 use Rattle.alternate_keys.specs.declared.row_verb.RowVerb.TheVariants.{Remove}
 use Rattle.alternate_keys.specs.Moved.{HasChangedRows, PairsMove, PairsMayMove, IsRowOf, old_key}
 use Rattle.alternate_keys.specs.Placed.{HasTrees}
-use Rattle.alternate_keys.proofs.FileTrees.{kept_in, good_here, arrival_low, rows_under, rows_ascend, is_row_of}
+use Rattle.alternate_keys.proofs.FileTrees.{kept_in, arrival_low, rows_under, rows_ascend, is_row_of}
 use Rattle.alternate_keys.proofs.FileTrees.{indexes_then}
 use Rattle.alternate_keys.proofs.FoundTrees.{indexed}
 use Rattle.alternate_keys.proofs.PairEdits.{pair_there, pair_leaves}
@@ -103,19 +102,20 @@ module _ (spec : Spec) (named : NamedFile) (generation : ℕ) (pages : List (Opt
       ∙ pair_there named.file.spec i k.place k.indexed_is pair named.file.rows old k.up there entries up are)
 
   pub remove_moving : (bytes : List ℕ) (arrival : ℕ) → arrival ≡ named.file.next_arrival → IsPair spec Prime pair
-      → (later : List (Option Sector)) (prime : RootedTree) → prime.layout ≡ layout_under spec Prime →
-      IsTreeAmong later left ((kept_in spec named generation pages left right listing has).alternates ++ right) prime
+      → (later : List (Option Sector)) (prime : ChainedTree) → prime.tree.layout ≡ layout_under spec Prime
+      → prime.record_bytes ≡ chained_bytes spec →
+      IsRowTreeAmong later left ((kept_in spec named generation pages left right listing has).alternates ++ right) prime
       (without_entry (map (entry_under spec Prime) named.file.rows) (key_under spec Prime pair)) →
-      HasChangedRows Remove spec named (named_without pair named) generation later left right listing prime.root
+      HasChangedRows Remove spec named (named_without pair named) generation later left right listing prime.tree.root
       (row_value old) bytes arrival arrival
-  remove_moving bytes arrival same pair_is later prime layout stands = record {
-    prime = tree_levels prime stands.levels;
+  remove_moving bytes arrival same pair_is later prime layout form stands = record {
+    prime = stands.planted;
     trees = (kept_in spec named generation pages left right listing has).alternates;
     indexes = indexes_then spec named generation pages left right listing has later prime
         (without_entry (map (entry_under spec Prime) named.file.rows) (key_under spec Prime pair)) stands;
-    layout = layout;
-    root_is = refl;
-    form = sym (short_spec spec (good_here spec named generation pages left right listing has));
+    layout = ap (λ (t : RootedTree). t.layout) stands.tree_is ∙ layout;
+    root_is = ap (λ (t : RootedTree). t.root) stands.tree_is;
+    form = stands.form_is ∙ form;
     rows = stands.listed
         ∙ row_leaves spec pair pair_is named.file.rows (rows_under spec named generation pages left right listing has)
         (rows_ascend spec named generation pages left right listing has)

@@ -30,16 +30,15 @@ use Rattle.volume_format.specs.Trees.{entry_under, key_under, layout_under, AreO
 use Rattle.file_bytes.specs.Rows.{row_value}
 use Rattle.volume_format.specs.Pairs.{IsPair}
 use Rattle.volume_format.specs.Forest.{TreeLevels}
-use Rattle.volume_format.specs.Grows.{IsTreeAmong}
-use Rattle.volume_format.specs.Forest.{tree_levels}
-use Rattle.volume_format.proofs.Whole.{short_spec}
+use Rattle.volume_format.specs.Chained.{chained_bytes}
+use Rattle.row_trees.specs.RowTree.{ChainedTree, IsRowTreeAmong}
 use Rattle.alternate_keys.specs.declared.row_verb.RowVerb.TheVariants.{Replace}
 use Rattle.alternate_keys.specs.Moved.{HasChangedRows, PairsMove, PairsMayMove, old_key, pair_entry}
 use Rattle.alternate_keys.specs.Moved.{changes_at, is_new}
 use Rattle.alternate_keys.specs.NewRow.{row_with}
 use Rattle.alternate_keys.specs.Placed.{HasTrees}
 use Rattle.alternate_keys.proofs.Arrivals.{arrival_at}
-use Rattle.alternate_keys.proofs.FileTrees.{kept_in, good_here, arrival_low, arrival_few, rows_under, rows_ascend}
+use Rattle.alternate_keys.proofs.FileTrees.{kept_in, arrival_low, arrival_few, rows_under, rows_ascend}
 use Rattle.alternate_keys.proofs.FileTrees.{indexes_then}
 use Rattle.alternate_keys.proofs.FoundRow.{FoundRow}
 use Rattle.alternate_keys.proofs.Fresh.{not_there, arrivals_before}
@@ -319,20 +318,20 @@ module _ (spec : Spec) (named : NamedFile) (generation : ℕ) (pages : List (Opt
       )
 
   pub replace_moving : (arrival next : ℕ) → arrival ≡ file.next_arrival → next ≡ next_of old.bytes bytes file
-      → IsPair spec Prime pair → (later : List (Option Sector)) (prime : RootedTree)
-      → prime.layout ≡ layout_under spec Prime →
-      IsTreeAmong later left ((kept_in spec named generation pages left right listing has).alternates ++ right) prime
+      → IsPair spec Prime pair → (later : List (Option Sector)) (prime : ChainedTree)
+      → prime.tree.layout ≡ layout_under spec Prime → prime.record_bytes ≡ chained_bytes spec →
+      IsRowTreeAmong later left ((kept_in spec named generation pages left right listing has).alternates ++ right) prime
       (with_value (map (entry_under spec Prime) file.rows) (entry_under spec Prime new)) →
       HasChangedRows Replace spec named (named_changed pair bytes old named) generation later left right listing
-      prime.root (row_value old) bytes arrival next
-  replace_moving arrival next same next_same pair_good later prime layout stands = record {
-    prime = tree_levels prime stands.levels;
+      prime.tree.root (row_value old) bytes arrival next
+  replace_moving arrival next same next_same pair_good later prime layout form stands = record {
+    prime = stands.planted;
     trees = (kept_in spec named generation pages left right listing has).alternates;
     indexes = indexes_then spec named generation pages left right listing has later prime
         (with_value (map (entry_under spec Prime) file.rows) (entry_under spec Prime new)) stands;
-    layout = layout;
-    root_is = refl;
-    form = sym (short_spec spec (good_here spec named generation pages left right listing has));
+    layout = ap (λ (t : RootedTree). t.layout) stands.tree_is ∙ layout;
+    root_is = ap (λ (t : RootedTree). t.root) stands.tree_is;
+    form = stands.form_is ∙ form;
     rows = stands.listed ∙ row_changes spec pair pair_good new file.rows
         (ap (λ (s : Spec). prime_pair s.organization new) (sym has.spec_is) ∙ new_pair)
         (rows_under spec named generation pages left right listing has)

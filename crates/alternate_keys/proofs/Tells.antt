@@ -10,7 +10,9 @@ use Rattle.std.proofs.lemmas.List.Elements.{All-contains}
 use Rattle.byteorder.specs.Endian.{big_bytes, big_number}
 use Rattle.byteorder.specs.Numbers.{big_number-reads_back}
 use Rattle.station.specs.Disk.{Sector}
+use Rattle.btree.specs.Laws.{keys_listed}
 use Rattle.btree.specs.Rooted.{RootedTree}
+use Rattle.btree_pages.specs.Keys.{Ascend}
 use Rattle.btree.specs.Entries.{Entry, entries_of, entry_with}
 use Rattle.records.specs.declared.file_spec.KeyPlace.{KeyPlace}
 use Rattle.records.specs.declared.file_spec.Organization.{Organization}
@@ -29,9 +31,13 @@ use Rattle.volume_format.specs.Trees.{entry_under}
 use Rattle.volume_format.specs.Pairs.{IsUnder, IsPrimePair}
 use Rattle.alternate_keys.specs.Aims.{aim_of, aim_short, fill, aim_at, extended_bytes, pair_aim_key, found_entry}
 use Rattle.alternate_keys.specs.Seen.{HasPairs, IsPairEntry, IsSought, number_in, begins_with_value}
+use Rattle.alternate_keys.specs.Seen.{seen_as, seen_under}
 use Rattle.btree.proofs.Runs.{in_head, in_tail, in_none}
 use Rattle.btree.proofs.There.{tree_ascends, entry_there}
 use Rattle.volume_format.proofs.Comes.{in_cons}
+use Rattle.volume_format.proofs.Whole.{same_keys}
+use Rattle.row_trees.specs.RowTree.{ChainedTree}
+use Rattle.alternate_keys.proofs.Seeing.{found_seen, keys_seen}
 use Rattle.alternate_keys.proofs.Least.{IsLeast, is_least}
 use Rattle.alternate_keys.proofs.Sought.{finds_sought}
 
@@ -92,18 +98,20 @@ by_place spec place row is =
     ∙ sym (ap (λ (o : Organization). prime_key o (named_pair o row.number row.bytes)) is)
 
 -- the row of a pair is found under the prime key
-pub row_there : (spec : Spec) (i n : ℕ) (pages : List (Option Sector)) (rows : List Row) (prime under : RootedTree)
-    (entry : Entry) (row : Row) → (told : IsPairEntry spec i pages rows prime under n entry row) →
-    entry_with (entries_of prime.layout told.there.levels) entry.value ≡ Some (entry_under spec Prime row)
+pub row_there : (spec : Spec) (i n : ℕ) (pages : List (Option Sector)) (rows : List Row) (prime : ChainedTree)
+    (under : RootedTree) (entry : Entry) (row : Row) → (told : IsPairEntry spec i pages rows prime under n entry row) →
+    entry_with told.there.planted.entries entry.value ≡ Some (entry_under spec Prime row)
 row_there spec i n pages rows prime under entry row told =
     let value : entry.value ≡ (entry_under spec Prime row).key =
     ap (λ (e : Entry). e.value) told.is ∙ by_place spec told.place row told.indexed in
-    let has : Contains (entries_of prime.layout told.there.levels) (entry_under spec Prime row) =
+    let planted = told.there.planted in
+    let grows = told.there.stands.grows in
+    let has : Contains planted.entries (entry_under spec Prime row) =
     subst (λ (es : List Entry). Contains es (entry_under spec Prime row)) (sym told.there.entries)
     (in_map (entry_under spec Prime) rows row told.has) in
-    ap (entry_with (entries_of prime.layout told.there.levels)) value
-    ∙ entry_there (entries_of prime.layout told.there.levels) (entry_under spec Prime row)
-    (tree_ascends prime.layout pages prime.root told.there.levels told.there.holds) has
+    let up : Ascend (keys_listed planted.entries) = subst Ascend (sym (same_keys pages planted grows))
+    (tree_ascends planted.tree.layout pages planted.tree.root planted.levels grows.stands) in
+    ap (entry_with planted.entries) value ∙ entry_there planted.entries (entry_under spec Prime row) up has
 
 -- whether the next pair has the same value
 abbrev pub IsIn : List Row → Option Row → Type 0
@@ -169,40 +177,48 @@ repeated_is spec i n pages rows under row pairs has long =
     (is_least spec (Alternate i) (λ r. is_after place.side place.pair (pair_under spec (Alternate i) r)) rows))
 
 -- the row that an entry was found for
-pub record IsFor (spec : Spec) (key : KeyOfReference) (bound : RowBound) (rows : List Row) (entry : Entry) :
-    Type 0 where
+pub record IsFor (spec : Spec) (key : KeyOfReference) (bound : RowBound) (pages : List (Option Sector))
+    (rows : List Row) (entry : Entry) : Type 0 where
   pub row : Row
   pub is : sought_row spec key bound rows ≡ Some row
   pub has : Contains rows row
-  pub entry_is : entry ≡ entry_under spec key row
+  pub entry_is : seen_as spec key pages entry ≡ entry_under spec key row
 
-for_by : (spec : Spec) (key : KeyOfReference) (bound : RowBound) (rows : List Row) (entry : Entry) (row : Option Row)
-    → sought_row spec key bound rows ≡ row → IsIn rows row → Some entry ≡ option_map (entry_under spec key) row
-    → IsFor spec key bound rows entry
-for_by spec key bound rows entry None is has same = let clash : Some entry ≡ None = same in cc
-for_by spec key bound rows entry (Some row) is has same = record { row = row; is = is; has = has; entry_is = cc }
+for_by : (spec : Spec) (key : KeyOfReference) (bound : RowBound) (pages : List (Option Sector)) (rows : List Row)
+    (entry : Entry) (row : Option Row) → sought_row spec key bound rows ≡ row → IsIn rows row
+    → Some (seen_as spec key pages entry) ≡ option_map (entry_under spec key) row
+    → IsFor spec key bound pages rows entry
+for_by spec key bound pages rows entry None is has same =
+    let clash : Some (seen_as spec key pages entry) ≡ None = same in cc
+for_by spec key bound pages rows entry (Some row) is has same =
+    record { row = row; is = is; has = has; entry_is = cc }
+
+-- what is found of the entries as they are seen
+looked_is : (spec : Spec) (key : KeyOfReference) (bound : RowBound) (pages : List (Option Sector)) (rows : List Row)
+    (prime : ChainedTree) (under : RootedTree) (way : SearchStart) (at : List ℕ) →
+    (look : IsSought spec key bound pages rows prime under way at)
+    → option_map (seen_as spec key pages) (found_entry way (entries_of under.layout look.pairs.levels) at)
+    ≡ option_map (entry_under spec key) (sought_row spec key bound rows)
+looked_is spec key bound pages rows prime under way at look =
+    let stored = entries_of under.layout look.pairs.levels in
+    let seen = seen_under spec key pages stored in
+    let up : Ascend (keys_listed seen) = subst Ascend (sym (keys_seen spec key pages stored))
+    (tree_ascends under.layout pages under.root look.pairs.levels look.pairs.holds) in
+    sym (found_seen spec key pages way stored at) ∙ ap (λ w. found_entry w seen at) look.way_is
+    ∙ ap (found_entry (aim_of spec key bound) seen) look.at_is
+    ∙ finds_sought spec key bound rows seen look.bounded up look.pairs.are look.pairs.fits
 
 pub found_for : (spec : Spec) (key : KeyOfReference) (bound : RowBound) (pages : List (Option Sector)) (rows : List Row)
-    (prime under : RootedTree) (way : SearchStart) (at : List ℕ) (entry : Option Entry) (e : Entry) →
+    (prime : ChainedTree) (under : RootedTree) (way : SearchStart) (at : List ℕ) (entry : Option Entry) (e : Entry) →
     (look : IsSought spec key bound pages rows prime under way at)
     → entry ≡ found_entry way (entries_of under.layout look.pairs.levels) at → entry ≡ Some e
-    → IsFor spec key bound rows e
+    → IsFor spec key bound pages rows e
 found_for spec key bound pages rows prime under way at entry e look is some =
     let test : Row → Bool = λ row. is_after bound.side bound.pair (pair_under spec key row) in
-    for_by spec key bound rows e (sought_row spec key bound rows) refl
+    for_by spec key bound pages rows e (sought_row spec key bound rows) refl
     (least_in spec key test rows (sought_row spec key bound rows) (is_least spec key test rows))
-    (sym some ∙ is ∙ looked_is spec key bound pages rows prime under way at look)
-  where
-    looked_is : (spec : Spec) (key : KeyOfReference) (bound : RowBound) (pages : List (Option Sector)) (rows : List Row)
-        (prime under : RootedTree) (way : SearchStart) (at : List ℕ) →
-        (look : IsSought spec key bound pages rows prime under way at)
-        → found_entry way (entries_of under.layout look.pairs.levels) at ≡ option_map (entry_under spec key)
-        (sought_row spec key bound rows)
-    looked_is spec key bound pages rows prime under way at look =
-        ap (λ w. found_entry w (entries_of under.layout look.pairs.levels) at) look.way_is
-        ∙ ap (found_entry (aim_of spec key bound) (entries_of under.layout look.pairs.levels)) look.at_is
-        ∙ finds_sought spec key bound rows (entries_of under.layout look.pairs.levels) look.bounded
-        (tree_ascends under.layout pages under.root look.pairs.levels look.pairs.holds) look.pairs.are look.pairs.fits
+    (ap (option_map (seen_as spec key pages)) (sym some ∙ is)
+    ∙ looked_is spec key bound pages rows prime under way at look)
 
 none_by : (spec : Spec) (key : KeyOfReference) (row : Option Row) → None ≡ option_map (entry_under spec key) row
     → row ≡ None
@@ -210,13 +226,12 @@ none_by spec key None same = refl
 none_by spec key (Some row) same = cc
 
 pub found_none : (spec : Spec) (key : KeyOfReference) (bound : RowBound) (pages : List (Option Sector))
-    (rows : List Row) (prime under : RootedTree) (way : SearchStart) (at : List ℕ) (entry : Option Entry) →
+    (rows : List Row) (prime : ChainedTree) (under : RootedTree) (way : SearchStart) (at : List ℕ)
+    (entry : Option Entry) →
     (look : IsSought spec key bound pages rows prime under way at)
     → entry ≡ found_entry way (entries_of under.layout look.pairs.levels) at → entry ≡ None
     → sought_row spec key bound rows ≡ None
 found_none spec key bound pages rows prime under way at entry look is none =
     none_by spec key (sought_row spec key bound rows)
-    (sym none ∙ is ∙ ap (λ w. found_entry w (entries_of under.layout look.pairs.levels) at) look.way_is
-    ∙ ap (found_entry (aim_of spec key bound) (entries_of under.layout look.pairs.levels)) look.at_is
-    ∙ finds_sought spec key bound rows (entries_of under.layout look.pairs.levels) look.bounded
-    (tree_ascends under.layout pages under.root look.pairs.levels look.pairs.holds) look.pairs.are look.pairs.fits)
+    (ap (option_map (seen_as spec key pages)) (sym none ∙ is)
+    ∙ looked_is spec key bound pages rows prime under way at look)

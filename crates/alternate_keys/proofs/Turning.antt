@@ -7,6 +7,7 @@ use Rattle.pages.specs.Image.{Volume}
 use Rattle.pages.specs.Use.{free_count}
 use Rattle.pages.specs.Pages.{committed_of, changed_pages_of, needed_of, IsFull, SameCommitted}
 use Rattle.pages.specs.declared.page_map.PageMap.{PageMap}
+use Rattle.chains.specs.Chain.{pages_for}
 use Rattle.records.specs.declared.answer.Outcome.TheVariants.{Taken}
 use Rattle.records.specs.declared.file_spec.AlternateKey.{AlternateKey}
 use Rattle.records.specs.declared.file_spec.Organization.{Organization}
@@ -18,11 +19,12 @@ use Rattle.records.specs.Changes.{is_taken, is_duplicate, done_outcome, changes}
 use Rattle.records.specs.Files.{File, Files, file_at, with_file}
 use Rattle.records.specs.Stores.{is_change, files_after, pair_of}
 use Rattle.records.proofs.Maps.{found_again}
+use Rattle.volume_format.specs.Chained.{chained_bytes}
 use Rattle.alternate_keys.specs.declared.row_verb.RowVerb.{RowVerb}
 use Rattle.alternate_keys.specs.declared.row_verb.RowVerb.TheVariants.{Insert, Replace, Remove}
 use Rattle.alternate_keys.specs.Moved.{changed_by}
 use Rattle.alternate_keys.specs.NewRow.{file_with}
-use Rattle.alternate_keys.specs.Stands.{LacksSpace, keys_of}
+use Rattle.alternate_keys.specs.Stands.{LacksSpace, keys_of, record_pages}
 use Rattle.alternate_keys.proofs.ReplaceRow.{file_changed}
 use Rattle.alternate_keys.proofs.Still.{same_volume}
 
@@ -71,15 +73,30 @@ pub keys_then : (name : List ℕ) (files : Files) (held : File) (changed : FileC
 keys_then name files held changed spec there is same = keys_by (is_change changed.outcome) name files held changed.file
     (length spec.alternates) there (ap (λ (s : Spec). length s.alternates) is) same
 
--- where room is wanting
-pub lacks_before : (volume : Volume) (name : List ℕ) (after : Files) (n : ℕ) → keys_of (file_at name after) ≡ n
-    → free_count volume < 84 * n + 43 → LacksSpace volume false name after
-lacks_before volume name after n keys low = inl (omega (arith, keys, low))
+-- and its records have as many pages
+pages_by : (b : Bool) (name : List ℕ) (files : Files) (held file : File) (n : ℕ)
+    → file_at name files ≡ Some held → pages_for (chained_bytes held.spec) ≡ n → file.spec ≡ held.spec
+    → record_pages (file_at name (if b then with_file name file files else files)) ≡ n
+pages_by true name files held file n there count spec =
+    ap record_pages (found_again name file files) ∙ ap (λ (s : Spec). pages_for (chained_bytes s)) spec ∙ count
+pages_by false name files held file n there count spec = ap record_pages there ∙ count
 
-pub lacks_then : (p q : PageMap) (name : List ℕ) (after : Files) (n : ℕ) → keys_of (file_at name after) ≡ n
-    → SameCommitted p q → needed_of q ≤ 2 * length (changed_pages_of q) → length (changed_pages_of q) ≤ 84 * n + 43
-    → IsFull q → LacksSpace (committed_of p) false name after
-lacks_then p q name after n keys same needs few full =
+pub pages_then : (name : List ℕ) (files : Files) (held : File) (changed : FileChange) (spec : Spec)
+    → file_at name files ≡ Some held → held.spec ≡ spec → changed.file.spec ≡ held.spec
+    → record_pages (file_at name (files_after name files changed)) ≡ pages_for (chained_bytes spec)
+pages_then name files held changed spec there is same = pages_by (is_change changed.outcome) name files held
+    changed.file (pages_for (chained_bytes spec)) there (ap (λ (s : Spec). pages_for (chained_bytes s)) is) same
+
+-- where room is wanting
+pub lacks_before : (volume : Volume) (name : List ℕ) (after : Files) (n m : ℕ) → keys_of (file_at name after) ≡ n
+    → record_pages (file_at name after) ≡ m → free_count volume < 84 * n + (43 + m)
+    → LacksSpace volume false name after
+lacks_before volume name after n m keys many low = inl (omega (arith, keys, many, low))
+
+pub lacks_then : (p q : PageMap) (name : List ℕ) (after : Files) (n m : ℕ) → keys_of (file_at name after) ≡ n
+    → record_pages (file_at name after) ≡ m → SameCommitted p q → needed_of q ≤ 2 * length (changed_pages_of q)
+    → length (changed_pages_of q) ≤ 84 * n + (43 + m) → IsFull q → LacksSpace (committed_of p) false name after
+lacks_then p q name after n m keys many same needs few full =
     let volume = same_volume p q same in
-    ⊎_elim (λ short. let free = ap free_count volume in inl (omega (arith, keys, needs, few, short, free)))
+    ⊎_elim (λ short. let free = ap free_count volume in inl (omega (arith, keys, many, needs, few, short, free)))
     (λ last. inr (inr (let own = ap (λ v. v.generation) same.volume in omega (arith, last, own)))) full.1

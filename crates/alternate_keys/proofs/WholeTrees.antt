@@ -1,5 +1,5 @@
 -- Trees without chains, among those of a file, and trees without entries.
-use Rattle.std.proofs.Common.{◌≡◌, ◌+◌, ◌*◌, ◌++◌, ℕ, true, inl, List, [], ◌∷◌, length, refl, sym, ap, subst}
+use Rattle.std.proofs.Common.{◌≡◌, ◌++◌, ℕ, inl, List, [], ◌∷◌, refl, sym, ap, subst}
 use Rattle.std.proofs.Common.{◌∙◌}
 use Rattle.std.specs.Prelude.{Option}
 use Rattle.std.proofs.lemmas.List.Elements.{All-head, All-nil}
@@ -8,26 +8,11 @@ use Rattle.btree_pages.specs.declared.row_layout.RowLayout.{RowLayout}
 use Rattle.btree.specs.Rooted.{RootedTree}
 use Rattle.btree.proofs.Runs.{in_none}
 use Rattle.chains.specs.Rows.{HasChain}
-use Rattle.records.specs.declared.key.KeyOfReference.{KeyOfReference}
-use Rattle.records.specs.declared.key.KeyOfReference.TheVariants.{Prime, Alternate}
-use Rattle.records.specs.Spec.{Spec, is_spec}
 use Rattle.volume_format.specs.Chained.{form_of}
 use Rattle.volume_format.specs.Forest.{TreeLevels, IsForest, IsTreeIn, tree_levels}
 use Rattle.volume_format.specs.Grows.{IsTreeAmong}
-use Rattle.volume_format.specs.Trees.{layout_under}
 use Rattle.volume_format.proofs.Forests.{all_right}
-use Rattle.volume_format.proofs.Whole.{whole_is, short_spec, short_value}
-use Rattle.alternate_keys.specs.Created.{chained_under}
-
--- the tree of a key has no chains, as long as records have at most 1,000 bytes
-pub no_chains : (spec : Spec) (key : KeyOfReference) → is_spec spec ≡ true → chained_under spec key ≡ 0
-no_chains spec Prime is = short_spec spec is
-no_chains spec (Alternate i) is = refl
-
--- as long, a row's value in the tree of rows is its record and its arrivals
-pub value_whole : (spec : Spec) → is_spec spec ≡ true
-    → (layout_under spec Prime).value_length ≡ spec.record_length + 8 * length spec.alternates
-value_whole spec is = ap (λ (n : ℕ). n + 8 * length spec.alternates) (short_value spec is)
+use Rattle.volume_format.proofs.Whole.{whole_is}
 
 -- a tree among others, and what it is if it has no chains
 pub grows_among : (pages : List (Option Sector)) (left right : List TreeLevels) (planted : TreeLevels)

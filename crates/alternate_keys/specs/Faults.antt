@@ -1,9 +1,9 @@
 -- Why a call is refused.
 use Rattle.std.specs.Prelude.{⊤}
 use Rattle.records.specs.declared.fault.StoreFault.{StoreFault}
-use Rattle.records.specs.declared.fault.StoreFault.TheVariants.{Device, Full, Damaged, Memory, Spent, Layout}
+use Rattle.records.specs.declared.fault.StoreFault.TheVariants.{Device, Full, Damaged, Memory, Spent, Layout, Old}
 
--- a call that only reads is refused for each reason but want of room and another store's layout
+-- a call that only reads is refused for each reason but want of room, another store's layout and an earlier mark
 abbrev pub IsReadFault : StoreFault → Type 0
 IsReadFault Device = ⊤
 IsReadFault Full = ⊥
@@ -11,8 +11,9 @@ IsReadFault Damaged = ⊤
 IsReadFault Memory = ⊤
 IsReadFault Spent = ⊤
 IsReadFault Layout = ⊥
+IsReadFault Old = ⊥
 
--- one that changes pages is refused for each reason but another store's layout
+-- one that changes pages is refused for each reason but another store's layout and an earlier mark
 abbrev pub IsWriteFault : StoreFault → Type 0
 IsWriteFault Device = ⊤
 IsWriteFault Full = ⊤
@@ -20,3 +21,14 @@ IsWriteFault Damaged = ⊤
 IsWriteFault Memory = ⊤
 IsWriteFault Spent = ⊤
 IsWriteFault Layout = ⊥
+IsWriteFault Old = ⊥
+
+-- the call that makes a file is refused for each reason but another store's layout
+abbrev pub IsCreateFault : StoreFault → Type 0
+IsCreateFault Device = ⊤
+IsCreateFault Full = ⊤
+IsCreateFault Damaged = ⊤
+IsCreateFault Memory = ⊤
+IsCreateFault Spent = ⊤
+IsCreateFault Layout = ⊥
+IsCreateFault Old = ⊤

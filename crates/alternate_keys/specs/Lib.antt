@@ -1,12 +1,12 @@
 pub mod Aims
 pub mod Seen
+pub mod Searches
 pub mod Faults
 pub mod Listed
 pub mod Stands
 pub mod Opened
 pub mod Among
 pub mod NewRow
-pub mod Calls
 pub mod Placed
 pub mod Held
 pub mod Settles

@@ -12,7 +12,7 @@ use Rattle.btree_pages.specs.Node.{Node}
 use Rattle.btree.specs.Builds.{IsLeafOf, rows_of_nodes}
 use Rattle.btree.specs.Entries.{entries_of_rows}
 use Rattle.records.specs.declared.fault.StoreFault.{StoreFault}
-use Rattle.records.specs.declared.fault.StoreFault.TheVariants.{Device, Full, Damaged, Memory, Spent, Layout}
+use Rattle.records.specs.declared.fault.StoreFault.TheVariants.{Device, Full, Damaged, Memory, Spent, Layout, Old}
 use Rattle.records.specs.Files.{Files}
 use Rattle.volume_format.specs.Catalog.{catalog_layout}
 use Rattle.volume_format.specs.Volume.{FileTrees, Holds, catalog_entry}
@@ -42,7 +42,7 @@ pub record LacksRoomToMigrate (image : List Sector) : Type 0 where
   pub first : volume.root.mark ≡ 0
   pub short : (free_count volume < 9 + map_count volume.root.sectors) ⊎ (2 ^ 63 ≤ volume.root.generation + 1)
 
--- What a refusal says of the image: `Device` and `Memory` say nothing of it, and `Spent` doesn't come.
+-- What a refusal says of the image: `Device` and `Memory` say nothing of it, and `Spent` and `Old` don't come.
 abbrev pub IsMigrateRefusal : List Sector → StoreFault → Type 0
 IsMigrateRefusal image Device = ⊤
 IsMigrateRefusal image Full = LacksRoomToMigrate image
@@ -50,6 +50,7 @@ IsMigrateRefusal image Damaged = HoldsNone image
 IsMigrateRefusal image Memory = ⊤
 IsMigrateRefusal image Spent = ⊥
 IsMigrateRefusal image Layout = IsForeign image
+IsMigrateRefusal image Old = ⊥
 
 -- the leaves of a catalog on a volume with the second mark
 pub record AreCatalogLeaves (leaves : List Node) : Type 0 where

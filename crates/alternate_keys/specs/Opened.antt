@@ -5,7 +5,7 @@ use Rattle.pages.specs.Image.{Map, IsImageOf as HoldsMap}
 use Rattle.pages.specs.Layout.{IsForeign}
 use Rattle.pages.specs.declared.page_map.PageMap.{PageMap}
 use Rattle.records.specs.declared.fault.StoreFault.{StoreFault}
-use Rattle.records.specs.declared.fault.StoreFault.TheVariants.{Device, Full, Damaged, Memory, Spent, Layout}
+use Rattle.records.specs.declared.fault.StoreFault.TheVariants.{Device, Full, Damaged, Memory, Spent, Layout, Old}
 use Rattle.records.specs.Files.{Files}
 use Rattle.volume_format.specs.Volume.{Holds}
 
@@ -22,7 +22,7 @@ HasMap image = (m : Map) × HoldsMap image m
 abbrev pub HoldsNone : List Sector → Type 0
 HoldsNone image = (files : Files) → Holds image files → ⊥
 
--- What a refusal tells of the image: `Device` and `Memory` tell nothing of it, and `Full` and `Spent` don't come.
+-- What a refusal tells of the image: `Device` and `Memory` tell nothing of it, and `Full`, `Spent` and `Old` don't come.
 abbrev pub IsOpenRefusal : List Sector → StoreFault → Type 0
 IsOpenRefusal image Device = ⊤
 IsOpenRefusal image Full = ⊥
@@ -30,6 +30,7 @@ IsOpenRefusal image Damaged = HoldsNone image
 IsOpenRefusal image Memory = ⊤
 IsOpenRefusal image Spent = ⊥
 IsOpenRefusal image Layout = IsForeign image
+IsOpenRefusal image Old = ⊥
 
 -- the device or memory failed
 abbrev pub IsReadCause : StoreFault → Type 0

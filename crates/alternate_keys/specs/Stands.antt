@@ -1,4 +1,4 @@
--- What the store stands for, and when its volume lacks room.
+-- What the store stands for, and why a change is refused.
 use Rattle.std.specs.Prelude.{◌≡◌, ◌<◌, ◌≤◌, ◌⊎◌, ◌+◌, ◌*◌, ◌^◌, Bool, ℕ, List, [], length, Option, Some, None, if◌then◌else◌}
 use Rattle.station.specs.Disk.{Disk, Sector}
 use Rattle.pages.specs.Layout.{map_count}
@@ -6,7 +6,12 @@ use Rattle.pages.specs.Image.{Volume, Reads, map_of}
 use Rattle.pages.specs.Use.{free_count}
 use Rattle.pages.specs.Pages.{map_now, committed_of, changed_pages_of, Agrees}
 use Rattle.pages.specs.declared.page_map.PageMap.{PageMap}
+use Rattle.chains.specs.Chain.{pages_for}
+use Rattle.records.specs.declared.fault.StoreFault.{StoreFault}
+use Rattle.records.specs.declared.fault.StoreFault.TheVariants.{Device, Full, Damaged, Memory, Spent, Layout, Old}
 use Rattle.records.specs.Files.{File, Files, file_at}
+use Rattle.records.specs.Stores.{MakesLong}
+use Rattle.volume_format.specs.Chained.{chained_bytes}
 use Rattle.volume_format.specs.Volume.{MapHolds}
 
 -- over this disk the pages hold these files, and nothing waits for a commit
@@ -21,17 +26,40 @@ abbrev pub keys_of : Option File → ℕ
 keys_of None = 0
 keys_of (Some file) = length file.spec.alternates
 
--- how many free sectors are enough for a change of a file of so many alternate keys; a new file may need all sectors of the map besides
-abbrev pub enough : Volume → Bool → ℕ → ℕ
-enough volume is_new keys = 200 * (keys + 2) + (if is_new then map_count volume.root.sectors else 0)
+-- how many pages the chain of each of its records has
+abbrev pub record_pages : Option File → ℕ
+record_pages None = 0
+record_pages (Some file) = pages_for (chained_bytes file.spec)
+
+-- how many free sectors are enough for a change of a file; a new file may need all sectors of the map besides
+abbrev pub enough : Volume → Bool → Option File → ℕ
+enough volume is_new file =
+    200 * (keys_of file + 2) + 4 * record_pages file + (if is_new then map_count volume.root.sectors else 0)
 
 -- too few sectors are free, the files are more than 255, or no generation is left
 abbrev pub LacksSpace : Volume → Bool → List ℕ → Files → Type 0
 LacksSpace volume is_new name after =
-    (free_count volume < enough volume is_new (keys_of (file_at name after))) ⊎ (255 < length after) ⊎ (2 ^ 63 ≤ volume.root.generation + 1)
+    (free_count volume < enough volume is_new (file_at name after)) ⊎ (255 < length after) ⊎ (2 ^ 63 ≤ volume.root.generation + 1)
 
 -- The volume in an image lacks room for these files after a change of the file of this name.
 pub record LacksRoom (image : List Sector) (is_new : Bool) (name : List ℕ) (after : Files) : Type 0 where
   pub volume : Volume
   pub reads : Reads image volume
   pub short : LacksSpace volume is_new name after
+
+-- The volume in an image has the first mark, and the file of this name is made with long records.
+pub record LacksMark (image : List Sector) (is_new : Bool) (name : List ℕ) (after : Files) : Type 0 where
+  pub volume : Volume
+  pub reads : Reads image volume
+  pub first : volume.root.mark ≡ 0
+  pub long : MakesLong is_new name after
+
+-- A change into these files may be refused for want of room, or for the volume's mark.
+abbrev pub Lacks : StoreFault → List Sector → Bool → List ℕ → Files → Type 0
+Lacks Device image is_new name after = ⊥
+Lacks Full image is_new name after = LacksRoom image is_new name after
+Lacks Damaged image is_new name after = ⊥
+Lacks Memory image is_new name after = ⊥
+Lacks Spent image is_new name after = ⊥
+Lacks Layout image is_new name after = ⊥
+Lacks Old image is_new name after = LacksMark image is_new name after

@@ -6,12 +6,12 @@ use Rattle.station.specs.declared.device.Device.{Ghosts as Devices}
 use Rattle.pages.specs.Pages.{map_now, Agrees}
 use Rattle.pages.specs.declared.page_map.PageMap.{PageMap}
 use Rattle.records.specs.declared.fault.StoreFault.{StoreFault}
-use Rattle.records.specs.declared.fault.StoreFault.TheVariants.{Full, Damaged}
+use Rattle.records.specs.declared.fault.StoreFault.TheVariants.{Full, Damaged, Old}
 use Rattle.records.specs.declared.file_spec.FileSpec.{FileSpec}
 use Rattle.records.specs.Files.{File, Files}
 use Rattle.records.specs.Stores.{Has, Either}
 use Rattle.volume_format.specs.Volume.{MapHolds, Holds}
-use Rattle.alternate_keys.specs.Stands.{Represents, LacksRoom}
+use Rattle.alternate_keys.specs.Stands.{Represents, LacksRoom, LacksMark}
 
 module _ {D : Type 0} (d : Devices D) where
   -- where the device is honest and agrees with the map of pages, of the files there and the one that is meant
@@ -25,3 +25,4 @@ module _ {D : Type 0} (d : Devices D) where
     pub moments : Through (d.history device) (d.history device') (d.state device') (CrashLeaves (d.state device).events (Either Holds before after))
     pub sound : result ≢ Err Damaged
     pub room : result ≡ Err Full → LacksRoom (d.state device).disk.present is_new name after
+    pub mark : result ≡ Err Old → LacksMark (d.state device).disk.present is_new name after

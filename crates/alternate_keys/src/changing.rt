@@ -1,13 +1,15 @@
 //! A change of a row of a file, in its trees, in the catalog, and on the disk.
-ghost use Rattle.std.specs.Prelude.{◌≡◌, ◌≤◌, ◌<◌, ◌+◌, ◌*◌, true, false, Err, length, IfOk, OnOk, IfErr};
+ghost use Rattle.std.specs.Prelude.{◌≡◌, ◌⊎◌, ◌≤◌, ◌<◌, ◌+◌, ◌*◌, true, false, Err, length, IfOk, OnOk, IfErr};
 ghost use Rattle.station.specs.Calls.{OnlyWrites};
 ghost use Rattle.pages.specs.Pages.{map_now, is_spent, committed_of, sectors_of, changed_pages_of, next_generation, IsOpen, IsUnchanged};
 ghost use Rattle.pages.specs.Use.{free_count};
 ghost use Rattle.btree.specs.Results.{FewChanged};
+ghost use Rattle.chains.specs.Chain.{pages_for};
 ghost use Rattle.records.specs.Files.{File, Files};
 ghost use Rattle.records.specs.Stores.{spec_of, Has, is_change, files_after};
+ghost use Rattle.volume_format.specs.Chained.{chained_bytes};
 ghost use Rattle.volume_format.specs.Volume.{MapHolds};
-ghost use Rattle.alternate_keys.specs.Calls.{Edits};
+ghost use Rattle.row_trees.specs.Calls.{EditsPages};
 ghost use Rattle.alternate_keys.specs.Faults.{IsWriteFault};
 ghost use Rattle.alternate_keys.specs.Moved.{changed_by, IsAsked, IsCountAfter};
 ghost use Rattle.alternate_keys.specs.Stands.{Represents};
@@ -52,8 +54,8 @@ pub(crate) fn change_in<D: Device>(
         → Represents pages.old (D.state device.old).disk files → Has files file.now held →
         result ≡ Err StoreFault.Full → is_change
         (changed_by verb file.now.organization number bytes.now held).outcome ≡ true }
-    ensures unwritten { result ≡ Err StoreFault.Full → D.is_honest device.old
-        → D.state device.new ≡ D.state device.old }
+    ensures unwritten { (result ≡ Err StoreFault.Full) ⊎ (result ≡ Err StoreFault.Old)
+        → D.is_honest device.old → D.state device.new ≡ D.state device.old }
     ensures unspent { OnOk result (is_spent pages.new ≡ false) }
     ensures open { IsOpen pages.new }
     ensures same_sectors { sectors_of pages.new ≡ sectors_of pages.old }
@@ -80,8 +82,8 @@ fn prepare<D: Device>(
     requires unspent { is_spent pages.old ≡ false }
     requires sectors { sectors_of pages.old ≤ D.sectors device.old }
     requires asked { IsAsked verb (spec_of file.now) number bytes.now }
-    ensures edits { Edits D.Device (result ≡ Err StoreFault.Device) pages.old device.old pages.new
-        device.new }
+    ensures edits { EditsPages D.Device (result ≡ Err StoreFault.Device) pages.old device.old
+        pages.new device.new }
     ensures outcome { OnFile D.Device
         file.now pages.old device.old (λ files held. IfOk result (λ outcome. outcome
         ≡ (changed_by verb file.now.organization number bytes.now held).outcome)) }
@@ -91,11 +93,13 @@ fn prepare<D: Device>(
         (files_after file.now.name.items files
         (changed_by verb file.now.organization number bytes.now held)))) }
     ensures few { OnFile D.Device file.now pages.old device.old (λ files held.
-        OnOk result (FewChanged (84 * length file.now.alternates.items + 43) pages.old pages.new)) }
+        OnOk result (FewChanged (84 * length file.now.alternates.items
+        + (43 + pages_for (chained_bytes (spec_of file.now)))) pages.old pages.new)) }
     ensures room { OnFile D.Device file.now pages.old device.old
         (λ files held. result ≡ Err StoreFault.Full →
         free_count (committed_of pages.old)
-        < length (changed_pages_of pages.old) + (84 * length file.now.alternates.items + 43)) }
+        < length (changed_pages_of pages.old) + (84 * length file.now.alternates.items
+        + (43 + pages_for (chained_bytes (spec_of file.now))))) }
     ensures full { OnFile D.Device file.now pages.old device.old
         (λ files held. result ≡ Err StoreFault.Full →
         is_change (changed_by verb file.now.organization number bytes.now held).outcome ≡ true) }

@@ -1,21 +1,22 @@
 //! A file is made.
-ghost use Rattle.std.specs.Prelude.{◌≡◌, ◌⊎◌, ◌≤◌, ◌<◌, ◌+◌, true, false, [], Err, None, length, map, replicate, OnOk, IfOk, IfErr, IsOkUnless};
+ghost use Rattle.std.specs.Prelude.{◌≡◌, ◌⊎◌, ◌≤◌, ◌<◌, ◌+◌, true, false, [], Err, IsErr, None, length, map, replicate, OnOk, IfOk, IfErr, IsOkUnless};
 ghost use Rattle.std.specs.List.{flat_map};
 ghost use Rattle.station.specs.Calls.{OnlyWrites};
-ghost use Rattle.pages.specs.Pages.{map_now, is_spent, catalog_of, mark_of, committed_of, sectors_of, changed_pages_of, filled_of, next_generation, IsFull, IsOpen};
+ghost use Rattle.pages.specs.Pages.{map_now, is_spent, catalog_of, mark_of, committed_of, sectors_of, changed_pages_of, next_generation, IsFull, IsOpen};
+ghost use Rattle.pages.specs.Layout.{version_of};
 ghost use Rattle.pages.specs.Use.{free_count};
 ghost use Rattle.btree.specs.Calls.{pages_on};
 ghost use Rattle.btree.specs.Entries.{entry_with, with_new_entry};
 ghost use Rattle.btree.specs.Results.{FewChanged};
 ghost use Rattle.records.specs.Files.{Files, empty_file, with_file};
-ghost use Rattle.records.specs.Spec.{is_name};
+ghost use Rattle.records.specs.Spec.{is_long};
 ghost use Rattle.records.specs.Stores.{spec_of};
 ghost use Rattle.file_bytes.specs.Description.{padded_name};
 ghost use Rattle.volume_format.specs.Catalog.{listing_bytes, catalog_value};
 ghost use Rattle.volume_format.specs.Grows.{IsTreeAmong};
 ghost use Rattle.volume_format.specs.Volume.{MapHolds, trees_of, catalog_entry};
 ghost use Rattle.alternate_keys.specs.Created.{OnFiles, Prepares};
-ghost use Rattle.alternate_keys.specs.Faults.{IsWriteFault};
+ghost use Rattle.alternate_keys.specs.Faults.{IsWriteFault, IsCreateFault};
 ghost use Rattle.alternate_keys.specs.Listed.{catalog_at};
 ghost use Rattle.alternate_keys.specs.Stands.{Represents, LacksSpace};
 ghost use Rattle.alternate_keys.specs.Turned.{HasChangedFiles};
@@ -26,7 +27,7 @@ use crate::counting::is_full;
 use crate::enter::insert_among;
 use crate::listing::{find_listing, replace_listing};
 use file_bytes::pad_name;
-use pages::{PageMap, few_needed, map_bounds, needed_by};
+use pages::{PageMap, VolumeMark, few_needed, map_bounds, needed_by};
 use records::{FileSpec, StoreFault};
 use station::Device;
 use std::alloc::Global;
@@ -48,16 +49,32 @@ pub(crate) fn create_in<D: Device>(
         HasChangedFiles D.Device result true file.now.name.items files
         (with_file file.now.name.items (empty_file (spec_of file.now)) files) pages.old
         device.old pages.new device.new }
-    ensures unwritten { result ≡ Err StoreFault.Full → D.is_honest device.old
-        → D.state device.new ≡ D.state device.old }
+    ensures unwritten { (result ≡ Err StoreFault.Full) ⊎ (result ≡ Err StoreFault.Old)
+        → D.is_honest device.old → D.state device.new ≡ D.state device.old }
+    ensures takes { mark_of pages.old ≡ 0 → is_long (spec_of file.now) ≡ true → IsErr result }
     ensures unspent { OnOk result (is_spent pages.new ≡ false) }
     ensures open { IsOpen pages.new }
     ensures same_sectors { sectors_of pages.new ≡ sectors_of pages.old }
     ensures spent { result ≡ Err StoreFault.Spent → is_spent pages.old ≡ true }
-    ensures cause { IfErr result IsWriteFault }
+    ensures cause { IfErr result IsCreateFault }
 {
+    if is_too_long(pages.mark(), file) {
+        return Err(StoreFault::Old);
+    }
     prepare_file(alloc, pages, device, file)?;
     commit_pages(pages, device)
+}
+
+/// Whether a volume with this mark can't have the file.
+fn is_too_long(mark: VolumeMark, file: &FileSpec) -> bool
+    ensures yes { result ≡ true
+        → (version_of mark ≡ 0) × (is_long (spec_of file.now) ≡ true) }
+    ensures no { result ≡ false → version_of mark ≡ 0 → is_long (spec_of file.now) ≡ false }
+{
+    match mark {
+        VolumeMark::First => file.is_long(),
+        VolumeMark::Second => false,
+    }
 }
 
 /// What the catalog says of a file without rows.
@@ -139,7 +156,8 @@ fn prepare_file<D: Device>(
     requires sectors { sectors_of pages.old ≤ D.sectors device.old }
     ensures prepares { Prepares D.Device (result ≡ Err StoreFault.Device) pages.old device.old
         pages.new device.new }
-    ensures will { OnFiles D.Device pages.old device.old (λ files holds. OnOk result
+    ensures will { (mark_of pages.old ≡ 0 → is_long (spec_of file.now) ≡ false)
+        → OnFiles D.Device pages.old device.old (λ files holds. OnOk result
         (MapHolds (next_generation (map_now pages.new (D.state device.old).disk.present))
         (with_file file.now.name.items (empty_file (spec_of file.now)) files))) }
     ensures full { OnFiles D.Device pages.old device.old

@@ -1,19 +1,23 @@
 //! What is told of the row of an entry.
-ghost use Rattle.std.specs.Prelude.{◌≡◌, ◌≤◌, ◌<◌, ◌+◌, ◌↔◌, true, false, Err, Ok, Some, ℕ, List, length, take, drop, Contains, IfOk, OnOk, OnErr, IfErr};
+ghost use Rattle.std.specs.Prelude.{◌≡◌, ◌≤◌, ◌<◌, ◌+◌, true, false, Err, Ok, Some, List, length, take, drop, IfOk, OnOk, OnErr, IfErr};
 ghost use Rattle.byteorder.specs.Endian.{big_number};
 ghost use Rattle.station.specs.Calls.{OnlyReads};
 ghost use Rattle.pages.specs.Pages.{map_now, is_spent, sectors_of, Agrees, IsOpen, IsUnchanged};
+ghost use Rattle.btree.specs.Calls.{OnPages};
 ghost use Rattle.btree.specs.Tree.{TreeNode, IsTreeOrEmpty};
 ghost use Rattle.btree.specs.Entries.{entries_of};
 ghost use Rattle.btree.specs.Reading.{IsReadRefusal};
 ghost use Rattle.records.specs.Spec.{Spec};
-ghost use Rattle.records.specs.Rows.{Row, pair_under};
+ghost use Rattle.records.specs.Rows.{Row as FileRow};
 ghost use Rattle.records.specs.Order.{found_row};
 ghost use Rattle.file_bytes.specs.Rows.{prime_key_length};
+ghost use Rattle.volume_format.specs.Calls.{LooksAt};
 ghost use Rattle.volume_format.specs.Trees.{entry_under};
 ghost use Rattle.volume_format.specs.Pairs.{IsUnder};
+ghost use Rattle.row_trees.specs.Reading.{IsRecordRefusal};
 ghost use Rattle.alternate_keys.specs.Aims.{found_entry};
-ghost use Rattle.alternate_keys.specs.Seen.{IsPairEntry, number_in, begins_with_value};
+ghost use Rattle.alternate_keys.specs.Searches.{OnPairEntry};
+ghost use Rattle.alternate_keys.specs.Seen.{IsRowEntry, number_in, begins_with_value};
 
 use crate::look::{copy_record, look};
 use crate::search_start::SearchStart;
@@ -21,29 +25,42 @@ use btree::{Entry, Tree};
 use byteorder::{BigEndian, ByteOrder};
 use pages::{PageMap, PagesError};
 use records::{Found, KeyOfReference, Organization};
+use row_trees::RowTree;
 use station::Device;
+use std::alloc::Global;
 
 /// What is told of a row by its entry in the tree of rows. Its record is put into `bytes`.
-pub(crate) fn read_prime_row(
+pub(crate) fn read_prime_row<D: Device>(
+    alloc: Global,
+    prime: &RowTree,
+    pages: &mut PageMap,
+    device: &mut D,
     organization: Organization,
     entry: &Entry,
     bytes: &mut [u8],
 ) -> Result<Found, PagesError>
-    ensures found { (spec : Spec) (row : Row) (rows : List Row) → spec.organization ≡ organization
-        → entry.now ≡ entry_under spec KeyOfReference.Prime row →
+    requires open { IsOpen pages.old }
+    requires sectors { sectors_of pages.old ≤ D.sectors device.old }
+    ensures looks { LooksAt D.Device (result ≡ Err PagesError.Device) pages.old device.old pages.new
+        device.new }
+    ensures found { (spec : Spec) (row : FileRow) (rows : List FileRow)
+        → spec.organization ≡ organization
+        → entry.now.key ≡ (entry_under spec KeyOfReference.Prime row).key →
         IsUnder spec KeyOfReference.Prime row
         → IfOk result (λ told. told ≡ found_row spec KeyOfReference.Prime rows row) }
-    ensures bytes { (spec : Spec) (row : Row) → entry.now ≡ entry_under spec KeyOfReference.Prime
-        row → length row.bytes ≡ length bytes.old → OnOk result (bytes.new ≡ row.bytes) }
-    ensures damaged { (spec : Spec) (row : Row)
-        → spec.organization ≡ organization → entry.now ≡ entry_under spec KeyOfReference.Prime row
-        → IsUnder spec KeyOfReference.Prime row → length row.bytes ≡ length bytes.old
-        → IfErr result (λ error. ⊥) }
+    ensures bytes { OnPages D.Device pages.old device.old (λ before. (spec : Spec) (row : FileRow)
+        → IsRowEntry spec prime.now.record_bytes before entry.now row
+        → length row.bytes ≡ length bytes.old → OnOk result (bytes.new ≡ row.bytes)) }
+    ensures damaged { OnPages D.Device pages.old device.old (λ before. (spec : Spec) (row : FileRow)
+        → IsRowEntry spec prime.now.record_bytes before entry.now row
+        → spec.organization ≡ organization → IsUnder spec KeyOfReference.Prime row
+        → length row.bytes ≡ length bytes.old → result ≡ Err PagesError.Damaged → ⊥) }
+    ensures spent { result ≡ Err PagesError.Spent → is_spent pages.old ≡ true }
     ensures kept { OnErr result (bytes.new ≡ bytes.old) }
-    ensures cause { IfErr result (λ error. error ≡ PagesError.Damaged) }
+    ensures cause { IfErr result IsRecordRefusal }
 {
     let number = number_of(organization, entry.key())?;
-    copy_record(entry, bytes)?;
+    prime.read_record(alloc, pages, device, entry, bytes)?;
     Ok(Found {
         number,
         repeated: false,
@@ -66,7 +83,8 @@ pub(crate) fn begins_with(entry: &Option<Entry>, value: &[u8]) -> bool
 
 /// What is told of a row by its entry in the tree of an alternate key. Its record is put into `bytes`.
 pub(crate) fn read_alternate_row<D: Device>(
-    prime: &Tree,
+    alloc: Global,
+    prime: &RowTree,
     under: &Tree,
     pages: &mut PageMap,
     device: &mut D,
@@ -77,38 +95,29 @@ pub(crate) fn read_alternate_row<D: Device>(
     requires open { IsOpen pages.old }
     requires sectors { sectors_of pages.old ≤ D.sectors device.old }
     requires few { value_length < 65536 }
-    requires short { (prime.now.layout.key_length ≤ 128) × (under.now.layout.key_length ≤ 128) }
-    ensures only { OnlyReads D.Device (result ≡ Err PagesError.Device) device.old device.new }
-    ensures unchanged { IsUnchanged pages.old pages.new }
-    ensures agrees { D.is_honest device.old → Agrees pages.old (D.state device.old).disk
-        → Agrees pages.new (D.state device.new).disk }
-    ensures open { IsOpen pages.new }
-    ensures found { D.is_honest device.old → Agrees pages.old (D.state device.old).disk
-        → (spec : Spec) (i : ℕ) (rows : List Row) (row : Row) →
-        IsPairEntry spec i (map_now pages.old (D.state device.old).disk.present).pages rows
-        prime.now under.now value_length entry.now row →
-        IfOk result (λ told. told ≡ found_row spec (KeyOfReference.Alternate i) rows row) }
-    ensures bytes { D.is_honest device.old → Agrees pages.old (D.state device.old).disk
-        → (spec : Spec) (i : ℕ) (rows : List Row) (row : Row) →
-        IsPairEntry spec i (map_now pages.old (D.state device.old).disk.present).pages rows
-        prime.now under.now value_length entry.now row →
-        length bytes.old ≡ spec.record_length → OnOk result (bytes.new ≡ row.bytes) }
-    ensures damaged { D.is_honest device.old → Agrees pages.old (D.state device.old).disk
-        → result ≡ Err PagesError.Damaged → (spec : Spec) (i : ℕ) (rows : List Row) (row : Row) →
-        IsPairEntry spec i (map_now pages.old (D.state device.old).disk.present).pages rows
-        prime.now under.now value_length entry.now row →
-        length bytes.old ≡ spec.record_length → ⊥ }
+    requires short { under.now.layout.key_length ≤ 128 }
+    ensures looks { LooksAt D.Device (result ≡ Err PagesError.Device) pages.old device.old pages.new
+        device.new }
+    ensures found { OnPairEntry D.Device pages.old device.old prime.now under.now value_length
+        entry.now (λ spec i rows row.
+        IfOk result (λ told. told ≡ found_row spec (KeyOfReference.Alternate i) rows row)) }
+    ensures bytes { OnPairEntry D.Device pages.old device.old prime.now under.now value_length
+        entry.now (λ spec i rows row.
+        length bytes.old ≡ spec.record_length → OnOk result (bytes.new ≡ row.bytes)) }
+    ensures damaged { OnPairEntry D.Device pages.old device.old prime.now under.now value_length
+        entry.now (λ spec i rows row.
+        length bytes.old ≡ spec.record_length → result ≡ Err PagesError.Damaged → ⊥) }
     ensures spent { result ≡ Err PagesError.Spent → is_spent pages.old ≡ true }
     ensures kept { OnErr result (bytes.new ≡ bytes.old) }
-    ensures cause { IfErr result IsReadRefusal }
+    ensures cause { IfErr result IsRecordRefusal }
 {
     let number = arrival_in(entry.key(), value_length)?;
     let repeated = is_repeated(under, pages, device, entry, value_length)?;
-    let row = match prime.get(pages, device, entry.value())? {
+    let row = match prime.find(alloc, pages, device, entry.value())? {
         Some(row) => row,
         None => return Err(PagesError::Damaged),
     };
-    copy_record(&row, bytes)?;
+    copy_record(row.value(), bytes)?;
     Ok(Found { number, repeated })
 }
 

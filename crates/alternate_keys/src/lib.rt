@@ -24,7 +24,7 @@ mod repeats;
 mod row_bytes;
 mod row_calls;
 mod row_changes;
-mod row_trees;
+mod row_moves;
 mod row_turn;
 mod row_verb;
 mod search_keys;

@@ -12,11 +12,11 @@ ghost use Rattle.volume_format.specs.Catalog.{catalog_value, value_length};
 ghost use Rattle.volume_format.specs.Grows.{IsTreeAmong};
 ghost use Rattle.volume_format.specs.Volume.{MapHolds, catalog_entry};
 ghost use Rattle.alternate_keys.specs.Among.{OnAmong};
-ghost use Rattle.alternate_keys.specs.Calls.{Edits};
+ghost use Rattle.row_trees.specs.Calls.{EditsPages};
 ghost use Rattle.alternate_keys.specs.Faults.{IsReadFault};
 ghost use Rattle.alternate_keys.specs.Listed.{IsListed, catalog_at};
 
-use btree::{Entry, Tree};
+use btree::Entry;
 use file_bytes::pad_name;
 use pages::PageMap;
 use records::StoreFault;
@@ -77,8 +77,8 @@ pub(crate) fn replace_listing<D: Device>(
     requires sectors { sectors_of pages.old ≤ D.sectors device.old }
     requires name { length name.now ≤ 30 }
     requires listing { length listing.now ≡ 83 }
-    ensures edits { Edits D.Device (result ≡ Err StoreFault.Device) pages.old device.old pages.new
-        device.new }
+    ensures edits { EditsPages D.Device (result ≡ Err StoreFault.Device) pages.old device.old
+        pages.new device.new }
     ensures replaced { OnAmong D.Device (catalog_at (mark_of pages.old) (catalog_of pages.old))
         pages.old device.old (λ left right entries.
         OnOk result (IsTreeAmong (pages_on D.Device pages.new device.old)

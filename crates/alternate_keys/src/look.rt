@@ -1,9 +1,9 @@
 //! Entries of a file's trees.
-ghost use Rattle.std.specs.Prelude.{◌≡◌, ◌≤◌, ◌<◌, ◌+◌, ◌↔◌, true, Err, Some, List, [], length, take, drop, IfOk, OnOk, OnErr, IfErr};
+ghost use Rattle.std.specs.Prelude.{◌≡◌, ◌≤◌, ◌<◌, true, Err, List, length, take, IfOk, OnOk, OnErr, IfErr, IfSome};
 ghost use Rattle.station.specs.Calls.{OnlyReads};
 ghost use Rattle.pages.specs.Pages.{map_now, is_spent, sectors_of, Agrees, IsOpen, IsUnchanged};
 ghost use Rattle.btree.specs.Tree.{TreeNode, IsTreeOrEmpty};
-ghost use Rattle.btree.specs.Entries.{entries_of};
+ghost use Rattle.btree.specs.Entries.{HasLengths, entries_of};
 ghost use Rattle.btree.specs.Reading.{IsReadRefusal};
 ghost use Rattle.alternate_keys.specs.Aims.{found_entry};
 
@@ -37,6 +37,7 @@ pub(crate) fn look<D: Device>(
         → result ≡ Err PagesError.Damaged →
         (levels : List (List TreeNode)) → IsTreeOrEmpty tree.now.layout
         (map_now pages.old (D.state device.old).disk.present).pages tree.now.root levels → ⊥ }
+    ensures lengths { IfOk result (λ entry. IfSome entry (HasLengths tree.now.layout)) }
     ensures spent { result ≡ Err PagesError.Spent → is_spent pages.old ≡ true }
     ensures cause { IfErr result IsReadRefusal }
 {
@@ -47,14 +48,13 @@ pub(crate) fn look<D: Device>(
     }
 }
 
-/// Puts the record of a row's entry into `bytes`. A value that is shorter is none of a row.
-pub(crate) fn copy_record(entry: &Entry, bytes: &mut [u8]) -> Result<(), PagesError>
-    ensures ok { OnOk result (bytes.new ≡ take (length bytes.old) entry.now.value) }
+/// Puts the record of a row into `bytes`, by the value of the row. A value that is shorter is none of a row.
+pub(crate) fn copy_record(value: &[u8], bytes: &mut [u8]) -> Result<(), PagesError>
+    ensures ok { OnOk result (bytes.new ≡ take (length bytes.old) value.now) }
     ensures kept { OnErr result (bytes.new ≡ bytes.old) }
     ensures err { IfErr result
-        (λ error. (error ≡ PagesError.Damaged) × (length entry.now.value < length bytes.old)) }
+        (λ error. (error ≡ PagesError.Damaged) × (length value.now < length bytes.old)) }
 {
-    let value = entry.value();
     if value.len() < bytes.len() {
         return Err(PagesError::Damaged);
     }

@@ -1,5 +1,5 @@
 //! The pairs of a row leave and come to the trees of the alternate keys.
-ghost use Rattle.std.specs.Prelude.{◌≡◌, ◌≤◌, ◌<◌, ◌+◌, ◌*◌, true, ℕ, Err, None, IsSome, length, OnOk, IfOk, IfErr};
+ghost use Rattle.std.specs.Prelude.{◌≡◌, ◌≤◌, ◌<◌, ◌+◌, ◌*◌, true, Err, None, IsSome, length, OnOk, IfOk, IfErr};
 ghost use Rattle.pages.specs.Pages.{is_spent, committed_of, sectors_of, changed_pages_of, IsOpen};
 ghost use Rattle.pages.specs.Use.{free_count};
 ghost use Rattle.btree.specs.Calls.{pages_on};
@@ -10,7 +10,7 @@ ghost use Rattle.records.specs.Stores.{spec_of, IsKey};
 ghost use Rattle.volume_format.specs.Grows.{IsTreeAmong};
 ghost use Rattle.volume_format.specs.Trees.{layout_under};
 ghost use Rattle.alternate_keys.specs.Among.{OnAmong};
-ghost use Rattle.alternate_keys.specs.Calls.{Edits};
+ghost use Rattle.row_trees.specs.Calls.{EditsPages};
 ghost use Rattle.alternate_keys.specs.Faults.{IsReadFault, IsWriteFault};
 ghost use Rattle.alternate_keys.specs.Moved.{HasValues, pair_entry, old_key, entries_after, MayMove, PairsMove, PairsMayMove};
 ghost use Rattle.alternate_keys.specs.Placed.{OnIndexes, HaveBecome};
@@ -44,8 +44,8 @@ pub(crate) fn move_pairs<D: Device>(
     requires sectors { sectors_of pages.old ≤ D.sectors device.old }
     requires listing { length listing.now ≡ 83 }
     requires values { HasValues verb (spec_of file.now) old.now bytes.now }
-    ensures edits { Edits D.Device (result ≡ Err StoreFault.Device) pages.old device.old pages.new
-        device.new }
+    ensures edits { EditsPages D.Device (result ≡ Err StoreFault.Device) pages.old device.old
+        pages.new device.new }
     ensures came { OnIndexes D.Device (spec_of file.now) pages.old device.old
         listing.now (λ held left right trees. (after : File) → after.spec ≡ held.spec
         → PairsMove verb held after old.now bytes.now arrival →
@@ -94,8 +94,8 @@ fn take_pair<D: Device>(
     requires sectors { sectors_of pages.old ≤ D.sectors device.old }
     requires key { IsKey (spec_of file.now) (KeyOfReference.Alternate key) }
     requires old { length old.now ≡ file.now.record_length + 8 * length file.now.alternates.items }
-    ensures edits { Edits D.Device (result ≡ Err StoreFault.Device) pages.old device.old pages.new
-        device.new }
+    ensures edits { EditsPages D.Device (result ≡ Err StoreFault.Device) pages.old device.old
+        pages.new device.new }
     ensures taken { OnAmong D.Device tree.old pages.old device.old (λ left right entries.
         OnOk result (IsTreeAmong (pages_on D.Device pages.new device.old) left right tree.new
         (without_entry entries (old_key (spec_of file.now) key old.now)))) }
@@ -130,8 +130,8 @@ fn give_pair<D: Device>(
     requires layout { tree.old.layout
         ≡ layout_under (spec_of file.now) (KeyOfReference.Alternate key) }
     requires bytes { length bytes.now ≡ file.now.record_length }
-    ensures edits { Edits D.Device (result ≡ Err StoreFault.Device) pages.old device.old pages.new
-        device.new }
+    ensures edits { EditsPages D.Device (result ≡ Err StoreFault.Device) pages.old device.old
+        pages.new device.new }
     ensures given { OnAmong D.Device tree.old pages.old device.old (λ left right entries.
         OnOk result (IsTreeAmong (pages_on D.Device pages.new device.old) left right tree.new
         (with_new_entry entries (pair_entry (spec_of file.now) key bytes.now arrival)))) }
@@ -177,8 +177,8 @@ fn move_pair<D: Device>(
     requires layout { tree.old.layout
         ≡ layout_under (spec_of file.now) (KeyOfReference.Alternate key) }
     requires values { HasValues verb (spec_of file.now) old.now bytes.now }
-    ensures edits { Edits D.Device (result ≡ Err StoreFault.Device) pages.old device.old pages.new
-        device.new }
+    ensures edits { EditsPages D.Device (result ≡ Err StoreFault.Device) pages.old device.old
+        pages.new device.new }
     ensures moved { OnAmong D.Device tree.old pages.old device.old (λ left right entries.
         OnOk result (IsTreeAmong (pages_on D.Device pages.new device.old) left right tree.new
         (entries_after verb (spec_of file.now) key old.now bytes.now arrival entries))) }

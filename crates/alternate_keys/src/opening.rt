@@ -1,6 +1,6 @@
 //! A volume is made, and opened.
 ghost use Rattle.std.specs.Prelude.{◌≡◌, ◌⊎◌, ◌≤◌, ◌↔◌, false, Err, [], IfOk, IfErr, OnOk, OnErr};
-ghost use Rattle.station.specs.State.{state_after_sync, SameConsole};
+ghost use Rattle.station.specs.State.{state_after_sync};
 ghost use Rattle.station.specs.History.{Through, EachImage};
 ghost use Rattle.station.specs.Failures.{Blames, CountsFailure};
 ghost use Rattle.station.specs.Opening.{IsOpening};

@@ -1,15 +1,14 @@
 //! The call of the store that changes a row.
-ghost use Rattle.std.specs.Prelude.{◌≡◌, ◌≤◌, true, false, Err, length, IfOk};
-ghost use Rattle.records.specs.Changes.{insertion, replacement, removal};
+ghost use Rattle.std.specs.Prelude.{◌≡◌, ◌≢◌, ◌≤◌, true, false, Err, IfOk};
 ghost use Rattle.records.specs.Files.{File, Files};
-ghost use Rattle.records.specs.Stores.{spec_of, Has, IsNewNumber, key_length, pair_of, is_change, files_after};
+ghost use Rattle.records.specs.Stores.{spec_of, Has, is_change, files_after};
 ghost use Rattle.records.specs.Calls.{Represents, Changes, Spends, ChangesFiles};
 ghost use Rattle.alternate_keys.specs.Moved.{IsAsked, changed_by};
 
 use crate::changing::change_in;
 use crate::row_verb::RowVerb;
 use crate::store::PagedStore;
-use records::{FileSpec, Keeps, KeyOfReference, Outcome, StoreFault};
+use records::{FileSpec, Keeps, Outcome, StoreFault};
 use station::Device;
 
 impl PagedStore {
@@ -43,6 +42,7 @@ impl PagedStore {
             → Has files file.now held →
             result ≡ Err StoreFault.Full → is_change
             (changed_by verb file.now.organization number bytes.now held).outcome ≡ true }
+        ensures makes_none { result ≢ Err StoreFault.Old }
         ensures idle { D.is_honest device.old → IfOk result (λ outcome. is_change outcome ≡ false
             → D.state device.new ≡ D.state device.old) }
     {

@@ -4,20 +4,22 @@ ghost use Rattle.pages.specs.Pages.{is_spent, committed_of, sectors_of, changed_
 ghost use Rattle.pages.specs.Use.{free_count};
 ghost use Rattle.btree.specs.Calls.{pages_on};
 ghost use Rattle.btree.specs.Results.{FewChanged};
+ghost use Rattle.chains.specs.Chain.{pages_for};
 ghost use Rattle.records.specs.Changes.{insertion, replacement, removal};
 ghost use Rattle.records.specs.Stores.{spec_of, key_length, pair_of, IsNewNumber, is_change};
-ghost use Rattle.alternate_keys.specs.Calls.{Edits};
+ghost use Rattle.volume_format.specs.Chained.{chained_bytes};
+ghost use Rattle.row_trees.specs.Calls.{EditsPages};
 ghost use Rattle.alternate_keys.specs.Faults.{IsWriteFault};
 ghost use Rattle.alternate_keys.specs.Moved.{named_after, changed_by, IsAsked};
 ghost use Rattle.alternate_keys.specs.Placed.{OnTrees, HasFileTrees};
 
 use crate::commit::is_done;
-use crate::file_tree::file_tree;
+use crate::file_tree::row_tree;
 use crate::finding_row::find_row;
-use crate::leave::{remove_among, replace_among};
+use crate::leave::{remove_row, replace_row};
 use crate::new_row::insert_row;
 use crate::old_row::{arrival_next, value_after};
-use crate::row_trees::move_row;
+use crate::row_moves::move_row;
 use crate::row_turn::RowTurn;
 use crate::row_verb::RowVerb;
 use crate::taken_row::look_at_new_row;
@@ -44,8 +46,8 @@ pub(crate) fn change_trees<D: Device>(
     requires sectors { sectors_of pages.old ≤ D.sectors device.old }
     requires listing { length listing.now ≡ 83 }
     requires asked { IsAsked verb (spec_of file.now) number bytes.now }
-    ensures edits { Edits D.Device (result ≡ Err StoreFault.Device) pages.old device.old pages.new
-        device.new }
+    ensures edits { EditsPages D.Device (result ≡ Err StoreFault.Device) pages.old device.old
+        pages.new device.new }
     ensures outcome { OnTrees D.Device (spec_of file.now) pages.old
         device.old listing.now (λ named generation left right. IfOk result (λ turn. turn.outcome
         ≡ (changed_by verb file.now.organization number bytes.now named.file).outcome)) }
@@ -56,11 +58,13 @@ pub(crate) fn change_trees<D: Device>(
         (pages_on D.Device pages.new device.old) left right turn.listing.items)) }
     ensures few { OnTrees D.Device
         (spec_of file.now) pages.old device.old listing.now (λ named generation left right.
-        OnOk result (FewChanged (84 * length file.now.alternates.items + 42) pages.old pages.new)) }
+        OnOk result (FewChanged (84 * length file.now.alternates.items
+        + (42 + pages_for (chained_bytes (spec_of file.now)))) pages.old pages.new)) }
     ensures room { OnTrees D.Device (spec_of file.now) pages.old device.old listing.now
         (λ named generation left right. result ≡ Err StoreFault.Full →
         free_count (committed_of pages.old)
-        < length (changed_pages_of pages.old) + (84 * length file.now.alternates.items + 42)) }
+        < length (changed_pages_of pages.old) + (84 * length file.now.alternates.items
+        + (42 + pages_for (chained_bytes (spec_of file.now))))) }
     ensures full { is_spent pages.old ≡ false → OnTrees D.Device (spec_of file.now) pages.old
         device.old listing.now (λ named generation left right. result ≡ Err StoreFault.Full →
         is_change (changed_by verb file.now.organization number bytes.now named.file).outcome
@@ -96,8 +100,8 @@ fn insert_trees<D: Device>(
     requires listing { length listing.now ≡ 83 }
     requires number { IsNewNumber file.now.organization number }
     requires bytes { length bytes.now ≡ file.now.record_length }
-    ensures edits { Edits D.Device (result ≡ Err StoreFault.Device) pages.old device.old pages.new
-        device.new }
+    ensures edits { EditsPages D.Device (result ≡ Err StoreFault.Device) pages.old device.old
+        pages.new device.new }
     ensures outcome { OnTrees D.Device
         (spec_of file.now) pages.old device.old listing.now (λ named generation left right.
         IfOk result (λ turn. turn.outcome ≡ (insertion number bytes.now named.file).outcome)) }
@@ -107,11 +111,13 @@ fn insert_trees<D: Device>(
         (pages_on D.Device pages.new device.old) left right turn.listing.items)) }
     ensures few { OnTrees D.Device
         (spec_of file.now) pages.old device.old listing.now (λ named generation left right.
-        OnOk result (FewChanged (84 * length file.now.alternates.items + 42) pages.old pages.new)) }
+        OnOk result (FewChanged (84 * length file.now.alternates.items
+        + (42 + pages_for (chained_bytes (spec_of file.now)))) pages.old pages.new)) }
     ensures room { OnTrees D.Device (spec_of file.now) pages.old device.old listing.now
         (λ named generation left right. result ≡ Err StoreFault.Full →
         free_count (committed_of pages.old)
-        < length (changed_pages_of pages.old) + (84 * length file.now.alternates.items + 42)) }
+        < length (changed_pages_of pages.old) + (84 * length file.now.alternates.items
+        + (42 + pages_for (chained_bytes (spec_of file.now))))) }
     ensures full { is_spent pages.old ≡ false → OnTrees D.Device (spec_of file.now) pages.old
         device.old listing.now (λ named generation left right. result ≡ Err StoreFault.Full →
         is_change (insertion number bytes.now named.file).outcome ≡ true) }
@@ -132,7 +138,7 @@ fn insert_trees<D: Device>(
     if arrival == u64::MAX {
         return Err(StoreFault::Damaged);
     }
-    let mut prime = file_tree(alloc, file, KeyOfReference::Prime, listing);
+    let mut prime = row_tree(alloc, file, listing);
     let own = number_of_new(file.organization, number, arrival);
     if !insert_row(alloc, &mut prime, pages, device, file, own, arrival, bytes)? {
         return Ok(RowTurn::none(alloc, Outcome::Taken));
@@ -168,8 +174,8 @@ fn replace_trees<D: Device>(
     requires sectors { sectors_of pages.old ≤ D.sectors device.old }
     requires listing { length listing.now ≡ 83 }
     requires bytes { length bytes.now ≡ file.now.record_length }
-    ensures edits { Edits D.Device (result ≡ Err StoreFault.Device) pages.old device.old pages.new
-        device.new }
+    ensures edits { EditsPages D.Device (result ≡ Err StoreFault.Device) pages.old device.old
+        pages.new device.new }
     ensures outcome { OnTrees D.Device
         (spec_of file.now) pages.old device.old listing.now (λ named generation left right.
         IfOk result (λ turn. turn.outcome ≡ (replacement number bytes.now named.file).outcome)) }
@@ -179,11 +185,13 @@ fn replace_trees<D: Device>(
         (pages_on D.Device pages.new device.old) left right turn.listing.items)) }
     ensures few { OnTrees D.Device
         (spec_of file.now) pages.old device.old listing.now (λ named generation left right.
-        OnOk result (FewChanged (84 * length file.now.alternates.items + 42) pages.old pages.new)) }
+        OnOk result (FewChanged (84 * length file.now.alternates.items
+        + (42 + pages_for (chained_bytes (spec_of file.now)))) pages.old pages.new)) }
     ensures room { OnTrees D.Device (spec_of file.now) pages.old device.old listing.now
         (λ named generation left right. result ≡ Err StoreFault.Full →
         free_count (committed_of pages.old)
-        < length (changed_pages_of pages.old) + (84 * length file.now.alternates.items + 42)) }
+        < length (changed_pages_of pages.old) + (84 * length file.now.alternates.items
+        + (42 + pages_for (chained_bytes (spec_of file.now))))) }
     ensures full { OnTrees D.Device (spec_of file.now) pages.old device.old listing.now
         (λ named generation left right. result ≡ Err StoreFault.Full →
         is_change (replacement number bytes.now named.file).outcome ≡ true) }
@@ -197,7 +205,7 @@ fn replace_trees<D: Device>(
     ensures cause { IfErr result IsWriteFault }
 {
     let verb = RowVerb::Replace;
-    let mut prime = file_tree(alloc, file, KeyOfReference::Prime, listing);
+    let mut prime = row_tree(alloc, file, listing);
     let place = file.key_place(KeyOfReference::Prime);
     let prime_key = part_of(place, bytes);
     let row = match find_row(alloc, &prime, pages, device, file, number, prime_key)? {
@@ -214,7 +222,7 @@ fn replace_trees<D: Device>(
         return Err(StoreFault::Damaged);
     }
     let value = value_after(alloc, file, old, bytes, arrival)?;
-    replace_among(&mut prime, pages, device, row.key(), &value)?;
+    replace_row(&mut prime, pages, device, row.key(), &value)?;
     let next = arrival_next(file, old, bytes, arrival);
     let root = prime.root();
     let listing = move_row(
@@ -237,8 +245,8 @@ fn remove_trees<D: Device>(
     requires sectors { sectors_of pages.old ≤ D.sectors device.old }
     requires listing { length listing.now ≡ 83 }
     requires key { length key.now ≡ key_length (spec_of file.now) KeyOfReference.Prime }
-    ensures edits { Edits D.Device (result ≡ Err StoreFault.Device) pages.old device.old pages.new
-        device.new }
+    ensures edits { EditsPages D.Device (result ≡ Err StoreFault.Device) pages.old device.old
+        pages.new device.new }
     ensures outcome { OnTrees D.Device (spec_of file.now) pages.old
         device.old listing.now (λ named generation left right. IfOk result (λ turn. turn.outcome
         ≡ (removal (pair_of file.now.organization key.now number) named.file).outcome)) }
@@ -249,11 +257,13 @@ fn remove_trees<D: Device>(
         (pages_on D.Device pages.new device.old) left right turn.listing.items)) }
     ensures few { OnTrees D.Device
         (spec_of file.now) pages.old device.old listing.now (λ named generation left right.
-        OnOk result (FewChanged (84 * length file.now.alternates.items + 42) pages.old pages.new)) }
+        OnOk result (FewChanged (84 * length file.now.alternates.items
+        + (42 + pages_for (chained_bytes (spec_of file.now)))) pages.old pages.new)) }
     ensures room { OnTrees D.Device (spec_of file.now) pages.old device.old listing.now
         (λ named generation left right. result ≡ Err StoreFault.Full →
         free_count (committed_of pages.old)
-        < length (changed_pages_of pages.old) + (84 * length file.now.alternates.items + 42)) }
+        < length (changed_pages_of pages.old) + (84 * length file.now.alternates.items
+        + (42 + pages_for (chained_bytes (spec_of file.now))))) }
     ensures full { OnTrees D.Device (spec_of file.now) pages.old device.old listing.now
         (λ named generation left right. result ≡ Err StoreFault.Full →
         is_change (removal (pair_of file.now.organization key.now number) named.file).outcome
@@ -267,12 +277,12 @@ fn remove_trees<D: Device>(
     ensures spent { result ≡ Err StoreFault.Spent → is_spent pages.old ≡ true }
     ensures cause { IfErr result IsWriteFault }
 {
-    let mut prime = file_tree(alloc, file, KeyOfReference::Prime, listing);
+    let mut prime = row_tree(alloc, file, listing);
     let row = match find_row(alloc, &prime, pages, device, file, number, key)? {
         Some(row) => row,
         None => return Ok(RowTurn::none(alloc, Outcome::Missing)),
     };
-    remove_among(&mut prime, pages, device, row.key())?;
+    remove_row(&mut prime, pages, device, row.key())?;
     let next = next_arrival(listing);
     let root = prime.root();
     let listing = move_row(

@@ -1,5 +1,5 @@
 //! How a tree is looked into for the first row after a place.
-ghost use Rattle.std.specs.Prelude.{◌≡◌, ◌≤◌, ◌++◌, length, OnOk, IfOk, IsOkUnless};
+ghost use Rattle.std.specs.Prelude.{◌≡◌, ◌≤◌, ◌++◌, length, IfOk, IsOkUnless};
 ghost use Rattle.byteorder.specs.Endian.{big_bytes};
 ghost use Rattle.records.specs.Stores.{spec_of, IsKey, key_length, bound_at};
 ghost use Rattle.alternate_keys.specs.Aims.{extended_bytes, fill, aim_at, aim_short, aim_number, aim_value, aim_of, aim_key, pair_aim_key};

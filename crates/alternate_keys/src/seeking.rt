@@ -1,16 +1,16 @@
 //! Seeking a row of a file.
 ghost use Rattle.std.specs.Prelude.{◌≡◌, ◌≤◌, Err, true, false, length, IfOk, OnOk, OnErr, IfErr};
 ghost use Rattle.std.specs.Option.{option_map};
-ghost use Rattle.station.specs.Calls.{OnlyReads};
-ghost use Rattle.pages.specs.Pages.{map_now, is_spent, sectors_of, Agrees, IsOpen, IsUnchanged};
+ghost use Rattle.pages.specs.Pages.{map_now, is_spent, sectors_of, IsOpen};
 ghost use Rattle.btree.specs.Calls.{IfAgrees};
 ghost use Rattle.records.specs.Order.{sought_row, found_row};
 ghost use Rattle.records.specs.Files.{File, Files};
 ghost use Rattle.records.specs.Stores.{spec_of, Has, IsKey, key_length, bound_at, record_of};
+ghost use Rattle.volume_format.specs.Calls.{LooksAt};
 ghost use Rattle.volume_format.specs.Volume.{MapHolds};
 ghost use Rattle.alternate_keys.specs.Faults.{IsReadFault};
 
-use crate::file_tree::file_tree;
+use crate::file_tree::{file_tree, row_tree};
 use crate::listing::find_listing;
 use crate::search_keys::{key_for, search_start_for};
 use crate::seek::seek_row;
@@ -39,11 +39,8 @@ pub(crate) fn seek_in<D: Device>(
     requires key { IsKey (spec_of file.now) key }
     requires value { length value.now ≤ key_length (spec_of file.now) key }
     requires bytes { length bytes.old ≡ file.now.record_length }
-    ensures only { OnlyReads D.Device (result ≡ Err StoreFault.Device) device.old device.new }
-    ensures unchanged { IsUnchanged pages.old pages.new }
-    ensures agrees { IfAgrees D.Device pages.old device.old
-        (Agrees pages.new (D.state device.new).disk) }
-    ensures open { IsOpen pages.new }
+    ensures looks { LooksAt D.Device (result ≡ Err StoreFault.Device) pages.old device.old pages.new
+        device.new }
     ensures found { IfAgrees D.Device pages.old device.old ((files : Files) (held : File) → MapHolds
         (map_now pages.old (D.state device.old).disk.present) files → Has files file.now held →
         IfOk result (λ answer. answer ≡ option_map (found_row (spec_of file.now) key held.rows)
@@ -64,11 +61,13 @@ pub(crate) fn seek_in<D: Device>(
         Some(entry) => entry,
         None => return Ok(None),
     };
-    let prime = file_tree(alloc, file, KeyOfReference::Prime, listing_part(&entry));
+    let prime = row_tree(alloc, file, listing_part(&entry));
     let under = file_tree(alloc, file, key, listing_part(&entry));
     let at = key_for(alloc, file, key, side, value, number)?;
     let aim = search_start_for(file, key, side, value, number);
-    match seek_row(&prime, &under, pages, device, file, key, aim, &at, bytes) {
+    match seek_row(
+        alloc, &prime, &under, pages, device, file, key, aim, &at, bytes,
+    ) {
         Ok(found) => Ok(found),
         Err(error) => Err(to_fault(error)),
     }

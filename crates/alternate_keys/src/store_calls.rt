@@ -2,7 +2,7 @@
 ghost use Rattle.pages.specs.Pages.{sectors_of};
 ghost use Rattle.volume_format.specs.Volume.{Holds};
 ghost use Rattle.alternate_keys.specs.Held.{held_law};
-ghost use Rattle.alternate_keys.specs.Stands.{Represents, LacksRoom};
+ghost use Rattle.alternate_keys.specs.Stands.{Represents, Lacks};
 
 use crate::creating::create_in;
 use crate::finding::find_in;
@@ -21,7 +21,7 @@ impl Keeps for PagedStore {
 
     ghost is_spent = { λ store. store.spent };
 
-    ghost lacks_room = { λ image is_new name before after. LacksRoom image is_new name after };
+    ghost lacks = { λ fault image is_new name before after. Lacks fault image is_new name after };
 }
 
 impl Store for PagedStore {

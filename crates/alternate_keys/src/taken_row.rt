@@ -4,30 +4,33 @@ ghost use Rattle.pages.specs.Pages.{is_spent, committed_of, sectors_of, changed_
 ghost use Rattle.pages.specs.Use.{free_count};
 ghost use Rattle.btree.specs.Calls.{IfAgrees, pages_on};
 ghost use Rattle.btree.specs.Entries.{entry_with};
+ghost use Rattle.chains.specs.Chain.{pages_for};
 ghost use Rattle.records.specs.Rows.{Row, named_pair};
 ghost use Rattle.records.specs.Changes.{insertion, is_taken, is_duplicate, done_outcome};
 ghost use Rattle.records.specs.Stores.{spec_of, IsNewNumber, is_change};
+ghost use Rattle.volume_format.specs.Chained.{chained_bytes};
 ghost use Rattle.volume_format.specs.Trees.{entry_under};
 ghost use Rattle.file_bytes.specs.Rows.{prime_key};
 ghost use Rattle.volume_format.specs.Calls.{LooksAt};
 ghost use Rattle.alternate_keys.specs.Faults.{IsReadFault};
 ghost use Rattle.alternate_keys.specs.Moved.{is_new};
 ghost use Rattle.alternate_keys.specs.Placed.{OnTrees};
-ghost use Rattle.alternate_keys.specs.Seen.{HasRows};
+ghost use Rattle.alternate_keys.specs.Seen.{HasRows, row_tree_of};
 
 use crate::commit::is_done;
 use crate::file_tree::file_tree;
 use crate::row_verb::RowVerb;
 use crate::values::find_duplicate_key;
 use btree::Tree;
+use chains::page_count;
 use file_bytes::{number_of_new, row_key};
 use pages::PageMap;
 use records::{FileSpec, KeyOfReference, Outcome, StoreFault};
 use station::Device;
 use std::alloc::Global;
-use volume_format::{next_arrival, to_fault};
+use volume_format::{chained_bytes, next_arrival, to_fault};
 
-/// How many pages a new entry changes at most.
+/// How many pages a new entry changes at most, besides those of its record.
 const ENTRY_PAGES: usize = 42;
 
 /// What a new row comes to by its values, before a page is changed: `Taken` where it may not come. That its prime key or number is
@@ -60,7 +63,8 @@ pub(crate) fn look_at_new_row<D: Device>(
     ensures free { is_spent pages.old ≡ false
         → OnTrees D.Device (spec_of file.now) pages.old device.old listing.now
         (λ named generation left right. IfOk result (λ outcome. is_change outcome ≡ true →
-        free_count (committed_of pages.old) < length (changed_pages_of pages.old) + 42
+        free_count (committed_of pages.old) < length (changed_pages_of pages.old)
+        + (42 + pages_for (chained_bytes (spec_of file.now)))
         → is_change (insertion number bytes.now named.file).outcome ≡ true)) }
     ensures damaged { OnTrees D.Device (spec_of file.now) pages.old device.old listing.now
         (λ named generation left right. result ≡ Err StoreFault.Damaged → ⊥) }
@@ -80,7 +84,7 @@ pub(crate) fn look_at_new_row<D: Device>(
     if !is_done(outcome) {
         return Ok(outcome);
     }
-    if !is_scarce(pages) {
+    if !is_scarce(pages, file) {
         return Ok(outcome);
     }
     let prime = file_tree(alloc, file, KeyOfReference::Prime, listing);
@@ -92,18 +96,27 @@ pub(crate) fn look_at_new_row<D: Device>(
 }
 
 /// Whether a new entry may find no page for it.
-fn is_scarce(pages: &PageMap) -> bool
+fn is_scarce(pages: &PageMap, file: &FileSpec) -> bool
     requires { IsOpen pages.now }
     ensures { is_spent pages.now ≡ false
-        → free_count (committed_of pages.now) < length (changed_pages_of pages.now) + 42
+        → free_count (committed_of pages.now) < length (changed_pages_of pages.now)
+        + (42 + pages_for (chained_bytes (spec_of file.now)))
         → result ≡ true }
 {
     let free = pages.free_sectors() as usize;
     let changed = pages.changed_pages();
-    if free < ENTRY_PAGES {
+    let most = entry_pages(chained_bytes(file));
+    if free < most {
         return true;
     }
-    free - ENTRY_PAGES < changed
+    free - most < changed
+}
+
+/// How many pages a new row changes at most in the tree of rows, by the bytes of its record that are in a chain.
+fn entry_pages(record_bytes: u16) -> usize
+    ensures { result ≡ 42 + pages_for record_bytes }
+{
+    ENTRY_PAGES + page_count(record_bytes as usize)
 }
 
 /// Whether the tree of rows has a row of this record's prime key, or of this number where the file has none.
@@ -122,12 +135,14 @@ fn is_row_there<D: Device>(
     ensures looks { LooksAt D.Device (result ≡ Err StoreFault.Device) pages.old device.old pages.new
         device.new }
     ensures there { IfAgrees D.Device pages.old device.old ((rows : List Row)
-        → HasRows (spec_of file.now) (pages_on D.Device pages.old device.old) rows prime.now →
+        → HasRows (spec_of file.now) (pages_on D.Device pages.old device.old) rows
+        (row_tree_of (spec_of file.now) prime.now) →
         IfOk result (λ there. there ≡ is_some
         (entry_with (map (entry_under (spec_of file.now) KeyOfReference.Prime) rows) (prime_key
         file.now.organization (named_pair file.now.organization number bytes.now))))) }
     ensures damaged { IfAgrees D.Device pages.old device.old ((rows : List Row)
-        → HasRows (spec_of file.now) (pages_on D.Device pages.old device.old) rows prime.now
+        → HasRows (spec_of file.now) (pages_on D.Device pages.old device.old) rows
+        (row_tree_of (spec_of file.now) prime.now)
         → result ≡ Err StoreFault.Damaged → ⊥) }
     ensures spent { result ≡ Err StoreFault.Spent → is_spent pages.old ≡ true }
     ensures cause { IfErr result IsReadFault }

@@ -61,7 +61,7 @@ pub fn check_tree<D: Device>(
 }
 
 /// Marks a page number. It is false where the number is 0, has no mark, or is marked.
-fn mark(seen: &mut [bool], page: u32) -> bool
+pub fn mark(seen: &mut [bool], page: u32) -> bool
     ensures marks { result ≡ true → Marks seen.old (page ∷ []) seen.new }
     ensures refused { result ≡ false → CanMark seen.old (page ∷ []) → ⊥ }
 {

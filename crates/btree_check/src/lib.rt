@@ -6,4 +6,4 @@
 mod check;
 mod separator;
 
-pub use check::check_tree;
+pub use check::{check_tree, mark};

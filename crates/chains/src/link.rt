@@ -26,6 +26,36 @@ const NEXT_AT: usize = 4;
 /// Where the part of the record begins.
 const PART_AT: usize = 16;
 
+/// Reads the beginning of the part of a record that is on a page of a chain, as much as there is room for, and returns the next page.
+/// `Damaged` tells that the page is none of a chain. After a refusal nothing was read.
+pub fn read_part<D: Device>(
+    pages: &mut PageMap,
+    device: &mut D,
+    page: u32,
+    part: &mut [u8],
+) -> Result<u32, PagesError>
+    requires open { IsOpen pages.old }
+    requires sectors { sectors_of pages.old ≤ D.sectors device.old }
+    requires part { length part.old ≤ 4080 }
+    ensures only { OnlyReads D.Device (result ≡ Err PagesError.Device) device.old device.new }
+    ensures unchanged { IsUnchanged pages.old pages.new }
+    ensures agrees { IfAgrees D.Device pages.old device.old
+        (Agrees pages.new (D.state device.new).disk) }
+    ensures open { IsOpen pages.new }
+    ensures link { OnPages D.Device pages.old device.old
+        (λ before. IfOk result (ReadsLink before page part.new)) }
+    ensures kept { OnErr result (part.new ≡ part.old) }
+    ensures damaged { OnPages D.Device pages.old device.old
+        (NoLink page (ReturnsDamaged result)) }
+    ensures spent { ExactlyIfSpent pages.old result }
+    ensures cause { IfErr result IsReadRefusal }
+{
+    if let Some(bytes) = pages.view(page) {
+        return copy_part(page, bytes, part);
+    }
+    part_read(pages, device, page, part)
+}
+
 /// Puts a part of a record on a page that wasn't in the map, in front of the page of the next part.
 pub(crate) fn put_link(pages: &mut PageMap, next: u32, part: &[u8]) -> Result<u32, PagesError>
     requires open { IsOpen pages.old }
@@ -105,36 +135,6 @@ pub(crate) fn page_after<D: Device>(
         return Ok(0);
     }
     read_part(pages, device, page, &mut [])
-}
-
-/// Reads the beginning of the part of a record that is on a page of a chain, as much as there is room for, and returns the next page.
-/// `Damaged` tells that the page is none of a chain. After a refusal nothing was read.
-pub(crate) fn read_part<D: Device>(
-    pages: &mut PageMap,
-    device: &mut D,
-    page: u32,
-    part: &mut [u8],
-) -> Result<u32, PagesError>
-    requires open { IsOpen pages.old }
-    requires sectors { sectors_of pages.old ≤ D.sectors device.old }
-    requires part { length part.old ≤ 4080 }
-    ensures only { OnlyReads D.Device (result ≡ Err PagesError.Device) device.old device.new }
-    ensures unchanged { IsUnchanged pages.old pages.new }
-    ensures agrees { IfAgrees D.Device pages.old device.old
-        (Agrees pages.new (D.state device.new).disk) }
-    ensures open { IsOpen pages.new }
-    ensures link { OnPages D.Device pages.old device.old
-        (λ before. IfOk result (ReadsLink before page part.new)) }
-    ensures kept { OnErr result (part.new ≡ part.old) }
-    ensures damaged { OnPages D.Device pages.old device.old
-        (NoLink page (ReturnsDamaged result)) }
-    ensures spent { ExactlyIfSpent pages.old result }
-    ensures cause { IfErr result IsReadRefusal }
-{
-    if let Some(bytes) = pages.view(page) {
-        return copy_part(page, bytes, part);
-    }
-    part_read(pages, device, page, part)
 }
 
 /// The same of a page that isn't in memory. Refusals are those of `read_part`.

@@ -7,7 +7,7 @@ ghost use Rattle.chains.specs.Links.{IsCut};
 pub(crate) const PART_BYTES: usize = 4080;
 
 /// How many pages a record of so many bytes needs.
-pub(crate) fn page_count(bytes: usize) -> usize
+pub fn page_count(bytes: usize) -> usize
     ensures { result ≡ pages_for bytes }
 {
     bytes.div_ceil(PART_BYTES)

@@ -254,7 +254,7 @@ module _ (areas : List (List ℕ)) (items : List LocatedItem) where
         → IsDataItem areas (sent_entry items file)
     group_so is within long =
         let size = described_length first_area name files among rules in
-        let bounds : (1 ≤ record_length there.entries) × (record_length there.entries ≤ 1000) =
+        let bounds : (1 ≤ record_length there.entries) × (record_length there.entries ≤ 16000) =
         bounds_of (record_length there.entries) size in
         let low = bounds.0 in
         let high = bounds.1 in
@@ -264,7 +264,7 @@ module _ (areas : List (List ℕ)) (items : List LocatedItem) where
         sent_so file all (λ none. subst (λ (item : Item). IsPlainKind item.kind) (sym is) tt)
         (subst IsItem (sym is) (low, omega arith)) (record { area = area.0; here = area.1; within = omega arith })
       where
-        bounds_of : (n : ℕ) → are_some most_record_bytes n ≡ true → (1 ≤ n) × (n ≤ 1000)
+        bounds_of : (n : ℕ) → are_some most_record_bytes n ≡ true → (1 ≤ n) × (n ≤ 16000)
         bounds_of n e = (grind (arith, nat_tests), grind (arith, nat_tests))
 
     -- the only record

@@ -25,7 +25,7 @@ use source_tree::{Entry, FileDescription};
 use std::alloc::Global;
 
 /// The most bytes of a record (own choice).
-const MOST_RECORD_BYTES: u64 = 1_000;
+const MOST_RECORD_BYTES: u64 = 16_000;
 
 /// Whether the entries of the records of files keep the rules of entries, after those of working storage, which keep theirs and take so
 /// many bytes: 43 to 48, 55 and 69. Otherwise the answer is the first that they break, in the order of the definition: the number of

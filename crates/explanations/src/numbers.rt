@@ -583,8 +583,8 @@ Fault 69 (sources: entries): a limit is exceeded
 More than 5,000 entries, or OCCURS of more than 65,535 (a condition name is
 reported at its name). More than 50,000 statements, at the 50,001st in the
 order of the text; a nested statement counts too. More than 15 files, at each
-further name. A record of more than 1,000 bytes, at the name after FD. A key of
-more than 100 bytes, or more than 7 alternate keys, at the key.
+further name. A record of more than 16,000 bytes, at the name after FD. A key
+of more than 100 bytes, or more than 7 alternate keys, at the key.
 
 What to do:
 Divide the program, the record or the key.
@@ -731,6 +731,17 @@ layouts, so it never ends so.
 
 What to do:
 Open it by the other store.
+
+@ 87
+Refusal 87 (runs): the volume's mark is too early for this file
+
+An OPEN would make a file with records of more than 1,000 bytes on a volume
+with the mark `COBVOL01` or of halves. It wrote nothing, and earlier statements
+stay.
+
+What to do:
+Give a volume of trees the mark `COBVOL02` by `cobol migrate`. Make one of a
+volume of halves by `cobol copy`.
 
 @ 90
 Fault 90 (runs): these bytes are no number

@@ -5,3 +5,4 @@ pub mod Rows
 mod Parts
 pub mod Checked
 mod Examples
+pub mod Short

@@ -21,21 +21,21 @@ both true b e = (refl, e)
 both false b e = absurd cc
 
 pub record IsPlain (spec : Spec) : Type 0 where
-  pub long : spec.record_length ≤ 1000
+  pub long : spec.record_length ≤ 16000
   pub least : 1 ≤ spec.record_length
   pub few : length spec.alternates ≤ 7
   pub small : AreSmall spec.alternates
   pub prime : IsSmall (prime_place spec.organization)
   pub within : (prime_place spec.organization).offset + (prime_place spec.organization).length ≤ spec.record_length
 
-small_place : (n : ℕ) (place : KeyPlace) → n ≤ 1000 → is_place n place ≡ true
+small_place : (n : ℕ) (place : KeyPlace) → n ≤ 16000 → is_place n place ≡ true
     → IsSmall place × (place.offset + place.length ≤ n)
 small_place n place le is =
     let within = leb-true (place.offset + place.length) n
     (both (nat_le 1 place.length && nat_le place.length 100) (nat_le (place.offset + place.length) n) is).1 in
     ((omega (arith, within, le), omega (arith, within, le)), within)
 
-small_keys : (n : ℕ) (keys : List AlternateKey) → n ≤ 1000 → list_all (λ key. is_place n key.place) keys ≡ true
+small_keys : (n : ℕ) (keys : List AlternateKey) → n ≤ 16000 → list_all (λ key. is_place n key.place) keys ≡ true
     → AreSmall keys
 small_keys n [] le all = tt
 small_keys n (key ∷ keys) le all =
@@ -52,7 +52,7 @@ pub record AreGood (n : ℕ) (o : Organization) (keys : List AlternateKey) : Typ
   pub prime : IsSmall (prime_place o)
   pub within : (prime_place o).offset + (prime_place o).length ≤ n
 
-good_keys : (n : ℕ) (o : Organization) (keys : List AlternateKey) → n ≤ 1000 → are_keys n o keys ≡ true
+good_keys : (n : ℕ) (o : Organization) (keys : List AlternateKey) → n ≤ 16000 → are_keys n o keys ≡ true
     → AreGood n o keys
 good_keys n Sequential keys le is = let e =
     no_keys keys is in record { few = e.0; small = e.1; prime = (omega arith, omega arith); within = omega arith }
@@ -75,10 +75,10 @@ good_keys n (Indexed place) keys le is =
 
 pub plain : (spec : Spec) → is_spec spec ≡ true → IsPlain spec
 plain spec is =
-    let one = both (nat_le 1 spec.record_length && nat_le spec.record_length 1000)
+    let one = both (nat_le 1 spec.record_length && nat_le spec.record_length 16000)
     (are_keys spec.record_length spec.organization spec.alternates) is in
-    let two = both (nat_le 1 spec.record_length) (nat_le spec.record_length 1000) one.0 in
-    let long = leb-true spec.record_length 1000 two.1 in
+    let two = both (nat_le 1 spec.record_length) (nat_le spec.record_length 16000) one.0 in
+    let long = leb-true spec.record_length 16000 two.1 in
     let good = good_keys spec.record_length spec.organization spec.alternates long one.1 in
     record {
       long = long;

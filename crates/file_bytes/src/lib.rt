@@ -23,4 +23,4 @@ pub use row_bytes::{push_row_key, push_row_value, row_key};
 pub use row_check::is_row;
 pub use row_number::number_of_new;
 pub use row_reader::{key_length, read_row};
-pub use stored::{StoredFile, StoredRow};
+pub use stored::{StoredFile, StoredRow, are_short};

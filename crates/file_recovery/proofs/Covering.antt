@@ -17,7 +17,7 @@ use Rattle.btree.proofs.There.{tree_ascends}
 use Rattle.btree_pages.specs.Keys.{Ascend}
 use Rattle.btree.specs.Laws.{keys_listed}
 use Rattle.records.specs.Rows.{bytes_cmp}
-use Rattle.records.specs.Files.{Files, IsNamed, names}
+use Rattle.records.specs.Files.{Files, IsNamed, AreShort, names}
 use Rattle.volume_format.specs.Catalog.{catalog_layout}
 use Rattle.volume_format.specs.Forest.{TreeLevels, IsTreeIn, IsForest, pages_under, pages_within}
 use Rattle.volume_format.specs.Volume.{FileTrees, IsKept, MapHolds, trees_of, catalog_entry, catalog_tree}
@@ -28,6 +28,7 @@ use Rattle.file_recovery.specs.Kept.{IsCatalogFile, IsCatalog, FindsCatalog, NoC
 use Rattle.file_recovery.proofs.Ascents.{names_ascend}
 use Rattle.file_recovery.proofs.FirstMark.{without_count, found_first}
 use Rattle.file_recovery.proofs.OneFound.{one_list_of_trees}
+use Rattle.file_recovery.proofs.ShortFiles.{short_as}
 
 -- no page was marked at first
 abbrev pub NoneMarked : List Bool → Type 0
@@ -88,8 +89,9 @@ none_held m old many none never files holds =
 
 -- a catalog whose pages are all that is used is held
 pub catalog_held : (m : Map) (files : Files) (old new : List Bool) → NoneMarked old
-    → FindsCatalog m m.generation files old new → IsCovered m.pages new → MapHolds m files
-catalog_held m files old new none found covered =
+    → FindsCatalog m m.generation files old new → IsCovered m.pages new → (m.mark ≡ 0 → AreShort files)
+    → MapHolds m files
+catalog_held m files old new none found covered short =
     let is = found.is in
     let trees : List TreeLevels = catalog_tree m found.catalog ∷ flat_map trees_of found.kept in
     let up : Ascend (keys_listed (entries_of (catalog_layout m.mark) found.catalog)) =
@@ -120,6 +122,7 @@ catalog_held m files old new none found covered =
         each = named;
         count = omega (arith, many, few, same);
       };
+      short = short;
     }
 
 -- the trees of files of the same entries of the catalog
@@ -190,3 +193,20 @@ stray_held m files old new small found stray others holds =
     stray
     (λ page used. All-contains (λ p. slice_index_or new p false ≡ true) (pages_within trees) page found.marks.marked
     (subst (λ (l : List TreeLevels). Contains (pages_within l) page) same (holds.keeps.forest.covered page used)))
+
+-- where a file has long records, and the volume the first mark, nothing is held
+pub long_held : (m : Map) (files : Files) (old new : List Bool) → length m.pages ≤ 2 ^ 20
+    → FindsCatalog m m.generation files old new → ((m.mark ≡ 0 → AreShort files) → ⊥) → (others : Files)
+    → MapHolds m others → ⊥
+long_held m files old new small found long others holds =
+    let is = held_catalog m others holds in
+    let is_too = found.is in
+    let first = All-head (IsTreeIn m.pages) (catalog_tree m holds.keeps.catalog) (flat_map trees_of holds.kept) is.grow in
+    let second =
+    All-head (IsTreeIn m.pages) (catalog_tree m found.catalog) (flat_map trees_of found.kept) is_too.grow in
+    let levels : holds.keeps.catalog ≡ found.catalog = one_tree (catalog_layout m.mark) m.pages m.catalog
+    holds.keeps.catalog found.catalog small first.stands second.stands in
+    let entries : map (catalog_entry m.mark) holds.kept ≡ map (catalog_entry m.mark) found.kept =
+    sym is.listed ∙ ap (entries_of (catalog_layout m.mark)) levels ∙ is_too.listed in
+    long (λ mark. subst AreShort found.are (short_as m.mark m.generation holds.kept found.kept is.each is_too.each
+    is.named is_too.named entries (subst AreShort (sym holds.named) (holds.short mark))))

@@ -24,7 +24,7 @@ entry_with : List ℕ → List ℕ → Entry
 entry_with key value = record { key = key; value = value }
 
 -- the listing in an entry
-listing_first : (mark : ℕ) (kept : FileTrees) → IsNamed kept.named
+pub listing_first : (mark : ℕ) (kept : FileTrees) → IsNamed kept.named
     → length kept.alternates ≡ length kept.named.file.spec.alternates
     → take 83 (catalog_entry mark kept).value ≡ listing_bytes (listing_of kept)
 listing_first mark kept named count = (reads_back mark (listing_bytes (listing_of kept)) (length kept.named.file.rows)

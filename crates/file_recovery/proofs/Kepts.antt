@@ -8,15 +8,17 @@ use Rattle.std.proofs.lemmas.Bool.{cases_lt}
 use Rattle.std.proofs.lemmas.List.Elements.{All-head, All-tail, All-from_recursion}
 use Rattle.byteorder.specs.Endian.{big_number}
 use Rattle.station.specs.Disk.{Sector}
+use Rattle.btree_pages.specs.declared.row_layout.RowLayout.{RowLayout}
 use Rattle.btree.specs.Entries.{Entry, entries_of}
 use Rattle.btree_check.specs.Walks.{Marks}
+use Rattle.chains.specs.Rows.{HasChain, chains_of, unrolled_entry}
 use Rattle.records.specs.declared.key.KeyOfReference.TheVariants.{Prime}
 use Rattle.records.specs.Spec.{Spec}
 use Rattle.records.specs.Rows.{Row}
 use Rattle.records.specs.Files.{File, NamedFile, IsRow, IsNamed}
 use Rattle.records.specs.Laws.{RowsAscend}
 use Rattle.volume_format.specs.Catalog.{Listing, IsListing, listing_bytes}
-use Rattle.volume_format.specs.Chained.{chained_bytes}
+use Rattle.volume_format.specs.Chained.{chained_bytes, form_of}
 use Rattle.file_bytes.specs.Description.{padded_name}
 use Rattle.volume_format.specs.Forest.{TreeLevels, IsTreeIn, pages_under, pages_within}
 use Rattle.volume_format.specs.Trees.{entry_under, layout_under}
@@ -25,11 +27,10 @@ use Rattle.volume_format.proofs.Listings.{spec_read, prime_read, root_read, next
 use Rattle.file_bytes.proofs.Descriptions.{one_name, one_spec}
 use Rattle.volume_format.proofs.Once.{one_rows_most}
 use Rattle.volume_format.proofs.Roots.{root_small}
-use Rattle.volume_format.proofs.Whole.{whole_entries, short_spec}
 use Rattle.file_recovery.specs.Found.{root_at, HasIndex, AreIndexes, FindsIndexes}
 use Rattle.file_recovery.specs.Kept.{IsCatalogFile, FindsFile}
 use Rattle.file_recovery.specs.Read.{roots_in, listing_in}
-use Rattle.file_recovery.specs.Rows.{IsSized}
+use Rattle.file_recovery.specs.Rows.{IsSized, form_under}
 use Rattle.file_recovery.proofs.Headings.{IsHeading}
 use Rattle.btree_check.proofs.Marking.{marks_append}
 use Rattle.volume_format.proofs.OneTree.{one_planted}
@@ -163,10 +164,6 @@ module _ (pages : List (Option Sector)) (generation : ℕ) (entry : Entry) (kept
   pub own_prime : IsTreeIn pages kept.prime
   own_prime = All-head (IsTreeIn pages) kept.prime kept.alternates found.grow
 
-  -- its records are in its tree of rows
-  pub own_whole : kept.prime.record_bytes ≡ 0
-  own_whole = found.is.form ∙ short_spec kept.named.file.spec found.named.file.spec
-
   pub own_key : entry.key ≡ padded_name kept.named.name
   own_key = sym (ap (λ (e : Entry). e.key) found.listed)
 
@@ -215,16 +212,38 @@ module _ (pages : List (Option Sector)) (generation : ℕ) (entry : Entry) (kept
     pub own_entries : kept.prime.entries ≡ map (entry_under spec Prime) kept.named.file.rows
     own_entries = found.is.rows ∙ ap (λ (s : Spec). map (entry_under s Prime) kept.named.file.rows) same_spec
 
-    pub own_stored : entries_of kept.prime.tree.layout kept.prime.levels
-        ≡ map (entry_under spec Prime) kept.named.file.rows
-    own_stored = sym (whole_entries pages kept.prime own_prime own_whole) ∙ own_entries
+    pub own_form : kept.prime.record_bytes ≡ chained_bytes spec
+    own_form = found.is.form ∙ ap chained_bytes same_spec
+
+    -- the entries on the pages, in the words of the entry
+    module _ (layout : RowLayout) (layout_is : layout ≡ layout_under spec Prime) where
+      stored : entries_of kept.prime.tree.layout kept.prime.levels ≡ entries_of layout kept.prime.levels
+      stored = ap (λ (l : RowLayout). entries_of l kept.prime.levels) (prime_layout_is ∙ sym layout_is)
+
+      pub own_chains : kept.prime.chains ≡ chains_of (form_under spec) pages (entries_of layout kept.prime.levels)
+      own_chains = own_prime.chains_are
+          ∙ ap (λ (n : ℕ). chains_of (form_of n) pages (entries_of kept.prime.tree.layout kept.prime.levels)) own_form
+          ∙ ap (chains_of (form_under spec) pages) stored
+
+      pub own_stand : All (HasChain (form_under spec) pages) (entries_of layout kept.prime.levels)
+      own_stand = subst (λ (l : List Entry). All (HasChain (form_under spec) pages) l) stored
+          (subst (λ (n : ℕ).
+          All (HasChain (form_of n) pages) (entries_of kept.prime.tree.layout kept.prime.levels)) own_form
+          own_prime.chained.stand)
+
+      pub own_seen : map (unrolled_entry (form_under spec) pages) (entries_of layout kept.prime.levels)
+          ≡ map (entry_under spec Prime) kept.named.file.rows
+      own_seen = sym (own_prime.entries_are
+          ∙ ap (λ (n : ℕ).
+          map (unrolled_entry (form_of n) pages) (entries_of kept.prime.tree.layout kept.prime.levels)) own_form
+          ∙ ap (map (unrolled_entry (form_under spec) pages)) stored) ∙ own_entries
 
     pub same_prime : (prime : TreeLevels) → prime.tree.layout ≡ layout_under spec Prime
-        → prime.tree.root ≡ big_number 4 (drop 43 entry.value) → prime.record_bytes ≡ 0 → IsTreeIn pages prime
-        → prime ≡ kept.prime
-    same_prime prime layout root whole grows =
+        → prime.tree.root ≡ big_number 4 (drop 43 entry.value) → prime.record_bytes ≡ chained_bytes spec
+        → IsTreeIn pages prime → prime ≡ kept.prime
+    same_prime prime layout root form grows =
         one_planted pages prime kept.prime small grows own_prime (layout ∙ sym prime_layout_is) (root ∙ sym own_root)
-        (whole ∙ sym own_whole)
+        (form ∙ sym own_form)
 
     pub same_rows : (prime : TreeLevels) (rows : List Row) → prime ≡ kept.prime
         → prime.entries ≡ map (entry_under spec Prime) rows → AllByRecursion (IsRow spec next) rows

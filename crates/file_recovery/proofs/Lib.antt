@@ -3,6 +3,9 @@ pub mod Passed
 pub mod Calling
 pub mod Faults
 pub mod Entered
+pub mod Following
+pub mod ChainedRows
+pub mod PlantedRows
 pub mod Matching
 pub mod Halving
 pub mod PairsOf
@@ -11,6 +14,7 @@ pub mod Strays
 pub mod Indexes
 pub mod Ascents
 pub mod FirstMark
+mod ShortFiles
 pub mod Headings
 pub mod Kepts
 pub mod NoFiles

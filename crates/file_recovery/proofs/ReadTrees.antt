@@ -11,15 +11,15 @@ use Rattle.pages.specs.declared.error.PagesError.{PagesError}
 use Rattle.pages.specs.declared.error.PagesError.TheVariants as pages
 use Rattle.pages.proofs.One.{one_map}
 use Rattle.records.specs.declared.fault.StoreFault.{StoreFault}
-use Rattle.records.specs.declared.fault.StoreFault.TheVariants.{Device, Full, Damaged, Memory, Spent, Layout}
-use Rattle.records.specs.Files.{Files}
+use Rattle.records.specs.declared.fault.StoreFault.TheVariants.{Device, Full, Damaged, Memory, Spent, Layout, Old}
+use Rattle.records.specs.Files.{Files, AreShort}
 use Rattle.volume_format.specs.Volume.{MapHolds, Holds}
 use Rattle.file_recovery.specs.Covered.{IsCovered}
 use Rattle.volume_format.specs.Faults.{fault_of}
 use Rattle.file_recovery.specs.Faults.{IsReadFault}
 use Rattle.file_recovery.specs.Kept.{FindsCatalog, NoCatalog}
 use Rattle.file_recovery.specs.Recovered.{RefusedTrees, IsReadCause}
-use Rattle.file_recovery.proofs.Covering.{NoneMarked, none_held, catalog_held, stray_held}
+use Rattle.file_recovery.proofs.Covering.{NoneMarked, none_held, catalog_held, stray_held, long_held}
 
 -- no page is marked at first
 pub none_marked : (n : ℕ) → NoneMarked (replicate n false)
@@ -31,10 +31,10 @@ none_marked (suc n) (suc page) = none_marked n page
 module _ (m after : Map) (same : after ≡ m) (generation : ℕ) (is : m.generation ≡ generation) (old : List Bool)
     (none : NoneMarked old) where
   pub catalog_is_held : (files : Files) (new : List Bool) → FindsCatalog m generation files old new
-      → IsCovered after.pages new → MapHolds m files
-  catalog_is_held files new found covered =
+      → IsCovered after.pages new → (m.mark ≡ 0 → AreShort files) → MapHolds m files
+  catalog_is_held files new found covered short =
       catalog_held m files old new none (subst (λ (n : ℕ). FindsCatalog m n files old new) (sym is) found)
-      (subst (λ (x : Map). IsCovered x.pages new) same covered)
+      (subst (λ (x : Map). IsCovered x.pages new) same covered) short
 
   pub none_is_held : length old ≡ length m.pages → NoCatalog m generation old → (files : Files) → MapHolds m files → ⊥
   none_is_held many never = none_held m old many none (subst (λ (n : ℕ). NoCatalog m n old) (sym is) never)
@@ -45,6 +45,12 @@ module _ (m after : Map) (same : after ≡ m) (generation : ℕ) (is : m.generat
   stray_is_held files new small found stray =
       stray_held m files old new small (subst (λ (n : ℕ). FindsCatalog m n files old new) (sym is) found)
       (λ covered. stray (subst (λ (x : Map). IsCovered x.pages new) (sym same) covered))
+
+  pub long_is_held : (files : Files) (new : List Bool) → length m.pages ≤ 2 ^ 20
+      → FindsCatalog m generation files old new → ((m.mark ≡ 0 → AreShort files) → ⊥) → (others : Files)
+      → MapHolds m others → ⊥
+  long_is_held files new small found =
+      long_held m files old new small (subst (λ (n : ℕ). FindsCatalog m n files old new) (sym is) found)
 
 -- the map that was opened is the one of the disk, whatever waited on it before
 module _ (p : PageMap) (before now : Disk) (agrees : Agrees p now) (own : (image : List Sector)
@@ -84,6 +90,7 @@ refused_read image Damaged is never = never refl
 refused_read image Memory is never = tt
 refused_read image Spent is never = is
 refused_read image Layout is never = absurd is
+refused_read image Old is never = is
 
 pub cause_read : (fault : StoreFault) → IsReadFault fault → (fault ≡ Damaged → ⊥) → IsReadCause fault
 cause_read Device is never = inl refl
@@ -92,3 +99,4 @@ cause_read Damaged is never = absurd (never refl)
 cause_read Memory is never = inr refl
 cause_read Spent is never = absurd is
 cause_read Layout is never = absurd is
+cause_read Old is never = absurd is

@@ -4,7 +4,7 @@ use Rattle.std.specs.Prelude.{Result, Ok, Err, IfOk, IfErr}
 use Rattle.station.specs.Disk.{Sector}
 use Rattle.pages.specs.Layout.{IsForeign}
 use Rattle.records.specs.declared.fault.StoreFault.{StoreFault}
-use Rattle.records.specs.declared.fault.StoreFault.TheVariants.{Device, Full, Damaged, Memory, Spent, Layout}
+use Rattle.records.specs.declared.fault.StoreFault.TheVariants.{Device, Full, Damaged, Memory, Spent, Layout, Old}
 use Rattle.records.specs.Files.{Files}
 use Rattle.volume_format.specs.Volume.{Holds as HoldsTrees}
 use Rattle.half_store.specs.Half.{Holds as HoldsHalf}
@@ -29,6 +29,7 @@ module _ (image : List Sector) where
   half_fault Memory foreign is = tt
   half_fault Spent foreign is = is
   half_fault Layout foreign is = never_both_foreign image foreign is
+  half_fault Old foreign is = is
 
 module _ (image : List Sector) {T : Type 0} where
   -- of the trees
@@ -64,6 +65,7 @@ module _ (image : List Sector) where
   either_refused Memory other is tells = tt
   either_refused Spent other is tells = is
   either_refused Layout other is tells = absurd (other refl)
+  either_refused Old other is tells = is
 
   pub either_cause : (fault : StoreFault) (files : Files) → (fault ≡ Layout → ⊥)
       → (HoldsTrees image files → IsReadCause fault) → (IsForeign image → IsTreeCause fault) → HoldsFiles image files

@@ -1,5 +1,6 @@
 pub mod Read
 pub mod Faults
+pub mod Chained
 pub mod Rows
 pub mod Covered
 pub mod Found

@@ -3,7 +3,7 @@ use Rattle.std.specs.Prelude.{◌≡◌, ◌⊎◌, List, ⊤}
 use Rattle.station.specs.Disk.{Sector}
 use Rattle.pages.specs.Layout.{IsForeign}
 use Rattle.records.specs.declared.fault.StoreFault.{StoreFault}
-use Rattle.records.specs.declared.fault.StoreFault.TheVariants.{Device, Full, Damaged, Memory, Spent, Layout}
+use Rattle.records.specs.declared.fault.StoreFault.TheVariants.{Device, Full, Damaged, Memory, Spent, Layout, Old}
 use Rattle.records.specs.Files.{Files}
 use Rattle.volume_format.specs.Volume.{Holds as HoldsTrees}
 use Rattle.half_store.specs.Half.{Holds as HoldsHalf}
@@ -24,6 +24,7 @@ IsRecoveryRefusal image Damaged = HoldsNone image
 IsRecoveryRefusal image Memory = ⊤
 IsRecoveryRefusal image Spent = ⊥
 IsRecoveryRefusal image Layout = ⊥
+IsRecoveryRefusal image Old = ⊥
 
 -- the same, of the files in trees: the newest root may be the other store's
 abbrev pub RefusedTrees : List Sector → StoreFault → Type 0
@@ -33,6 +34,7 @@ RefusedTrees image Damaged = (files : Files) → HoldsTrees image files → ⊥
 RefusedTrees image Memory = ⊤
 RefusedTrees image Spent = ⊥
 RefusedTrees image Layout = IsForeign image
+RefusedTrees image Old = ⊥
 
 -- the device or memory failed
 abbrev pub IsReadCause : StoreFault → Type 0

@@ -1,14 +1,18 @@
 -- The rows of a file, against the entries of its trees.
-use Rattle.std.specs.Prelude.{◌≡◌, ◌<◌, ◌++◌, ℕ, List, [], ◌∷◌, map, length, slice_index_or, Contains, ⊤}
-use Rattle.std.specs.List.{AllByRecursion}
+use Rattle.std.specs.Prelude.{◌≡◌, ◌<◌, ℕ, Bool, List, [], map, length, slice_index_or, Contains, Option, ⊤}
+use Rattle.std.specs.List.{All, AllByRecursion}
 use Rattle.std.specs.declared.cmp.Ordering.TheVariants.{Less}
+use Rattle.station.specs.Disk.{Sector}
 use Rattle.btree.specs.Entries.{Entry}
+use Rattle.btree_check.specs.Walks.{CanMark, Marks}
+use Rattle.chains.specs.Rows.{RowForm, HasChain, chain_of, chains_of, unrolled_entry}
 use Rattle.records.specs.declared.fault.StoreFault.{StoreFault}
-use Rattle.records.specs.declared.fault.StoreFault.TheVariants.{Device, Full, Damaged, Memory, Spent, Layout}
+use Rattle.records.specs.declared.fault.StoreFault.TheVariants.{Device, Full, Damaged, Memory, Spent, Layout, Old}
 use Rattle.records.specs.declared.key.KeyOfReference.TheVariants.{Prime, Alternate}
 use Rattle.records.specs.Files.{IsRow}
 use Rattle.records.specs.Spec.{Spec}
 use Rattle.records.specs.Rows.{Row, bytes_cmp, part, prime_place}
+use Rattle.volume_format.specs.Chained.{chained_bytes, form_of}
 use Rattle.volume_format.specs.Trees.{entry_under}
 
 -- memory ran out, or what was looked for isn't there
@@ -19,23 +23,34 @@ IsOwnFault Damaged = ⊤
 IsOwnFault Memory = ⊤
 IsOwnFault Spent = ⊥
 IsOwnFault Layout = ⊥
+IsOwnFault Old = ⊥
 
--- this is the entry of a row of such a file; and none of its rows has it
-abbrev pub IsEntryOf : Spec → ℕ → Entry → Row → Type 0
-IsEntryOf spec next entry row = IsRow spec next row × (entry_under spec Prime row ≡ entry)
+-- where the records of a file are
+abbrev pub form_under : Spec → RowForm
+form_under spec = form_of (chained_bytes spec)
 
-abbrev pub NoRow : Spec → ℕ → Entry → Type 0
-NoRow spec next entry = (row : Row) → IsRow spec next row → entry_under spec Prime row ≡ entry → ⊥
+-- an entry with its record in place is that of a row, and exactly the pages of its chain were marked; and no row of such a file
+-- has an entry whose chain can be marked
+pub record FindsRow (spec : Spec) (pages : List (Option Sector)) (entry : Entry) (row : Row) (old new : List Bool) : Type 0 where
+  pub stands : HasChain (form_under spec) pages entry
+  pub is : unrolled_entry (form_under spec) pages entry ≡ entry_under spec Prime row
+  pub marks : Marks old (chain_of (form_under spec) pages entry) new
 
--- the row of that entry came after the others
-pub record AddsRow (spec : Spec) (next : ℕ) (entry : Entry) (old new : List Row) : Type 0 where
-  pub row : Row
-  pub is : IsEntryOf spec next entry row
-  pub added : new ≡ old ++ row ∷ []
+abbrev pub NoRow : Spec → ℕ → List (Option Sector) → Entry → List Bool → Type 0
+NoRow spec next pages entry old = (row : Row) → IsRow spec next row → HasChain (form_under spec) pages entry
+    → unrolled_entry (form_under spec) pages entry ≡ entry_under spec Prime row → CanMark old (chain_of (form_under spec) pages entry) → ⊥
 
--- these are the entries of rows of such a file; and of none
-abbrev pub NoRows : Spec → ℕ → List Entry → Type 0
-NoRows spec next entries = (rows : List Row) → AllByRecursion (IsRow spec next) rows → entries ≡ map (entry_under spec Prime) rows → ⊥
+-- entries with their records in place are those of rows, and exactly the pages of their chains were marked; and they are those
+-- of no rows of such a file whose chains can be marked
+pub record FindsRows (spec : Spec) (pages : List (Option Sector)) (entries : List Entry) (rows : List Row) (old new : List Bool) : Type 0 where
+  pub stand : All (HasChain (form_under spec) pages) entries
+  pub are : map (unrolled_entry (form_under spec) pages) entries ≡ map (entry_under spec Prime) rows
+  pub marks : Marks old (chains_of (form_under spec) pages entries) new
+
+abbrev pub NoRows : Spec → ℕ → List (Option Sector) → List Entry → List Bool → Type 0
+NoRows spec next pages entries old = (rows : List Row) → AllByRecursion (IsRow spec next) rows
+    → All (HasChain (form_under spec) pages) entries → map (unrolled_entry (form_under spec) pages) entries ≡ map (entry_under spec Prime) rows
+    → CanMark old (chains_of (form_under spec) pages entries) → ⊥
 
 -- each row has as many bytes and arrivals as the spec says
 abbrev pub IsSized : Spec → Row → Type 0

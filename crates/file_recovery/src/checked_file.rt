@@ -21,8 +21,8 @@ use station::Device;
 use std::alloc::Global;
 use volume_format::{LISTING_BYTES, listing_part, next_arrival, prime_root, tree_layout};
 
-/// The file of an entry of the catalog, with its rows. The pages of its trees are marked. `Damaged` tells that there is no file with
-/// trees that can be marked of which the entry tells.
+/// The file of an entry of the catalog, with its rows. The pages of its trees and of their chains are marked. `Damaged` tells that there
+/// is no file with trees that can be marked of which the entry tells.
 pub(crate) fn check_file<D: Device>(
     alloc: Global,
     entry: &Entry,
@@ -58,7 +58,7 @@ pub(crate) fn check_file<D: Device>(
     let layout = tree_layout(&file, KeyOfReference::Prime);
     let tree = Tree::new(alloc, layout, prime_root(value));
     check_pages(alloc, &tree, pages, device, seen)?;
-    let rows = read_rows(alloc, &file, next, &tree, pages, device)?;
+    let rows = read_rows(alloc, &file, next, &tree, pages, device, seen)?;
     if !is_counted(pages.mark(), entry.value(), rows.len()) {
         return Err(StoreFault::Damaged);
     }

@@ -5,6 +5,7 @@
 
 mod alternates;
 mod catalog;
+mod chained;
 mod checked_file;
 mod coverage;
 mod laws;

@@ -1,18 +1,18 @@
 //! The rows of a file are read from its tree.
-ghost use Rattle.std.specs.Prelude.{◌≡◌, ◌≤◌, false, Err, map, IfOk, IfErr, OnOk};
+ghost use Rattle.std.specs.Prelude.{◌≡◌, ◌≤◌, false, Err, IfOk, IfErr};
 ghost use Rattle.std.specs.List.{AllByRecursion};
 ghost use Rattle.pages.specs.Pages.{is_spent, sectors_of, IsOpen};
-ghost use Rattle.btree.specs.Calls.{OnTree};
+ghost use Rattle.btree.specs.Calls.{pages_on, OnPages, OnTree};
 ghost use Rattle.btree.specs.Entries.{HasLengths, entries_of};
-ghost use Rattle.records.specs.declared.key.KeyOfReference.TheVariants.{Prime};
 ghost use Rattle.records.specs.Files.{IsRow};
 ghost use Rattle.records.specs.Stores.{spec_of};
-ghost use Rattle.volume_format.specs.Trees.{entry_under, prime_layout};
+ghost use Rattle.volume_format.specs.Trees.{prime_layout};
 ghost use Rattle.volume_format.specs.Calls.{LooksAt};
 ghost use Rattle.file_recovery.specs.Faults.{IsReadFault};
-ghost use Rattle.file_recovery.specs.Rows.{IsOwnFault, NoRow, NoRows, AddsRow};
-ghost use Rattle.file_bytes.specs.Stored.{rows_of};
+ghost use Rattle.file_recovery.specs.Rows.{FindsRow, FindsRows, NoRow, NoRows};
+ghost use Rattle.file_bytes.specs.Stored.{row_of, rows_of};
 
+use crate::chained::whole_value;
 use crate::rows::row_of_entry;
 use crate::walking::{first_in, next_in};
 use btree::{Entry, Tree};
@@ -22,8 +22,8 @@ use records::{FileSpec, StoreFault};
 use station::Device;
 use std::alloc::Global;
 
-/// The rows of a file, from its tree of rows, whose entries are exactly theirs. `Damaged` tells that they are those of no rows of such
-/// a file. The rows are kept in memory.
+/// The rows of a file, from its tree of rows, whose entries are exactly theirs. The pages of the chains of their records are marked.
+/// `Damaged` tells that they are those of no rows of such a file whose chains can be marked. The rows are kept in memory.
 pub(crate) fn read_rows<D: Device>(
     alloc: Global,
     file: &FileSpec,
@@ -31,6 +31,7 @@ pub(crate) fn read_rows<D: Device>(
     tree: &Tree,
     pages: &mut PageMap,
     device: &mut D,
+    seen: &mut [bool],
 ) -> Result<Vec<StoredRow>, StoreFault>
     requires open { IsOpen pages.old }
     requires unspent { is_spent pages.old ≡ false }
@@ -41,11 +42,12 @@ pub(crate) fn read_rows<D: Device>(
     ensures are { IfOk result
         (λ rows. AllByRecursion (IsRow (spec_of file.now) next_arrival) (rows_of rows.items)) }
     ensures rows { OnTree D.Device tree.now.layout tree.now.root pages.old device.old
-        (λ levels. IfOk result (λ rows. entries_of tree.now.layout levels
-        ≡ map (entry_under (spec_of file.now) Prime) (rows_of rows.items))) }
+        (λ levels. IfOk result (λ rows. FindsRows (spec_of file.now)
+        (pages_on D.Device pages.old device.old) (entries_of tree.now.layout levels)
+        (rows_of rows.items) seen.old seen.new)) }
     ensures damaged { OnTree D.Device tree.now.layout tree.now.root pages.old device.old
-        (λ levels. result ≡ Err StoreFault.Damaged
-        → NoRows (spec_of file.now) next_arrival (entries_of tree.now.layout levels)) }
+        (λ levels. result ≡ Err StoreFault.Damaged → NoRows (spec_of file.now) next_arrival
+        (pages_on D.Device pages.old device.old) (entries_of tree.now.layout levels) seen.old) }
     ensures cause { IfErr result IsReadFault }
 {
     let mut rows = Vec::new(alloc);
@@ -53,7 +55,8 @@ pub(crate) fn read_rows<D: Device>(
     for _turn in 0..u64::MAX {
         match next {
             Some(entry) => {
-                add_row(alloc, file, next_arrival, &mut rows, &entry)?;
+                let row = read_row(alloc, file, next_arrival, &entry, pages, device, seen)?;
+                rows.push(row)?;
                 next = next_in(tree, pages, device, &entry)?;
             }
             None => return Ok(rows),
@@ -63,24 +66,34 @@ pub(crate) fn read_rows<D: Device>(
     Err(StoreFault::Memory)
 }
 
-/// Puts the row of an entry after the others. `Damaged` tells that no row of the file has that entry.
-fn add_row(
+/// The row of an entry. The pages of the chain of its record are marked. `Damaged` tells that no row of the file has that entry, with a
+/// chain that can be marked.
+fn read_row<D: Device>(
     alloc: Global,
     file: &FileSpec,
     next_arrival: u64,
-    rows: &mut Vec<StoredRow>,
     entry: &Entry,
-) -> Result<(), StoreFault>
-    requires { HasLengths (prime_layout (spec_of file.now)) entry.now }
-    ensures row { OnOk result (AddsRow (spec_of file.now) next_arrival entry.now
-        (rows_of rows.old.items) (rows_of rows.new.items)) }
-    ensures damaged { result ≡ Err StoreFault.Damaged
-        → NoRow (spec_of file.now) next_arrival entry.now }
-    ensures cause { IfErr result IsOwnFault }
+    pages: &mut PageMap,
+    device: &mut D,
+    seen: &mut [bool],
+) -> Result<StoredRow, StoreFault>
+    requires open { IsOpen pages.old }
+    requires unspent { is_spent pages.old ≡ false }
+    requires sectors { sectors_of pages.old ≤ D.sectors device.old }
+    requires lengths { HasLengths (prime_layout (spec_of file.now)) entry.now }
+    ensures looks { LooksAt D.Device (result ≡ Err StoreFault.Device) pages.old device.old pages.new
+        device.new }
+    ensures is { IfOk result (λ row. IsRow (spec_of file.now) next_arrival (row_of row)) }
+    ensures row { OnPages D.Device pages.old device.old (λ before. IfOk result (λ row. FindsRow
+        (spec_of file.now) before entry.now (row_of row) seen.old seen.new)) }
+    ensures damaged { OnPages D.Device pages.old device.old
+        (λ before. result ≡ Err StoreFault.Damaged
+        → NoRow (spec_of file.now) next_arrival before entry.now seen.old) }
+    ensures cause { IfErr result IsReadFault }
 {
-    let Some(row) = row_of_entry(alloc, file, next_arrival, entry.key(), entry.value())? else {
-        return Err(StoreFault::Damaged);
-    };
-    rows.push(row)?;
-    Ok(())
+    if !file.is_long() {
+        return row_of_entry(alloc, file, next_arrival, entry.key(), entry.value());
+    }
+    let whole = whole_value(alloc, file, entry.value(), pages, device, seen)?;
+    row_of_entry(alloc, file, next_arrival, entry.key(), &whole)
 }

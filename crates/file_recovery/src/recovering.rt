@@ -1,13 +1,13 @@
 //! All files of a volume, of either store.
-ghost use Rattle.std.specs.Prelude.{◌≡◌, ◌⊎◌, ◌≤◌, false, Err, IfOk, IfErr, OnOk, OnErr};
+ghost use Rattle.std.specs.Prelude.{◌≡◌, ◌⊎◌, ◌≤◌, true, false, Err, IfOk, IfErr, OnOk, OnErr};
 ghost use Rattle.station.specs.Calls.{OnlyReads, OnlyWrites};
 ghost use Rattle.station.specs.History.{Through};
 ghost use Rattle.station.specs.Opening.{IsOpening};
 ghost use Rattle.station.specs.State.{state_after_sync};
-ghost use Rattle.pages.specs.Layout.{IsForeign};
+ghost use Rattle.pages.specs.Layout.{IsForeign, version_of};
 ghost use Rattle.pages.specs.Pages.{map_now, is_spent, sectors_of, IsOpen};
 ghost use Rattle.btree.specs.Calls.{IfAgrees};
-ghost use Rattle.records.specs.Files.{Files};
+ghost use Rattle.records.specs.Files.{Files, AreShort};
 ghost use Rattle.volume_format.specs.Volume.{MapHolds, Holds};
 ghost use Rattle.file_recovery.specs.Faults.{IsReadFault};
 ghost use Rattle.file_recovery.specs.Recovered.{HoldsFiles, IsRecoveryRefusal, RefusedTrees, IsReadCause, IsTreeCause};
@@ -15,8 +15,8 @@ ghost use Rattle.file_bytes.specs.Stored.{files_of};
 
 use crate::catalog::read_catalog;
 use crate::coverage::are_covered;
-use file_bytes::StoredFile;
-use pages::PageMap;
+use file_bytes::{StoredFile, are_short};
+use pages::{PageMap, VolumeMark};
 use records::StoreFault;
 use station::Device;
 use std::alloc::Global;
@@ -78,7 +78,22 @@ fn read_volume<D: Device>(
     if !are_covered(pages, &seen) {
         return Err(StoreFault::Damaged);
     }
-    Ok(files)
+    if may_hold(pages.mark(), &files) {
+        Ok(files)
+    } else {
+        Err(StoreFault::Damaged)
+    }
+}
+
+/// Whether a volume with this mark may hold these files: with the first mark it has no long records.
+fn may_hold(mark: VolumeMark, files: &[StoredFile]) -> bool
+    ensures yes { result ≡ true → version_of mark ≡ 0 → AreShort (files_of files.now) }
+    ensures no { result ≡ false → (version_of mark ≡ 0 → AreShort (files_of files.now)) → ⊥ }
+{
+    match mark {
+        VolumeMark::First => are_short(files),
+        VolumeMark::Second => true,
+    }
 }
 
 /// The files that a volume of trees holds. It syncs first, and writes nothing.

@@ -1,5 +1,5 @@
 //! A row, read from its entry in the tree of rows.
-ghost use Rattle.std.specs.Prelude.{◌≡◌, ◌+◌, ◌*◌, true, length, Ok, None, IfOk, IfSome, IsOkUnless};
+ghost use Rattle.std.specs.Prelude.{◌≡◌, ◌+◌, ◌*◌, true, length, Err, IfOk, IfErr, IsOkUnless};
 ghost use Rattle.records.specs.Rows.{Row, pair_under};
 ghost use Rattle.records.specs.Files.{IsRow};
 ghost use Rattle.records.specs.Stores.{spec_of};
@@ -7,6 +7,7 @@ ghost use Rattle.records.specs.declared.key.KeyOfReference.TheVariants.{Prime};
 ghost use Rattle.file_bytes.specs.Rows.{prime_key_length, row_value};
 ghost use Rattle.file_bytes.specs.Stored.{row_of};
 ghost use Rattle.volume_format.specs.Trees.{key_under};
+ghost use Rattle.file_recovery.specs.Rows.{IsOwnFault};
 
 use crate::listing::is_same;
 use crate::row_bytes::row_value;
@@ -14,36 +15,36 @@ use file_bytes::{StoredRow, is_row, read_row, row_key};
 use records::{FileSpec, StoreFault};
 use std::alloc::Global;
 
-/// The row of an entry, exactly where it is one of such a file's rows.
+/// The row of an entry, whose record is in place. `Damaged` tells that it is none of such a file's rows.
 pub(crate) fn row_of_entry(
     alloc: Global,
     file: &FileSpec,
     next: u64,
     key: &[u8],
     value: &[u8],
-) -> Result<Option<StoredRow>, StoreFault>
+) -> Result<StoredRow, StoreFault>
     requires key { length key.now ≡ prime_key_length file.now.organization }
     requires value { length value.now
         ≡ file.now.record_length + 8 * length file.now.alternates.items }
-    ensures row { IfOk result
-        (λ found. IfSome found (λ row. IsRow (spec_of file.now) next (row_of row))) }
-    ensures some { IfOk result (λ found. IfSome found (λ row.
+    ensures is { IfOk result (λ row. IsRow (spec_of file.now) next (row_of row)) }
+    ensures row { IfOk result (λ row.
         (key_under (spec_of file.now) Prime (pair_under (spec_of file.now) Prime (row_of row))
-        ≡ key.now) × (row_value (row_of row) ≡ value.now))) }
-    ensures none { result ≡ Ok None → (row : Row) → IsRow (spec_of file.now) next row
+        ≡ key.now) × (row_value (row_of row) ≡ value.now)) }
+    ensures damaged { result ≡ Err StoreFault.Damaged → (row : Row)
+        → IsRow (spec_of file.now) next row
         → key_under (spec_of file.now) Prime (pair_under (spec_of file.now) Prime row) ≡ key.now
         → row_value row ≡ value.now → ⊥ }
-    ensures memory { IsOkUnless result StoreFault.Memory }
+    ensures cause { IfErr result IsOwnFault }
 {
     let row = read_row(alloc, file, key, value)?;
     if !is_row(file, next, &row) {
-        return Ok(None);
+        return Err(StoreFault::Damaged);
     }
     let is_own = is_entry_of(alloc, file, &row, key, value)?;
     if !is_own {
-        return Ok(None);
+        return Err(StoreFault::Damaged);
     }
-    Ok(Some(row))
+    Ok(row)
 }
 
 /// Whether the entry is the one of this row.

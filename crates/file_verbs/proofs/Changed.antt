@@ -205,6 +205,7 @@ gave s d {T} x y is_new name before after old device new device' result was turn
   moments = turns.moments;
   sound = λ is. absurd cc;
   room = λ is. absurd cc;
+  mark = λ is. absurd cc;
 }
 
 -- a refusal in place of another

@@ -1,12 +1,12 @@
 -- From what each verb's function says to what a verb does.
-use Rattle.std.proofs.Common.{◌≡◌, ℕ, Bool, true, false, List, Option, Some, None, refl, sym, ◌∙◌, ap, subst, inl, inr}
+use Rattle.std.proofs.Common.{◌≡◌, ⊎_elim, ℕ, Bool, true, false, List, Option, Some, None, refl, sym, ◌∙◌, ap, subst, inl, inr}
 use Rattle.std.specs.Prelude.{◌≢◌, ◌⊎◌, ◌&&◌, not, Result, Ok, Err, IfOk, OnOk, OnErr, is_some, unwrap_or}
 use Rattle.std.specs.Prelude.{if◌then◌else◌}
 use Rattle.std.specs.Option.{option_map}
 use Rattle.station.specs.Disk.{Disk, Sector, IsCrashImage}
 use Rattle.station.specs.declared.device.Device.{Ghosts as Devices}
 use Rattle.records.specs.declared.fault.StoreFault.{StoreFault}
-use Rattle.records.specs.declared.fault.StoreFault.TheVariants.{Full, Damaged}
+use Rattle.records.specs.declared.fault.StoreFault.TheVariants.{Full, Damaged, Old}
 use Rattle.records.specs.declared.keeps.Keeps.{Ghosts as Stores}
 use Rattle.records.specs.declared.select.Select.{Select}
 use Rattle.records.specs.declared.status.Status.{Status}
@@ -175,8 +175,9 @@ module _ {S : Type 0} (s : Stores S) {D : Type 0} (d : Devices D) (verb : Verb) 
         ChangesFiles s d result (makes_file verb) (name_of old) files f store device store' device') (stays files)
         (reads_turns s d result store device store' device' reads held (makes_file verb) (name_of old) files stands
         (sound files stands (linked opened)));
-    full = λ files stands linked is. absurd (reads.has_room is);
-    never_full = λ none. reads.has_room;
+    full = λ files stands linked is. ⊎_elim (λ full. absurd (reads.has_room full)) (λ old. absurd (reads.makes_none old)) is;
+    never_full = λ none. (reads.has_room, reads.makes_none);
+    mark = λ is. absurd (reads.makes_none is);
     idle = λ honest. if_any (λ status. has_changed verb status ≡ false → d.state device' ≡ d.state device) result
         (λ status no. reads.only.state honest);
     same = err_both result same area_same (λ link area_is. record {
@@ -202,9 +203,9 @@ module _ {S : Type 0} (s : Stores S) {D : Type 0} (d : Devices D) (verb : Verb) 
       → IsLinked (step_of verb files old area).files old.select old.link)
       → ((files : Files) → Represents s d store device files → IsLinked files old.select old.link → result ≡ Err Full
       → has_changed verb (step_of verb files old area).status ≡ true)
-      → can_change_files verb ≡ true
+      → can_change_files verb ≡ true → result ≢ Err Old
       → Does s d verb result store device store' device' old new area left
-  changes_do changes select opened step turns mode absent idle same area_same rests stays full can_change = record {
+  changes_do changes select opened step turns mode absent idle same area_same rests stays full can_change makes_none = record {
     changes = changes;
     select = select;
     step = λ files stands linked. step files stands (linked opened);
@@ -213,8 +214,10 @@ module _ {S : Type 0} (s : Stores S) {D : Type 0} (d : Devices D) (verb : Verb) 
         (same_absent (step_of verb files old area).files old.select old.link new.link absent mode
         (stays files (linked opened))));
     turns = λ files stands linked. turns files stands (linked opened);
-    full = λ files stands linked. full files stands (linked opened);
-    never_full = λ none is. let clash : true ≡ false = sym can_change ∙ none in cc;
+    full = λ files stands linked is.
+        ⊎_elim (full files stands (linked opened)) (λ old. absurd (makes_none old)) is;
+    never_full = λ none. let clash : true ≡ false = sym can_change ∙ none in (λ is. absurd cc, makes_none);
+    mark = λ is. absurd (makes_none is);
     idle = idle;
     same = err_both result same area_same (λ link area_is. record {
       connector_is = ap (λ (t : Select). connector_of (spec_of t.file) new.link) select
@@ -236,11 +239,11 @@ module _ {S : Type 0} (s : Stores S) {D : Type 0} (d : Devices D) (verb : Verb) 
       → (d.is_honest device
       → IfOk result (λ status. has_changed verb status ≡ false → d.state device' ≡ d.state device))
       → OnErr result (new.link ≡ old.link) → left ≡ area → OnErr result (Rests s d store device store' device')
-      → ((files : Files) → Represents s d store device files → result ≡ Err Full
+      → ((files : Files) → Represents s d store device files → (result ≡ Err Full) ⊎ (result ≡ Err Old)
       → has_changed verb (step_of verb files old area).status ≡ true)
-      → (can_change_files verb ≡ false → result ≢ Err Full)
+      → (can_change_files verb ≡ false → (result ≢ Err Full) × (result ≢ Err Old)) → makes_file verb ≡ true
       → Does s d verb result store device store' device' old new area left
-  opening_does changes select shut step linked turns idle same area_same rests full never_full = record {
+  opening_does changes select shut step linked turns idle same area_same rests full never_full makes = record {
     changes = changes;
     select = select;
     step = λ files stands _. step files stands;
@@ -249,6 +252,7 @@ module _ {S : Type 0} (s : Stores S) {D : Type 0} (d : Devices D) (verb : Verb) 
     turns = λ files stands _. turns files stands;
     full = λ files stands _. full files stands;
     never_full = never_full;
+    mark = λ is. makes;
     idle = idle;
     same = err_both result same same (λ link _. record {
       connector_is = ap (λ (t : Select). connector_of (spec_of t.file) new.link) select

@@ -55,7 +55,13 @@ pub looked : {S : Type 0} (s : Stores S) {D : Type 0} (d : Devices D) {T U : Typ
     → OnlyReadsFiles s d {T = U} (Ok told) old device new device'
 looked s d {T} {U} result told old device new device' reads =
     carries s d result (let r : Result U StoreFault = Ok told in r) old device new device'
-    (record { device = λ is. absurd cc; spent = λ is. absurd cc; room = λ is. absurd cc; layout = λ is. absurd cc })
+    (record {
+      device = λ is. absurd cc;
+      spent = λ is. absurd cc;
+      room = λ is. absurd cc;
+      layout = λ is. absurd cc;
+      old = λ is. absurd cc;
+    })
     reads
 
 module _ (s : Select) (files : Files) (c : Connector) (a : Area) where

@@ -10,6 +10,7 @@ use Rattle.station.specs.History.{Through}
 use Rattle.station.specs.Blocks.{CrashLeaves}
 use Rattle.station.specs.declared.device.Device.{Ghosts as Devices}
 use Rattle.records.specs.declared.fault.StoreFault.{StoreFault}
+use Rattle.records.specs.declared.fault.StoreFault.TheVariants.{Full, Old}
 use Rattle.records.specs.declared.keeps.Keeps.{Ghosts as Stores}
 use Rattle.records.specs.declared.select.Select.{Select}
 use Rattle.records.specs.declared.status.Status.{Status}
@@ -203,8 +204,8 @@ module _ {S S' : Type 0} (s : Stores S) {s' : Stores S'} {D : Type 0} (d : Devic
       → (Through (d.history device) (d.history device')
       (d.state device') (CrashLeaves (d.state device).events (Either s.holds before after)) → Through (d.history device)
       (d.history device') (d.state device') (CrashLeaves (d.state device).events (Either s'.holds before after)))
-      → (s.lacks_room (d.state device).disk.present is_new name before after
-      → s'.lacks_room (d.state device).disk.present is_new name before after)
+      → ((fault : StoreFault) → s.lacks fault (d.state device).disk.present is_new name before after
+      → s'.lacks fault (d.state device).disk.present is_new name before after)
       → ChangesFiles s d result is_new name before after old device new device'
       → ChangesFiles s' d result is_new name' before after' old' device new' device'
   turns_over is_new name name' before after after' named files lift moments lacks turns =
@@ -214,7 +215,8 @@ module _ {S S' : Type 0} (s : Stores S) {s' : Stores S'} {D : Type 0} (d : Devic
         there = ok_both result (λ up there. record { honest = there.honest; there = up there.there }) lift turns.there;
         moments = moments turns.moments;
         sound = turns.sound;
-        room = λ full. lacks (turns.room full);
+        room = λ full. lacks Full (turns.room full);
+        mark = λ is. lacks Old (turns.mark is);
       }))
 
   pub rests_over : s'.is_spent new' ≡ s.is_spent new
@@ -240,6 +242,7 @@ still_turns {S} {s} {D} d {T} told is_new name files after {old} device {new} sa
       };
       sound = λ is. absurd cc;
       room = λ is. absurd cc;
+      mark = λ is. absurd cc;
     })
 
 pub known_step : {A B C : Type 0} → (A → C) → (B → ⊥) → A ⊎ B → C

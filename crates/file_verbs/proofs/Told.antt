@@ -48,7 +48,7 @@ named_at n Sequential keys (Alternate i) count bytes number h is le = no_alterna
 named_at n Relative keys (Alternate i) count bytes number h is le = no_alternates keys i h is
 
 pub keys_of : (s : Spec) → is_spec s ≡ true → are_keys s.record_length s.organization s.alternates ≡ true
-keys_of s h = (both (nat_le 1 s.record_length && nat_le s.record_length 1000) _ h).1
+keys_of s h = (both (nat_le 1 s.record_length && nat_le s.record_length 16000) _ h).1
 
 -- what the area names is the bytes from the key's place on
 pub named_is : (s : Spec) (key : KeyOfReference) (count : ℕ) (bytes : List ℕ) (number : ℕ) → is_spec s ≡ true

@@ -1,8 +1,8 @@
 -- What a verb does on its file, where no test of the connectors bars it.
-use Rattle.std.specs.Prelude.{◌≡◌, ◌≢◌, true, false, Result, Err, IfOk, OnOk, OnErr}
+use Rattle.std.specs.Prelude.{◌≡◌, ◌≢◌, ◌⊎◌, true, false, Result, Err, IfOk, OnOk, OnErr}
 use Rattle.station.specs.declared.device.Device.{Ghosts as Devices}
 use Rattle.records.specs.declared.fault.StoreFault.{StoreFault}
-use Rattle.records.specs.declared.fault.StoreFault.TheVariants.{Full}
+use Rattle.records.specs.declared.fault.StoreFault.TheVariants.{Full, Old}
 use Rattle.records.specs.declared.keeps.Keeps.{Ghosts as Stores}
 use Rattle.records.specs.declared.status.Status.{Status}
 use Rattle.records.specs.declared.verb.Verb.{Verb}
@@ -31,8 +31,9 @@ module _ {S : Type 0} (s : Stores S) {D : Type 0} (d : Devices D) where
     pub step : (files : Files) → Represents s d store device files → OpenLinked files old → IfOk result (λ status. Ends (step_of verb files old area) status (connector new) left)
     pub linked : (files : Files) → Represents s d store device files → OpenLinked files old → OnOk result (OpenLinked (step_of verb files old area).files new)
     pub turns : (files : Files) → Represents s d store device files → OpenLinked files old → ChangesFiles s d result (makes_file verb) (name_of old) files (step_of verb files old area).files store device store' device'
-    pub full : (files : Files) → Represents s d store device files → OpenLinked files old → result ≡ Err Full → has_changed verb (step_of verb files old area).status ≡ true
-    pub never_full : can_change_files verb ≡ false → result ≢ Err Full
+    pub full : (files : Files) → Represents s d store device files → OpenLinked files old → (result ≡ Err Full) ⊎ (result ≡ Err Old) → has_changed verb (step_of verb files old area).status ≡ true
+    pub never_full : can_change_files verb ≡ false → (result ≢ Err Full) × (result ≢ Err Old)
+    pub mark : result ≡ Err Old → makes_file verb ≡ true
     pub idle : d.is_honest device → IfOk result (λ status. has_changed verb status ≡ false → d.state device' ≡ d.state device)
     pub same : OnErr result (IsSame old new area left)
     pub rests : OnErr result (Rests s d store device store' device')

@@ -30,8 +30,8 @@ impl<T: Store> Keeps for Connectors<T> {
 
     ghost is_spent = { λ all. T.is_spent all.store };
 
-    ghost lacks_room = { λ image is_new name before after.
-        T.lacks_room image is_new name before after };
+    ghost lacks = { λ fault image is_new name before after.
+        T.lacks fault image is_new name before after };
 }
 
 impl<T: Store> FileVerbs for Connectors<T> {

@@ -57,11 +57,13 @@ pub(crate) fn open_file<T: Store, D: Device>(
         (area bytes number) (Verb.Open mode)).files select.now link.new) }
     ensures link { IsLink select.now link.new }
     ensures full { (files : Files) → Represents T.Keeps D.Device store.old device.old files
-        → (bytes : List ℕ) (number : ℕ) → result ≡ Err StoreFault.Full →
+        → (bytes : List ℕ) (number : ℕ)
+        → (result ≡ Err StoreFault.Full) ⊎ (result ≡ Err StoreFault.Old) →
         has_changed (Verb.Open mode)
         (step (entry_of select.now) files (connector_of (spec_of select.now.file) link.old)
         (area bytes number) (Verb.Open mode)).status ≡ true }
-    ensures never_full { can_change_files (Verb.Open mode) ≡ false → result ≢ Err StoreFault.Full }
+    ensures never_full { can_change_files (Verb.Open mode) ≡ false
+        → (result ≢ Err StoreFault.Full) × (result ≢ Err StoreFault.Old) }
     ensures idle { D.is_honest device.old → IfOk result (λ status.
         has_changed (Verb.Open mode) status ≡ false → D.state device.new ≡ D.state device.old) }
     ensures same { OnErr result (link.new ≡ link.old) }

@@ -1,5 +1,5 @@
 //! REWRITE and DELETE.
-ghost use Rattle.std.specs.Prelude.{◌≡◌, ◌≤◌, true, false, Err, length, IfOk, OnOk, OnErr, if◌then◌else◌};
+ghost use Rattle.std.specs.Prelude.{◌≡◌, ◌≢◌, ◌≤◌, true, false, Err, length, IfOk, OnOk, OnErr, if◌then◌else◌};
 ghost use Rattle.records.specs.Rows.{part, place_of};
 ghost use Rattle.records.specs.Files.{Files};
 ghost use Rattle.records.specs.Calls.{Represents, Changes, ChangesFiles, Rests};
@@ -52,6 +52,7 @@ pub(crate) fn rewrite_row<T: Store, D: Device>(
         has_changed Verb.Rewrite
         (step (entry_of select.now) files (connector_of (spec_of select.now.file) link.old)
         (area bytes.now number) Verb.Rewrite).status ≡ true }
+    ensures makes_none { result ≢ Err StoreFault.Old }
     ensures idle { D.is_honest device.old → IfOk result (λ status.
         has_changed Verb.Rewrite status ≡ false → D.state device.new ≡ D.state device.old) }
     ensures same { OnErr result (link.new ≡ link.old) }
@@ -102,6 +103,7 @@ pub(crate) fn delete_row<T: Store, D: Device>(
         → IsLinked files select.now link.old → result ≡ Err StoreFault.Full →
         has_changed Verb.Delete (step (entry_of select.now) files (connector_of
         (spec_of select.now.file) link.old) (area bytes.now number) Verb.Delete).status ≡ true }
+    ensures makes_none { result ≢ Err StoreFault.Old }
     ensures idle { D.is_honest device.old → IfOk result (λ status.
         has_changed Verb.Delete status ≡ false → D.state device.new ≡ D.state device.old) }
     ensures same { OnErr result (link.new ≡ link.old) }

@@ -1,5 +1,5 @@
 //! WRITE.
-ghost use Rattle.std.specs.Prelude.{◌≡◌, ◌≤◌, true, false, Err, length, if◌then◌else◌, IfOk, OnErr};
+ghost use Rattle.std.specs.Prelude.{◌≡◌, ◌≢◌, ◌≤◌, true, false, Err, length, if◌then◌else◌, IfOk, OnErr};
 ghost use Rattle.records.specs.Rows.{Pair};
 ghost use Rattle.records.specs.Files.{Files};
 ghost use Rattle.records.specs.Calls.{Represents, Changes, ChangesFiles, Rests};
@@ -177,6 +177,7 @@ pub(crate) fn write_row<T: Store, D: Device>(
         has_changed Verb.Write
         (step (entry_of select.now) files (connector_of (spec_of select.now.file) link.old)
         (area bytes.now number.old) Verb.Write).status ≡ true }
+    ensures makes_none { result ≢ Err StoreFault.Old }
     ensures idle { D.is_honest device.old → IfOk result (λ status.
         has_changed Verb.Write status ≡ false → D.state device.new ≡ D.state device.old) }
     ensures same { OnErr result (link.new ≡ link.old) }

@@ -74,6 +74,7 @@ module _ (base : List Sector) (sectors : ℕ) (bytes : Sector) (all : length bas
     counted = spells.counted;
     sound = no_files;
     early = tt;
+    short = tt;
   }
 
   pub empty_images : (s : State) → s.disk ≡ idle_disk image → EachImage (λ i. Holds i []) s

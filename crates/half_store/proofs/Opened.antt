@@ -14,11 +14,11 @@ use Rattle.roots.specs.Pair.{EachRoot}
 use Rattle.roots.specs.Root.{IsWithinVolume}
 use Rattle.roots.specs.Reading.{roots_in, fault_of}
 use Rattle.records.specs.declared.fault.StoreFault.{StoreFault}
-use Rattle.records.specs.declared.fault.StoreFault.TheVariants.{Device, Full, Damaged, Memory, Spent, Layout}
-use Rattle.records.specs.Files.{Files, AreFiles}
+use Rattle.records.specs.declared.fault.StoreFault.TheVariants.{Device, Full, Damaged, Memory, Spent, Layout, Old}
+use Rattle.records.specs.Files.{Files}
 use Rattle.half_store.specs.Spelled.{files_bytes}
 use Rattle.file_bytes.specs.Stored.{files_of}
-use Rattle.half_store.specs.Half.{known_families, named_length, named_bytes, IsHalfRoot, IsForeign, AreEarly, HoldsAt}
+use Rattle.half_store.specs.Half.{known_families, named_length, named_bytes, IsHalfRoot, IsForeign, AreHalfFiles, HoldsAt}
 use Rattle.half_store.specs.Half.{Holds, Rests}
 use Rattle.half_store.specs.Opened.{HoldsNone, IsOpenRefusal, FailsWith, of_roots, IsReadCause}
 use Rattle.half_store.specs.Stands.{Represents}
@@ -36,13 +36,13 @@ module _ (image : List Sector) where
 
   pub no_spelled : (roots : Roots) (bytes : List ℕ) → roots_in known_families image ≡ Ok roots
       → bytes ≡ named_bytes image roots.newest
-      → ((files : Files) → bytes ≡ files_bytes files → AreFiles files → AreEarly roots.newest.generation files → ⊥)
+      → ((files : Files) → bytes ≡ files_bytes files → AreHalfFiles roots.newest.generation files → ⊥)
       → HoldsNone image
   no_spelled roots bytes is named never = λ files holds.
       let same = roots_same roots files is holds in
-      never files (named ∙ ap (λ (r : Roots). named_bytes image r.newest) (sym same) ∙ holds.2.bytes) holds.2.sound
-      (subst (λ (n : ℕ). AreEarly n files) (sym holds.2.generation ∙ ap (λ (r : Roots). r.newest.generation) same)
-      holds.2.early)
+      never files (named ∙ ap (λ (r : Roots). named_bytes image r.newest) (sym same) ∙ holds.2.bytes)
+      (subst (λ (n : ℕ). AreHalfFiles n files) (sym holds.2.generation ∙ ap (λ (r : Roots). r.newest.generation) same)
+      (record { sound = holds.2.sound; early = holds.2.early; short = holds.2.short }))
 
   no_roots : (f : RootsFault) → roots_in known_families image ≡ Err f → HoldsNone image
   no_roots f is = λ files holds. let e = sym holds.2.reads ∙ is in cc
@@ -66,7 +66,7 @@ module _ (image : List Sector) where
 
   pub holds_now : (roots : Roots) (bytes : List ℕ) (files : Files) → roots_in known_families image ≡ Ok roots
       → EachRoot IsHalfRoot roots → bytes ≡ named_bytes image roots.newest → length bytes ≡ named_length roots.newest
-      → (bytes ≡ files_bytes files) × AreFiles files × AreEarly roots.newest.generation files
+      → (bytes ≡ files_bytes files) × AreHalfFiles roots.newest.generation files
       → HoldsAt roots.newest.sectors roots.newest.generation image files
   holds_now roots bytes files is halves named long spells = record {
     roots = roots;
@@ -76,8 +76,9 @@ module _ (image : List Sector) where
     sectors = refl;
     bytes = sym named ∙ spells.0;
     counted = sym long ∙ ap length spells.0;
-    sound = spells.1;
-    early = spells.2;
+    sound = spells.1.sound;
+    early = spells.1.early;
+    short = spells.1.short;
   }
 
   pub opened_cause : {T : Type 0} (result : Result T StoreFault) (files : Files)
@@ -88,6 +89,7 @@ module _ (image : List Sector) where
   opened_cause (Err Damaged) files refused holds = absurd (refused files holds)
   opened_cause (Err Memory) files refused holds = inr refl
   opened_cause (Err Spent) files refused holds = absurd refused
+  opened_cause (Err Old) files refused holds = absurd refused
   opened_cause (Err Layout) files refused holds = absurd (let e = sym holds.2.reads ∙ refused in cc)
 
 pub stands_now : (store : HalfStore) (old new : State)

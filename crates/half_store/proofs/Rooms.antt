@@ -1,5 +1,5 @@
 -- An image that lacks room.
-use Rattle.std.proofs.Common.{◌≡◌, ◌⊎◌, ◌<◌, ℕ, length, sym, subst}
+use Rattle.std.proofs.Common.{◌⊎◌, ◌<◌, ℕ, length, sym, subst}
 use Rattle.station.specs.Disk.{Disk}
 use Rattle.records.specs.Files.{Files}
 use Rattle.half_store.specs.Spelled.{files_bytes}

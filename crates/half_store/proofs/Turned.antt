@@ -5,12 +5,13 @@ use Rattle.std.specs.List.{list_any}
 use Rattle.std.proofs.lemmas.Bool.{cond_both}
 use Rattle.records.specs.declared.answer.Outcome.TheVariants.{Taken}
 use Rattle.records.specs.declared.fault.StoreFault.{StoreFault}
-use Rattle.records.specs.declared.fault.StoreFault.TheVariants.{Damaged}
+use Rattle.records.specs.declared.fault.StoreFault.TheVariants.{Damaged, Old}
 use Rattle.records.specs.Rows.{Row, Pair, named_pair}
 use Rattle.records.specs.Files.{File}
 use Rattle.records.specs.Changes.{FileChange, without_change, done_outcome, has_prime, new_row, is_taken, is_duplicate}
 use Rattle.records.specs.Changes.{changes, changed_row, with_row, row_at, in_place, without_pair, insertion}
 use Rattle.records.specs.Changes.{replacement, replaced_row, removal, removed_row}
+use Rattle.half_store.specs.Changing.{IsMemoryCause}
 use Rattle.half_store.specs.Write.{IsCause}
 
 -- a change gives one arrival at most
@@ -65,3 +66,14 @@ pub cause_sound : {T : Type 0} (result : Result T StoreFault) → IfErr result I
 cause_sound (Ok x) cause is = absurd {0} cc
 cause_sound (Err e) cause is =
     ⊎_elim (λ device. absurd {0} cc) (λ rest. ⊎_elim (λ full. absurd {0} cc) (λ memory. absurd {0} cc) rest) cause
+
+-- nor for its mark, and no change in memory is
+pub cause_takes : {T : Type 0} (result : Result T StoreFault) → IfErr result IsCause → result ≢ Err Old
+cause_takes (Ok x) cause is = absurd {0} cc
+cause_takes (Err e) cause is =
+    ⊎_elim (λ device. absurd {0} cc) (λ rest. ⊎_elim (λ full. absurd {0} cc) (λ memory. absurd {0} cc) rest) cause
+
+pub memory_takes : {T : Type 0} (result : Result T StoreFault) → IfErr result IsMemoryCause → result ≢ Err Old
+memory_takes (Ok x) cause is = absurd {0} cc
+memory_takes (Err e) cause is =
+    ⊎_elim (λ full. absurd {0} cc) (λ rest. ⊎_elim (λ memory. absurd {0} cc) (λ damaged. absurd {0} cc) rest) cause

@@ -18,12 +18,12 @@ use Rattle.roots.specs.declared.root.Mark.{Mark}
 use Rattle.roots.specs.declared.root.Root.{Root}
 use Rattle.roots.proofs.Next.{newest_within, next_is_newest}
 use Rattle.roots.proofs.Within.{roots_stand}
-use Rattle.records.specs.Files.{Files, AreFiles}
+use Rattle.records.specs.Files.{Files}
 use Rattle.records.specs.Stores.{Either}
 use Rattle.half_store.specs.Spelled.{files_bytes}
 use Rattle.half_store.specs.Blocks.{block_at, blocks_to}
 use Rattle.half_store.specs.Half.{known_families, half, start, count, bytes_of_sectors, named_length, named_bytes}
-use Rattle.half_store.specs.Half.{AreEarly, HoldsAt, Holds, Rests}
+use Rattle.half_store.specs.Half.{AreHalfFiles, HoldsAt, Holds, Rests}
 use Rattle.half_store.specs.Write.{SpellsRoot, IsDraft}
 use Rattle.half_store.proofs.Staged.{there, are_at, joined_parts, joined_same, enough, few, behind, within, apart}
 
@@ -65,7 +65,7 @@ roots_same one two size first second =
 module _ (n g : ℕ) (base : List Sector) (before after : Files) (long : List ℕ) (sector : Sector)
     (holds : HoldsAt n g base before) (least : 1024 ≤ n) (size : n ≤ length base)
     (fits : length (files_bytes after) ≤ 4096 * half n) (whole : take (length (files_bytes after)) long
-    ≡ files_bytes after) (sound : AreFiles after) (early : AreEarly (g + 1) after)
+    ≡ files_bytes after) (good : AreHalfFiles (g + 1) after)
     (spells : SpellsRoot n (g + 1) (length (files_bytes after)) sector) where
   abbrev bytes : ℕ
   bytes = length (files_bytes after)
@@ -123,6 +123,7 @@ module _ (n g : ℕ) (base : List Sector) (before after : Files) (long : List �
     counted = holds.counted;
     sound = holds.sound;
     early = holds.early;
+    short = holds.short;
   }
 
   abbrev staged : List Sector
@@ -181,8 +182,9 @@ module _ (n g : ℕ) (base : List Sector) (before after : Files) (long : List �
     bytes = named ∙ ap (take bytes) (joined_parts (set staged place sector) from long (count bytes) new_each)
         ∙ take-take bytes (4096 * count bytes) long (enough bytes) ∙ whole;
     counted = spells.counted;
-    sound = sound;
-    early = early;
+    sound = good.sound;
+    early = good.early;
+    short = good.short;
   }
 
   pub amid_files : (seen : List Event) (s : State) → CrashLeaves seen (OldOrNew base blocks place sector) s
@@ -199,8 +201,8 @@ module _ (n g : ℕ) (base : List Sector) (before after : Files) (long : List �
 
 module _ (n g : ℕ) (base : List Sector) (before after : Files) (bytes : List ℕ) (planned : List Block) (sector : Sector)
     (draft : IsDraft n g bytes planned sector) (holds : HoldsAt n g base before)
-    (least : 1024 ≤ n) (size : n ≤ length base) (is : bytes ≡ files_bytes after) (sound : AreFiles after)
-    (early : AreEarly (g + 1) after) where
+    (least : 1024 ≤ n) (size : n ≤ length base) (is : bytes ≡ files_bytes after)
+    (good : AreHalfFiles (g + 1) after) where
   counts : length bytes ≡ length (files_bytes after)
   counts = ap length is
 
@@ -216,13 +218,13 @@ module _ (n g : ℕ) (base : List Sector) (before after : Files) (bytes : List �
   pub amid_drafted : (seen : List Event) (s : State) → CrashLeaves seen (OldOrNew base planned ((g + 1) % 2) sector) s
       → CrashLeaves seen (Either Holds before after) s
   amid_drafted seen s amid = amid_files n g base before after draft.long sector holds least size
-      (omega (arith, counts, draft.fits)) whole_is sound early root_is seen s
+      (omega (arith, counts, draft.fits)) whole_is good root_is seen s
       (subst (λ (b : List Block). CrashLeaves seen (OldOrNew base b ((g + 1) % 2) sector) s) blocks_are amid)
 
   pub rests_drafted : (d : Disk) → d ≡ idle_disk (set (with_all base planned) ((g + 1) % 2) sector)
       → Rests n (g + 1) d after
   rests_drafted d same = rests_now n g base before after draft.long sector holds least size
-      (omega (arith, counts, draft.fits)) whole_is sound early root_is d
+      (omega (arith, counts, draft.fits)) whole_is good root_is d
       (same ∙ ap (λ (b : List Block). idle_disk (set (with_all base b) ((g + 1) % 2) sector)) blocks_are)
 
 -- the blocks are within the volume

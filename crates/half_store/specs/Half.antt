@@ -10,7 +10,7 @@ use Rattle.roots.specs.declared.pair.RootsFault.TheVariants.{ForeignMark}
 use Rattle.roots.specs.Root.{Family}
 use Rattle.roots.specs.Pair.{EachRoot}
 use Rattle.roots.specs.Reading.{roots_in}
-use Rattle.records.specs.Files.{Files, NamedFile, AreFiles}
+use Rattle.records.specs.Files.{Files, NamedFile, AreFiles, AreShort}
 use Rattle.half_store.specs.Spelled.{files_bytes}
 
 -- the marks of a volume of halves, and those of the other format
@@ -51,6 +51,12 @@ pub record IsHalfRoot (root : Root) : Type 0 where
 abbrev pub AreEarly : ℕ → Files → Type 0
 AreEarly g files = AllByRecursion (λ (one : NamedFile). one.file.next_arrival ≤ g) files
 
+-- a half of generation g may hold these files
+pub record AreHalfFiles (g : ℕ) (files : Files) : Type 0 where
+  pub sound : AreFiles files
+  pub early : AreEarly g files
+  pub short : AreShort files
+
 -- the volume of n sectors in an image is of generation g and holds these files
 pub record HoldsAt (n g : ℕ) (image : List Sector) (files : Files) : Type 0 where
   pub roots : Roots
@@ -62,6 +68,7 @@ pub record HoldsAt (n g : ℕ) (image : List Sector) (files : Files) : Type 0 wh
   pub counted : named_length roots.newest ≡ length (files_bytes files)
   pub sound : AreFiles files
   pub early : AreEarly g files
+  pub short : AreShort files
 
 abbrev pub Holds : List Sector → Files → Type 0
 Holds image files = (n : ℕ) × (g : ℕ) × HoldsAt n g image files

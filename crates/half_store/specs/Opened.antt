@@ -6,7 +6,7 @@ use Rattle.roots.specs.declared.error.RootsError.TheVariants as roots
 use Rattle.roots.specs.declared.pair.RootsFault.{RootsFault}
 use Rattle.roots.specs.declared.pair.RootsFault.TheVariants as fault
 use Rattle.records.specs.declared.fault.StoreFault.{StoreFault}
-use Rattle.records.specs.declared.fault.StoreFault.TheVariants.{Device, Full, Damaged, Memory, Spent, Layout}
+use Rattle.records.specs.declared.fault.StoreFault.TheVariants.{Device, Full, Damaged, Memory, Spent, Layout, Old}
 use Rattle.records.specs.Files.{Files}
 use Rattle.half_store.specs.Half.{Holds, IsForeign}
 
@@ -14,7 +14,7 @@ use Rattle.half_store.specs.Half.{Holds, IsForeign}
 abbrev pub HoldsNone : List Sector → Type 0
 HoldsNone image = (files : Files) → Holds image files → ⊥
 
--- What a refusal tells of the image: `Device` and `Memory` tell nothing of it, and `Full` and `Spent` don't come.
+-- What a refusal tells of the image: `Device` and `Memory` tell nothing of it, and `Full`, `Spent` and `Old` don't come.
 abbrev pub IsOpenRefusal : List Sector → StoreFault → Type 0
 IsOpenRefusal image Device = Unit {0}
 IsOpenRefusal image Full = ⊥
@@ -22,6 +22,7 @@ IsOpenRefusal image Damaged = HoldsNone image
 IsOpenRefusal image Memory = Unit {0}
 IsOpenRefusal image Spent = ⊥
 IsOpenRefusal image Layout = IsForeign image
+IsOpenRefusal image Old = ⊥
 
 abbrev pub of_fault : RootsFault → StoreFault
 of_fault fault.Damaged = Damaged

@@ -6,17 +6,28 @@ ghost use Rattle.records.specs.Rows.{bytes_cmp, pair_cmp, prime_pair};
 ghost use Rattle.records.specs.Files.{IsRow, IsFile, AreFiles};
 ghost use Rattle.records.specs.Laws.{RowsAscend};
 ghost use Rattle.records.specs.Stores.{spec_of};
-ghost use Rattle.half_store.specs.Half.{AreEarly};
+ghost use Rattle.half_store.specs.Half.{AreEarly, AreHalfFiles};
 ghost use Rattle.file_bytes.specs.Stored.{row_of, file_of, files_of};
 ghost use Rattle.file_bytes.specs.declared.stored.StoredRow.{StoredRow};
 ghost use Rattle.file_bytes.specs.declared.stored.StoredFile.{StoredFile};
 
 use crate::rows::prime_cmp;
-use file_bytes::{StoredFile, StoredRow, is_row};
+use file_bytes::{StoredFile, StoredRow, are_short, is_row};
 use records::{FileSpec, Organization};
 
+/// Whether a half of this generation may hold these files.
+pub(crate) fn are_half_files(files: &[StoredFile], generation: u64) -> bool
+    ensures yes { result ≡ true → AreHalfFiles generation (files_of files.now) }
+    ensures no { result ≡ false → AreHalfFiles generation (files_of files.now) → ⊥ }
+{
+    if !are_short(files) {
+        return false;
+    }
+    are_files(files, generation)
+}
+
 /// Whether files are those of a volume of this generation.
-pub(crate) fn are_files(files: &[StoredFile], generation: u64) -> bool
+fn are_files(files: &[StoredFile], generation: u64) -> bool
     ensures yes { result ≡ true
         → AreFiles (files_of files.now) × AreEarly generation (files_of files.now) }
     ensures no { result ≡ false → AreFiles (files_of files.now)

@@ -3,11 +3,11 @@ ghost use Rattle.std.specs.Prelude.{◌≡◌, ◌≤◌, ◌<◌, ◌+◌, true
 ghost use Rattle.station.specs.History.{Through};
 ghost use Rattle.station.specs.Blocks.{CrashLeaves};
 ghost use Rattle.station.specs.Calls.{OnlyWrites};
-ghost use Rattle.records.specs.Files.{Files, AreFiles};
+ghost use Rattle.records.specs.Files.{Files};
 ghost use Rattle.records.specs.Stores.{is_change, Either};
 ghost use Rattle.half_store.specs.Spelled.{files_bytes};
 ghost use Rattle.file_bytes.specs.Stored.{files_of};
-ghost use Rattle.half_store.specs.Half.{Holds, Rests, AreEarly};
+ghost use Rattle.half_store.specs.Half.{Holds, Rests, AreHalfFiles};
 ghost use Rattle.half_store.specs.Write.{IsFull, IsCause};
 ghost use Rattle.half_store.specs.Settled.{CommitsFiles};
 
@@ -30,14 +30,12 @@ impl HalfStore {
             → D.state device.new ≡ D.state device.old }
         ensures moments { D.is_honest device.old → (before : Files)
             → Rests self.old.sectors self.old.generation (D.state device.old).disk before
-            → AreFiles (files_of self.old.files.items)
-            → AreEarly (self.old.generation + 1) (files_of self.old.files.items) →
+            → AreHalfFiles (self.old.generation + 1) (files_of self.old.files.items) →
             Through (D.history device.old) (D.history device.new) (D.state device.new) (CrashLeaves
             (D.state device.old).events (Either Holds before (files_of self.old.files.items))) }
         ensures rests { D.is_honest device.old → (before : Files)
             → Rests self.old.sectors self.old.generation (D.state device.old).disk before
-            → AreFiles (files_of self.old.files.items)
-            → AreEarly (self.old.generation + 1) (files_of self.old.files.items) →
+            → AreHalfFiles (self.old.generation + 1) (files_of self.old.files.items) →
             OnOk result (Rests self.new.sectors self.new.generation (D.state device.new).disk
             (files_of self.old.files.items)) }
     {
@@ -74,7 +72,7 @@ impl HalfStore {
         ensures settles { (before after : Files) → D.is_honest device.old
             → Rests self.old.sectors self.old.generation (D.state device.old).disk before
             → files_of self.old.files.items ≡ after
-            → AreFiles after → AreEarly (self.old.generation + 1) after
+            → AreHalfFiles (self.old.generation + 1) after
             → (is_change outcome ≡ false → after ≡ before)
             → CommitsFiles D.Device result self.old.sectors self.old.generation before after
             device.old self.new device.new }

@@ -3,10 +3,10 @@ ghost use Rattle.std.specs.Prelude.{◌≡◌, ◌≢◌, ◌≤◌, ◌<◌, �
 ghost use Rattle.station.specs.History.{Through};
 ghost use Rattle.station.specs.Blocks.{CrashLeaves};
 ghost use Rattle.station.specs.Calls.{OnlyWrites};
-ghost use Rattle.records.specs.Files.{Files, AreFiles};
+ghost use Rattle.records.specs.Files.{Files};
 ghost use Rattle.records.specs.Stores.{Either};
 ghost use Rattle.half_store.specs.Spelled.{files_bytes};
-ghost use Rattle.half_store.specs.Half.{half, start, count, Holds, Rests, AreEarly};
+ghost use Rattle.half_store.specs.Half.{half, start, count, Holds, Rests, AreHalfFiles};
 ghost use Rattle.half_store.specs.Write.{IsDraft, IsFull, IsCause};
 
 use crate::blocks::blocks_of;
@@ -105,12 +105,12 @@ pub(crate) fn write_half<D: Device>(
     // At each moment a crash leaves the files before, or those that the bytes spell.
     ensures moments { D.is_honest device.old → (before after : Files)
         → Rests sectors generation (D.state device.old).disk before
-        → bytes.old.items ≡ files_bytes after → AreFiles after → AreEarly (generation + 1) after →
+        → bytes.old.items ≡ files_bytes after → AreHalfFiles (generation + 1) after →
         Through (D.history device.old) (D.history device.new) (D.state device.new)
         (CrashLeaves (D.state device.old).events (Either Holds before after)) }
     ensures rests { D.is_honest device.old → (before after : Files)
         → Rests sectors generation (D.state device.old).disk before
-        → bytes.old.items ≡ files_bytes after → AreFiles after → AreEarly (generation + 1) after
+        → bytes.old.items ≡ files_bytes after → AreHalfFiles (generation + 1) after
         → OnOk result (Rests sectors (generation + 1) (D.state device.new).disk after) }
     ensures generation { OnOk result (generation + 1 < 2 ^ 63) }
 {

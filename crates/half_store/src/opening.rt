@@ -9,15 +9,15 @@ ghost use Rattle.station.specs.Calls.{OnlyReads, OnlyWrites};
 ghost use Rattle.roots.specs.Pair.{EachRoot};
 ghost use Rattle.roots.specs.Root.{IsWithinVolume};
 ghost use Rattle.roots.specs.Reading.{roots_in};
-ghost use Rattle.records.specs.Files.{Files, AreFiles};
+ghost use Rattle.records.specs.Files.{Files};
 ghost use Rattle.records.specs.Rows.{same_bytes};
 ghost use Rattle.half_store.specs.Spelled.{files_bytes};
 ghost use Rattle.file_bytes.specs.Stored.{files_of};
-ghost use Rattle.half_store.specs.Half.{known_families, half, bytes_of_sectors, named_length, named_bytes, IsHalfRoot, AreEarly, HoldsAt, Holds, IsForeign};
+ghost use Rattle.half_store.specs.Half.{known_families, half, bytes_of_sectors, named_length, named_bytes, IsHalfRoot, AreHalfFiles, HoldsAt, Holds, IsForeign};
 ghost use Rattle.half_store.specs.Opened.{HoldsNone, IsOpenRefusal, FailsWith, of_roots, IsReadCause};
 ghost use Rattle.half_store.specs.Stands.{Represents};
 
-use crate::checking::are_files;
+use crate::checking::are_half_files;
 use crate::halves::{count_of, half_of, start_of};
 use crate::reading::read_files;
 use crate::root::{FOREIGN_FAMILY, MARK};
@@ -187,15 +187,15 @@ fn spelled_files(
     requires { generation < 2 ^ 63 }
     ensures some { IfOk result
         (λ found. IfSome found (λ files. (bytes.now ≡ files_bytes (files_of files.items))
-        × AreFiles (files_of files.items) × AreEarly generation (files_of files.items))) }
+        × AreHalfFiles generation (files_of files.items))) }
     ensures none { result ≡ Ok None → (files : Files) → bytes.now ≡ files_bytes files
-        → AreFiles files → AreEarly generation files → ⊥ }
+        → AreHalfFiles generation files → ⊥ }
     ensures memory { IsOkUnless result StoreFault.Memory }
 {
     let Some(files) = read_files(alloc, bytes)? else {
         return Ok(None);
     };
-    if !are_files(&files, generation) {
+    if !are_half_files(&files, generation) {
         return Ok(None);
     }
     let again = spell(alloc, &files)?;

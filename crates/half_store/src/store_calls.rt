@@ -1,7 +1,7 @@
 //! What the store keeps, and its calls.
 ghost use Rattle.std.specs.Prelude.{◌≡◌, ℕ, List};
 ghost use Rattle.half_store.specs.Half.{Holds};
-ghost use Rattle.half_store.specs.Stands.{Represents, LacksRoom};
+ghost use Rattle.half_store.specs.Stands.{Represents, Lacks};
 ghost use Rattle.half_store.specs.Held.{held_law};
 
 use crate::changing::{insert_in, remove_in, replace_in};
@@ -21,7 +21,7 @@ impl Keeps for HalfStore {
 
     ghost is_spent = { λ store. store.spent };
 
-    ghost lacks_room = { λ image is_new name before after. LacksRoom image after };
+    ghost lacks = { λ fault image is_new name before after. Lacks fault image is_new name after };
 }
 
 impl Store for HalfStore {
@@ -74,6 +74,9 @@ impl Store for HalfStore {
             return Err(StoreFault::Spent);
         }
         self.spent = true;
+        if file.is_long() {
+            return Err(StoreFault::Old);
+        }
         create_in(self.alloc, &mut self.files, file)?;
         self.commit_files(device, Outcome::Done)?;
         Ok(())

@@ -37,9 +37,9 @@ use Rattle.code_image.specs.Table.{received_point, filed_from, exec_code}
 use Rattle.machine.specs.declared.registers.Registers.{Registers}
 use Rattle.machine.specs.Prefix.{files_at, HoldsSoFar, Moment}
 use Rattle.machine.specs.declared.ended.Refusal.{Refusal}
-use Rattle.machine.specs.declared.ended.Refusal.TheVariants.{Device, Full, Damaged, Memory}
+use Rattle.machine.specs.declared.ended.Refusal.TheVariants.{Device, Full, Damaged, Memory, Old}
 use Rattle.machine.specs.declared.ended.Ended.TheVariants.{Refused}
-use Rattle.machine.specs.Ends.{is_barring, BeforeNote, LacksRoomForChange, EndsAs}
+use Rattle.machine.specs.Ends.{is_barring, BeforeNote, LacksForChange, EndsAs}
 use Rattle.machine.specs.Filing.{store_fault}
 use Rattle.machine.specs.Progress.{IsRunning}
 use Rattle.machine.proofs.Moments.{as_many_taken}
@@ -150,16 +150,19 @@ module _ (code : Code) (day : List ℕ) (run : Run) (before : State) (files : Fi
     console = as_many_taken before now s so_far.console lines;
   }
 
-  -- a disk that lacks room for a change of files
-  pub record NoRoom (lacks_room : List Sector → Bool → List ℕ → Files → Files → Type 0) (s : State) : Type 0 where
+  -- a disk that lacks what a change of files needs
+  pub record Lacking (lacks : StoreFault → List Sector → Bool → List ℕ → Files → Files → Type 0) (why : StoreFault)
+      (s : State) : Type 0 where
     pub changes : has_changed verb did.status ≡ true
-    pub room : lacks_room s.disk.present (makes_file verb) one.name files did.files
+    pub need : lacks why s.disk.present (makes_file verb) one.name files did.files
+    pub makes : why ≡ fault.Old → makes_file verb ≡ true
 
-  no_room : (lacks_room : List Sector → Bool → List ℕ → Files → Files → Type 0) (s : State) → s.events ≡ now.events
-      → s.lines ≡ now.lines → is_barring did.status ≡ false
-      → NoRoom lacks_room s → LacksRoomForChange lacks_room (entries_of code.tables code.files) run before s
+  for_change :
+      (lacks : StoreFault → List Sector → Bool → List ℕ → Files → Files → Type 0) (why : StoreFault) (s : State)
+      → s.events ≡ now.events → s.lines ≡ now.lines → is_barring did.status ≡ false
+      → Lacking lacks why s → LacksForChange lacks (entries_of code.tables code.files) why run before s
   unfolding step_by given_up
-  no_room lacks_room s events lines asks lacking = record {
+  for_change lacks why s events lines asks lacking = record {
     given_up = given_up s events lines asks;
     verb = verb;
     connectors = connectors;
@@ -171,21 +174,24 @@ module _ (code : Code) (day : List ℕ) (run : Run) (before : State) (files : Fi
     after_is = sym files_then;
     status_is = refl;
     changes = lacking.changes;
-    room = subst (λ (name : List ℕ). lacks_room s.disk.present (makes_file verb) name files did.files)
-        (sym (ap (λ (e : Entry). e.name) (entry_here code.tables code.files file_index.number one there))) lacking.room;
+    lacking = subst (λ (name : List ℕ). lacks why s.disk.present (makes_file verb) name files did.files)
+        (sym (ap (λ (e : Entry). e.name) (entry_here code.tables code.files file_index.number one there))) lacking.need;
+    makes = lacking.makes;
   }
 
-  pub refused_by : (holds : List Sector → Files → Type 0) (lacks_room : List Sector → Bool → List ℕ → Files → Files
-      → Type 0) (s : State) (refusal : Refusal) (why : StoreFault) → why ≡ store_fault refusal → why ≢ fault.Damaged
-      → is_barring did.status ≡ false → s.events ≡ now.events → s.lines ≡ now.lines
-      → (why ≡ fault.Full → NoRoom lacks_room s)
-      → EndsAs holds lacks_room (entries_of code.tables code.files) run before (Refused refusal) s
-  refused_by holds lacks_room s Device why is sound asks events lines full =
+  pub refused_by : (holds : List Sector → Files → Type 0) (lacks : StoreFault → List Sector → Bool → List ℕ → Files
+      → Files → Type 0) (s : State) (refusal : Refusal) (why : StoreFault) → why ≡ store_fault refusal
+      → why ≢ fault.Damaged → is_barring did.status ≡ false → s.events ≡ now.events → s.lines ≡ now.lines
+      → (why ≡ fault.Full → Lacking lacks fault.Full s) → (why ≡ fault.Old → Lacking lacks fault.Old s)
+      → EndsAs holds lacks (entries_of code.tables code.files) run before (Refused refusal) s
+  refused_by holds lacks s Device why is sound asks events lines full old =
       as_many_taken before now s so_far.console lines
-  refused_by holds lacks_room s Full why is sound asks events lines full =
-      no_room lacks_room s events lines asks (full is)
-  refused_by holds lacks_room s Damaged why is sound asks events lines full = absurd (sound is)
-  refused_by holds lacks_room s Memory why is sound asks events lines full = given_up s events lines asks
+  refused_by holds lacks s Full why is sound asks events lines full old =
+      for_change lacks fault.Full s events lines asks (full is)
+  refused_by holds lacks s Damaged why is sound asks events lines full old = absurd (sound is)
+  refused_by holds lacks s Memory why is sound asks events lines full old = given_up s events lines asks
+  refused_by holds lacks s Old why is sound asks events lines full old =
+      for_change lacks fault.Old s events lines asks (old is)
 
   -- where its status was received
   pub after_file : (s : State) (new : Registers) (status : Status) (after : List Connector)

@@ -132,7 +132,7 @@ untrue false e = refl
 module _ (entry : Entry) (files : Files) (c : Connector) (area : Area) where
   spec_is : is_spec entry.spec ≡ true
       → are_keys entry.spec.record_length entry.spec.organization entry.spec.alternates ≡ true
-  spec_is e = and_second (nat_le 1 entry.spec.record_length && nat_le entry.spec.record_length 1000)
+  spec_is e = and_second (nat_le 1 entry.spec.record_length && nat_le entry.spec.record_length 16000)
       (are_keys entry.spec.record_length entry.spec.organization entry.spec.alternates) e
 
   -- under its prime key

@@ -19,7 +19,7 @@ use Rattle.file_image.specs.declared.file.CodeFile.{CodeFile}
 use Rattle.file_image.specs.Files.{entries_of}
 use Rattle.code_image.specs.declared.code.Code.{Code}
 use Rattle.machine.specs.declared.ended.Refusal.{Refusal}
-use Rattle.machine.specs.declared.ended.Refusal.TheVariants.{Device, Full, Damaged, Memory}
+use Rattle.machine.specs.declared.ended.Refusal.TheVariants.{Device, Full, Damaged, Memory, Old}
 
 -- the store's fault for which a run is given up
 abbrev pub store_fault : Refusal → StoreFault
@@ -27,6 +27,7 @@ store_fault Device = fault.Device
 store_fault Full = fault.Full
 store_fault Damaged = fault.Damaged
 store_fault Memory = fault.Memory
+store_fault Old = fault.Old
 
 -- an unsigned integer stands there
 pub record FindsNumber (tables : DataTables) (storage : Storage) (index : ItemIndex) : Type 0 where

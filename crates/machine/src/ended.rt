@@ -21,6 +21,8 @@ pub enum Refusal {
     Damaged,
     #[error("out of memory")]
     Memory,
+    #[error("the volume has an earlier mark, and cannot have the file")]
+    Old,
 }
 
 /// The numbers that the product prints.
@@ -32,6 +34,8 @@ const DAMAGED: u8 = 82;
 
 const MEMORY: u8 = 83;
 
+const OLD: u8 = 87;
+
 impl Refusal {
     /// The number that the product prints.
     pub fn number(self) -> u8
@@ -42,6 +46,7 @@ impl Refusal {
             Refusal::Full => FULL,
             Refusal::Damaged => DAMAGED,
             Refusal::Memory => MEMORY,
+            Refusal::Old => OLD,
         }
     }
 }
@@ -57,6 +62,7 @@ pub(crate) fn refusal_of(fault: StoreFault) -> Refusal
         StoreFault::Full => Refusal::Full,
         StoreFault::Damaged => Refusal::Damaged,
         StoreFault::Memory => Refusal::Memory,
+        StoreFault::Old => Refusal::Old,
         StoreFault::Spent | StoreFault::Layout => unreachable!(),
     }
 }

@@ -1,6 +1,6 @@
 //! File statements.
 
-ghost use Rattle.std.specs.Prelude.{◌≡◌, ◌≢◌, ◌≤◌, ◌<◌, ◌+◌, ◌↔◌, true, false, ℕ, List, IfSome, length, map, slice_get, Some, Err, OnOk, OnErr, IfOk, IfErr};
+ghost use Rattle.std.specs.Prelude.{◌≡◌, ◌≢◌, ◌⊎◌, ◌≤◌, ◌<◌, ◌+◌, ◌↔◌, true, false, ℕ, List, IfSome, length, map, slice_get, Some, Err, OnOk, OnErr, IfOk, IfErr};
 ghost use Rattle.station.specs.State.{State, state_after_note};
 ghost use Rattle.station.specs.History.{Moves, Through};
 ghost use Rattle.records.specs.Statuses.{bytes_of};
@@ -72,7 +72,7 @@ pub(crate) fn file_statement<S: Station, F: FileVerbs>(
         → Represents F.Keeps S.Device verbs.old station.old files →
         IsRunning code.now day run before files (F.connectors verbs.old) address left registers.old
         (S.state station.old) →
-        IfErr result (λ ended. EndsAs F.holds F.lacks_room
+        IfErr result (λ ended. EndsAs F.holds F.lacks
         (entries_of code.now.tables code.now.files) run before ended (S.state station.new)) }
 {
     let one = &code.files.as_slice()[file.number as usize];
@@ -185,9 +185,10 @@ fn perform<D: Device, F: FileVerbs>(
         (F.connectors verbs.old) areas.old).files
         verbs.old device.old verbs.new device.new }
     ensures full { (files : Files) → Represents F.Keeps D.Device verbs.old device.old files
-        → result ≡ Err StoreFault.Full →
+        → (result ≡ Err StoreFault.Full) ⊎ (result ≡ Err StoreFault.Old) →
         has_changed verb (meaning.step_by (F.entries verbs.old) (places_of tables.now file.number
         one.now) verb files (F.connectors verbs.old) areas.old).status ≡ true }
+    ensures old { result ≡ Err StoreFault.Old → makes_file verb ≡ true }
 {
     let old = relative_number(areas, tables, one.relative_key);
     let mut number = old;

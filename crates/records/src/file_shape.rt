@@ -9,7 +9,9 @@ const LONGEST_NAME: usize = 30;
 
 const LONGEST_KEY: u16 = 100;
 
-const LONGEST_RECORD: u16 = 1000;
+pub(crate) const LONGEST_SHORT_RECORD: u16 = 1000;
+
+const LONGEST_RECORD: u16 = 16000;
 
 const MOST_ALTERNATES: usize = 7;
 
@@ -20,7 +22,7 @@ pub(crate) fn is_name(name: &[u8]) -> bool
     1 <= name.len() && name.len() <= LONGEST_NAME && are_letters(name)
 }
 
-/// Whether records are from 1 to 1,000 bytes long, and only an indexed file has keys, in order of place and within the record.
+/// Whether records are from 1 to 16,000 bytes long, and only an indexed file has keys, in order of place and within the record.
 pub(crate) fn is_spec(organization: Organization, record_length: u16, keys: &[AlternateKey]) -> bool
     ensures { result ≡ spec.is_spec (record {
       organization = organization;

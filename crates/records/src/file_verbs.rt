@@ -55,12 +55,15 @@ pub trait FileVerbs: Keeps {
             (file_step (entries self.old) files (connectors self.old) file verb
             (area bytes.old number.old)).files self.old device.old self.new device.new }
 
-        // `Full` is answered only by a statement that would change a file, and by no verb that cannot change one, whatever the disk holds.
+        // `Full` and `Old` are answered only by a statement that would change a file, and by no verb that cannot change one, whatever the
+        // disk holds; `Old` only by an OPEN that would make the file.
         ensures full { (files : Files) → Represents Self.Keeps D.Device self.old device.old files
-            → result ≡ Err StoreFault.Full →
+            → (result ≡ Err StoreFault.Full) ⊎ (result ≡ Err StoreFault.Old) →
             has_changed verb (file_step (entries self.old) files (connectors self.old) file verb
             (area bytes.old number.old)).status ≡ true }
-        ensures never_full { can_change_files verb ≡ false → result ≢ Err StoreFault.Full }
+        ensures never_full { can_change_files verb ≡ false
+            → (result ≢ Err StoreFault.Full) × (result ≢ Err StoreFault.Old) }
+        ensures old { result ≡ Err StoreFault.Old → makes_file verb ≡ true }
         ensures idle { D.is_honest device.old → IfOk result
             (λ status. has_changed verb status ≡ false → D.state device.new ≡ D.state device.old) }
         ensures refused { OnErr result (SameConnectors (connectors self.old) (connectors self.new)

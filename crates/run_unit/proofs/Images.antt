@@ -12,7 +12,7 @@ use Rattle.data_image.specs.declared.fault.ImageFault.{ImageFault}
 use Rattle.data_image.specs.declared.fault.ImageFault.TheVariants as in_image
 use Rattle.run_unit.specs.Ends.{ForImage, IsCauseOf, IsEndOfImage}
 use Rattle.run_unit.specs.declared.ended.Refusal.{Refusal}
-use Rattle.run_unit.specs.declared.ended.Refusal.TheVariants.{Image, Device, Full, Damaged, Memory}
+use Rattle.run_unit.specs.declared.ended.Refusal.TheVariants.{Image, Device, Full, Damaged, Memory, Old}
 use Rattle.run_unit.specs.declared.ended.Ended.{Ended}
 use Rattle.run_unit.specs.declared.ended.Ended.TheVariants.{Stopped, Budget, Faulted, Refused}
 use Rattle.file_image.specs.Files.{entries_of}
@@ -66,6 +66,7 @@ end_of_image spelt image (Refused Device) is for = tt
 end_of_image spelt image (Refused Full) is for = tt
 end_of_image spelt image (Refused Damaged) is for = tt
 end_of_image spelt image (Refused Memory) is for = tt
+end_of_image spelt image (Refused Old) is for = tt
 
 -- what is written of a tree's code is an image that means the same
 pub made : (tree : Program) (code : Code) (written : Result (Vec ℕ Global) AllocError)
@@ -96,3 +97,4 @@ no_damage Device image cause is = cause
 no_damage Full image cause is = cause
 no_damage Damaged image cause is = cause
 no_damage Memory image cause is = cc
+no_damage Old image cause is = cause

@@ -5,6 +5,8 @@ use Rattle.station.specs.Disk.{Sector}
 use Rattle.station.specs.State.{State, Event}
 use Rattle.station.specs.History.{Through, EachImage}
 use Rattle.station.proofs.Spans.{stays, weakens}
+use Rattle.records.specs.declared.fault.StoreFault.{StoreFault}
+use Rattle.records.specs.declared.fault.StoreFault.TheVariants as store
 use Rattle.records.specs.Files.{Files}
 use Rattle.records.specs.Connector.{Entry}
 use Rattle.records.specs.FileStep.{entry_at, makes_file}
@@ -23,7 +25,7 @@ use Rattle.machine.specs.declared.ended.Ended.{Ended as MachineEnded}
 use Rattle.machine.specs.declared.ended.Ended.TheVariants as machine
 use Rattle.machine.specs.declared.ended.Refusal.TheVariants as refused
 use Rattle.machine.specs.Prefix.{files_at, last_files, NoteComes, HoldsSoFar, TakesLines, Moment}
-use Rattle.machine.specs.Ends.{code_of, day_of, IsFinished, LacksRoomForChange, EndsAs, IsOwnEnd}
+use Rattle.machine.specs.Ends.{code_of, day_of, IsFinished, LacksForChange, EndsAs, IsOwnEnd}
 use Rattle.machine.proofs.Moments.{nothing_taken}
 use Rattle.machine.proofs.Beginnings.{tells_more, files_here}
 use Rattle.run_unit.specs.Alone.{Alone, FinishedAlone, EndsAlone, RunsAlone}
@@ -62,13 +64,13 @@ runs_as machine code day files s budget run same_code same_day runs =
     subst (λ (c : Code). Runs c (given_over files s (day_of machine) budget) run) (sym same_code)
     (subst (λ (d : List ℕ). Runs code (given_over files s d budget) run) (sym same_day) runs)
 
--- where an image lacks room by one sense, it does by another
-pub room_under : (lacks lacks' : List Sector → Bool → List ℕ → Files → Files → Type 0)
-    → ((image : List Sector) (is_new : Bool) (name : List ℕ) (before after : Files)
-    → lacks image is_new name before after → lacks' image is_new name before after)
-    → (entries : List Entry) (run : Run) (old now : State) → LacksRoomForChange lacks entries run old now
-    → LacksRoomForChange lacks' entries run old now
-room_under lacks lacks' under entries run old now is = record {
+-- where an image lacks what a change needs by one sense, it does by another
+pub lacking_under : (lacks lacks' : StoreFault → List Sector → Bool → List ℕ → Files → Files → Type 0)
+    → ((fault : StoreFault) (image : List Sector) (is_new : Bool) (name : List ℕ) (before after : Files)
+    → lacks fault image is_new name before after → lacks' fault image is_new name before after)
+    → (entries : List Entry) (fault : StoreFault) (run : Run) (old now : State)
+    → LacksForChange lacks entries fault run old now → LacksForChange lacks' entries fault run old now
+lacking_under lacks lacks' under entries fault run old now is = record {
   given_up = is.given_up;
   verb = is.verb;
   connectors = is.connectors;
@@ -80,8 +82,9 @@ room_under lacks lacks' under entries run old now is = record {
   after_is = is.after_is;
   status_is = is.status_is;
   changes = is.changes;
-  room = under now.disk.present (makes_file is.verb) (entry_at entries is.given_up.file).name is.before is.step.files
-      is.room;
+  lacking = under fault now.disk.present (makes_file is.verb) (entry_at entries is.given_up.file).name is.before
+      is.step.files is.lacking;
+  makes = is.makes;
 }
 
 -- ---- where what an image holds by one sense, it holds by another
@@ -111,27 +114,32 @@ module _ (here below : List Sector → Files → Type 0) (under : (image : List 
     disk = is.disk;
   }
 
-  -- and where it lacks room by the one sense, it does by the other
-  module _ (lacks lacks' : List Sector → Bool → List ℕ → Files → Files → Type 0)
-      (under_room : (image : List Sector) (is_new : Bool) (name : List ℕ) (before after : Files)
-      → lacks image is_new name before after → lacks' image is_new name before after)
+  -- and where it lacks what a change needs by the one sense, it does by the other
+  module _ (lacks lacks' : StoreFault → List Sector → Bool → List ℕ → Files → Files → Type 0)
+      (under_lacks : (fault : StoreFault) (image : List Sector) (is_new : Bool) (name : List ℕ) (before after : Files)
+      → lacks fault image is_new name before after → lacks' fault image is_new name before after)
       (entries entries' : List Entry) (same : entries ≡ entries') where
+    lacks_below : (fault : StoreFault) (now : State) → LacksForChange lacks entries fault run old now
+        → LacksForChange lacks' entries' fault run old now
+    lacks_below fault now is =
+        subst (λ (es : List Entry). LacksForChange lacks' es fault run old now) same
+        (lacking_under lacks lacks' under_lacks entries fault run old now is)
+
     ends_below : (ended : MachineEnded) (now : State) → EndsAs here lacks entries run old ended now
-        → EndsOver below (LacksRoomForChange lacks' entries') run old (ended_of ended) now
+        → EndsOver below (LacksForChange lacks' entries') run old (ended_of ended) now
     ends_below machine.Stopped now ends = finished_below end.Stopped now ends
     ends_below machine.Budget now ends = finished_below end.Budget now ends
     ends_below (machine.Faulted fault line) now ends = finished_below (end.Faulted (fault_of fault) line) now ends
     ends_below (machine.Refused refused.Device) now ends = ends
-    ends_below (machine.Refused refused.Full) now ends =
-        subst (λ (es : List Entry). LacksRoomForChange lacks' es run old now) same
-        (room_under lacks lacks' under_room entries run old now ends)
+    ends_below (machine.Refused refused.Full) now ends = lacks_below store.Full now ends
     ends_below (machine.Refused refused.Damaged) now ends = ends
     ends_below (machine.Refused refused.Memory) now ends = inl ends
+    ends_below (machine.Refused refused.Old) now ends = lacks_below store.Old now ends
 
     -- a machine ran
     pub ran_over : (past later : List State) (new : State) (ended : MachineEnded) → Moment below run old old
         → Through past later new (Moment here run old) → EndsAs here lacks entries run old ended new
-        → RunsOver below (LacksRoomForChange lacks' entries') run past old (ended_of ended) later new
+        → RunsOver below (LacksForChange lacks' entries') run past old (ended_of ended) later new
     ran_over past later new ended first moments ends = record {
       first = first;
       moments = weakens past later new (Moment here run old) (Moment below run old) moment_below moments;
@@ -139,18 +147,19 @@ module _ (here below : List Sector → Files → Type 0) (under : (image : List 
     }
 
 -- memory ran out before the run
-pub never_ran : (holds : List Sector → Files → Type 0) (no_room : Run → State → State → Type 0) (run : Run)
+pub never_ran : (holds : List Sector → Files → Type 0) (lacking : StoreFault → Run → State → State → Type 0) (run : Run)
     (past : List State) (old : State)
-    → Moment holds run old old → RunsOver holds no_room run past old (Refused Memory) past old
-never_ran holds no_room run past old first =
+    → Moment holds run old old → RunsOver holds lacking run past old (Refused Memory) past old
+never_ran holds lacking run past old first =
     record { first = first; moments = stays past old (Moment holds run old) first; ends = inr refl }
 
 -- files that are there aren't found damaged
-pub no_damage_over : (holds : List Sector → Files → Type 0) (no_room : Run → State → State → Type 0) (run : Run)
+pub no_damage_over :
+    (holds : List Sector → Files → Type 0) (lacking : StoreFault → Run → State → State → Type 0) (run : Run)
     (old : State) (ended : Ended) (now : State)
-    → EndsOver holds no_room run old ended now → ended ≡ Refused Damaged → ⊥
-no_damage_over holds no_room run old ended now ends is =
-    subst (λ (e : Ended). EndsOver holds no_room run old e now) is ends
+    → EndsOver holds lacking run old ended now → ended ≡ Refused Damaged → ⊥
+no_damage_over holds lacking run old ended now ends is =
+    subst (λ (e : Ended). EndsOver holds lacking run old e now) is ends
 
 -- ---- runs without files
 
@@ -169,7 +178,8 @@ lines_taken : (all seen rest : List Event) (old now : State) → note_count all 
 lines_taken all seen rest old now none is (inl takes) = takes
 lines_taken all seen rest old now none is (inr comes) = absurd (no_note seen rest (sym (ap note_count is) ∙ none) comes)
 
-module _ (holds : List Sector → Files → Type 0) (lacks : List Sector → Bool → List ℕ → Files → Files → Type 0)
+module _ (holds : List Sector → Files → Type 0) (lacks : StoreFault → List Sector → Bool → List ℕ → Files → Files
+    → Type 0)
     (entries : List Entry) (run : Run) (old : State) (none : note_count run.events ≡ 0) where
   alone_of : (now : State) → Moment holds run old now → Alone run old now
   alone_of now moment = record {
@@ -190,6 +200,7 @@ module _ (holds : List Sector → Files → Type 0) (lacks : List Sector → Boo
   ends_alone (machine.Refused refused.Full) now own ends = absurd own
   ends_alone (machine.Refused refused.Damaged) now own ends = absurd own
   ends_alone (machine.Refused refused.Memory) now own ends = absurd own
+  ends_alone (machine.Refused refused.Old) now own ends = absurd own
 
   -- nothing was told yet
   first_alone : Alone run old old

@@ -16,13 +16,13 @@ use Rattle.run_unit.specs.Ends.{of_opening}
 use Rattle.source_tree.specs.State as end
 use Rattle.data_instructions.specs.Faults.{fault_of}
 use Rattle.machine.specs.Prefix.{Moment}
-use Rattle.machine.specs.Ends.{LacksRoomForChange}
+use Rattle.machine.specs.Ends.{LacksForChange}
 use Rattle.half_store.specs.Half.{Holds as HoldsHalf}
-use Rattle.alternate_keys.specs.Stands.{LacksRoom as LacksTrees}
+use Rattle.alternate_keys.specs.Stands.{Lacks as LacksTrees}
 use Rattle.run_unit.specs.Volume.{EndsOver, IsUnopened, IsUnwritten, LeavesClosed, RunsOver, lacks_half}
 use Rattle.run_unit.specs.Volume.{RunsOnVolume, Unopened, Opened, RunsOnHalves, NotOpened, HeldFiles}
 use Rattle.run_unit.specs.declared.ended.Refusal.{Refusal}
-use Rattle.run_unit.specs.declared.ended.Refusal.TheVariants.{Image, Device, Full, Damaged, Memory}
+use Rattle.run_unit.specs.declared.ended.Refusal.TheVariants.{Image, Device, Full, Damaged, Memory, Old}
 use Rattle.run_unit.specs.declared.ended.Ended.{Ended}
 use Rattle.run_unit.specs.declared.ended.Ended.TheVariants.{Stopped, Budget, Faulted, Refused}
 use Rattle.run_unit.proofs.Moments.{moment_below, finished_below}
@@ -39,6 +39,8 @@ read_cause store.Spent (inl is) told = cc
 read_cause store.Spent (inr is) told = cc
 read_cause store.Layout (inl is) told = cc
 read_cause store.Layout (inr is) told = cc
+read_cause store.Old (inl is) told = cc
+read_cause store.Old (inr is) told = cc
 
 -- whatever refuses an opening, the run ends as one over a volume that isn't opened
 unopened : (fault : StoreFault) → IsUnopened (Refused (of_opening fault))
@@ -48,6 +50,7 @@ unopened store.Full = tt
 unopened store.Damaged = tt
 unopened store.Spent = tt
 unopened store.Layout = tt
+unopened store.Old = tt
 
 pub left_closed : (fault : StoreFault) (refusal : Refusal) (past later : List State) (old new : State)
     → refusal ≡ of_opening fault
@@ -65,13 +68,13 @@ unfolding given_over
 given_after files old mid day budget is = sym (ap (λ (s : State). given_over files s day budget) is)
 
 -- the run over what was opened
-pub ran_on : (holds : List Sector → Files → Type 0) (no_room : Run → State → State → Type 0) (run : Run)
+pub ran_on : (holds : List Sector → Files → Type 0) (lacking : StoreFault → Run → State → State → Type 0) (run : Run)
     (past opened later : List State) (old mid new : State) (ended : Ended)
     → Through past opened mid (IsOpening old) → mid ≡ state_after_sync old
-    → RunsOver holds no_room run opened mid ended later new
-    → RunsOnVolume holds no_room run past old ended later new
-ran_on holds no_room run past opened later old mid new ended opening is runs =
-    Opened opened opening.spans (subst (λ (s : State). RunsOver holds no_room run opened s ended later new) is runs)
+    → RunsOver holds lacking run opened mid ended later new
+    → RunsOnVolume holds lacking run past old ended later new
+ran_on holds lacking run past opened later old mid new ended opening is runs =
+    Opened opened opening.spans (subst (λ (s : State). RunsOver holds lacking run opened s ended later new) is runs)
 
 -- ---- a volume that another store has looked at
 
@@ -111,17 +114,18 @@ closed_then past looked later old mid new ended first is closed = record {
   unwritten = unwritten_then old mid new is closed.unwritten;
 }
 
-pub on_volume_then : (holds : List Sector → Files → Type 0) (no_room : Run → State → State → Type 0) (run : Run)
+pub on_volume_then :
+    (holds : List Sector → Files → Type 0) (lacking : StoreFault → Run → State → State → Type 0) (run : Run)
     (past looked later : List State) (old mid new : State) (ended : Ended)
     → Through past looked mid (IsOpening old) → IsUnwritten old mid
-    → RunsOnVolume holds no_room run looked mid ended later new
-    → RunsOnVolume holds no_room run past old ended later new
-on_volume_then holds no_room run past looked later old mid new ended first is (Unopened closed) =
+    → RunsOnVolume holds lacking run looked mid ended later new
+    → RunsOnVolume holds lacking run past old ended later new
+on_volume_then holds lacking run past looked later old mid new ended first is (Unopened closed) =
     Unopened (closed_then past looked later old mid new ended first is closed)
-on_volume_then holds no_room run past looked later old mid new ended first is (Opened opened spans runs) =
+on_volume_then holds lacking run past looked later old mid new ended first is (Opened opened spans runs) =
     Opened opened (then past looked opened (IsOpening old) first.spans
     (weaker looked opened (IsOpening mid) (IsOpening old) (opening_then old mid first.now) spans))
-    (subst (λ (s : State). RunsOver holds no_room run opened s ended later new) (synced_after old mid is) runs)
+    (subst (λ (s : State). RunsOver holds lacking run opened s ended later new) (synced_after old mid is) runs)
 
 pub on_halves_then :
     (entries : List Entry) (run : Files → Run) (past looked later : List State) (old mid new : State) (ended : Ended)
@@ -132,33 +136,35 @@ on_halves_then entries run past looked later old mid new ended first is (NotOpen
     NotOpened (closed_then past looked later old mid new ended first is closed)
 on_halves_then entries run past looked later old mid new ended first is (HeldFiles files held runs) =
     HeldFiles files (subst (λ (image : List Sector). HoldsHalf image files) (present_after old mid is) held)
-    (on_volume_then HoldsHalf (LacksRoomForChange lacks_half entries) (run files) past looked later old mid new ended
+    (on_volume_then HoldsHalf (LacksForChange lacks_half entries) (run files) past looked later old mid new ended
     first is runs)
 
 -- ---- where what an image holds by one store, it holds by either
 
--- the volume in an image lacks room, in trees
-abbrev pub lacks_trees : List Sector → Bool → List ℕ → Files → Files → Type 0
-lacks_trees image is_new name before after = LacksTrees image is_new name after
+-- the volume in an image lacks what a change needs, in trees
+abbrev pub lacks_trees : StoreFault → List Sector → Bool → List ℕ → Files → Files → Type 0
+lacks_trees fault image is_new name before after = LacksTrees fault image is_new name after
 
 module _ (here either : List Sector → Files → Type 0) (also : (image : List Sector) (files : Files) → here image files
     → either image files)
-    (run : Run) (no_room none_either : Run → State → State → Type 0)
-    (also_none : (old now : State) → no_room run old now → none_either run old now) where
-  ends_either : (old : State) (ended : Ended) (now : State) → EndsOver here no_room run old ended now
-      → EndsOver either none_either run old ended now
+    (run : Run) (lacking lacks_too : StoreFault → Run → State → State → Type 0)
+    (also_lacking : (fault : StoreFault) (old now : State) → lacking fault run old now
+    → lacks_too fault run old now) where
+  ends_either : (old : State) (ended : Ended) (now : State) → EndsOver here lacking run old ended now
+      → EndsOver either lacks_too run old ended now
   ends_either old Stopped now ends = finished_below here either also run old end.Stopped now ends
   ends_either old Budget now ends = finished_below here either also run old end.Budget now ends
   ends_either old (Faulted fault line) now ends =
       finished_below here either also run old (end.Faulted (fault_of fault) line) now ends
   ends_either old (Refused (Image fault)) now ends = ends
   ends_either old (Refused Device) now ends = ends
-  ends_either old (Refused Full) now ends = also_none old now ends
+  ends_either old (Refused Full) now ends = also_lacking store.Full old now ends
   ends_either old (Refused Damaged) now ends = ends
   ends_either old (Refused Memory) now ends = ends
+  ends_either old (Refused Old) now ends = also_lacking store.Old old now ends
 
   over_either : (past : List State) (old : State) (ended : Ended) (later : List State) (new : State)
-      → RunsOver here no_room run past old ended later new → RunsOver either none_either run past old ended later new
+      → RunsOver here lacking run past old ended later new → RunsOver either lacks_too run past old ended later new
   over_either past old ended later new runs = record {
     first = moment_below here either also run old old runs.first;
     moments = weakens past later new (Moment here run old) (Moment either run old)
@@ -167,8 +173,8 @@ module _ (here either : List Sector → Files → Type 0) (also : (image : List 
   }
 
   pub on_either : (past : List State) (old : State) (ended : Ended) (later : List State) (new : State)
-      → RunsOnVolume here no_room run past old ended later new
-      → RunsOnVolume either none_either run past old ended later new
+      → RunsOnVolume here lacking run past old ended later new
+      → RunsOnVolume either lacks_too run past old ended later new
   on_either past old ended later new (Unopened closed) = Unopened closed
   on_either past old ended later new (Opened opened spans runs) =
       Opened opened spans (over_either opened (state_after_sync old) ended later new runs)

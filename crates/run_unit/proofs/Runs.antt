@@ -9,7 +9,7 @@ use Rattle.source_tree.specs.Meaning.{Run, meaning}
 use Rattle.code_image.specs.declared.code.Code.{Code}
 use Rattle.file_image.specs.Files.{entries_of}
 use Rattle.code_image.specs.Table.{Runs}
-use Rattle.machine.specs.Ends.{LacksRoomForChange}
+use Rattle.machine.specs.Ends.{LacksForChange}
 use Rattle.run_unit.specs.Trees.{IsTreeOf}
 use Rattle.run_unit.specs.Images.{MeansAs, IsCompiled}
 use Rattle.run_unit.specs.Alone.{RunsAlone}
@@ -47,7 +47,7 @@ module _ (code loaded : Code) (same : loaded ≡ code) (means : RunInput → Run
   abbrev pub DidOnVolume : Type 0
   DidOnVolume = (files : Files) → HoldsFiles call.old.disk.present files
       → (run : Run) → Runs loaded (given_files call files) run
-      → RunsOnVolume HoldsFiles (LacksRoomForChange lacks_either (entries_of loaded.tables loaded.files)) run call.past
+      → RunsOnVolume HoldsFiles (LacksForChange lacks_either (entries_of loaded.tables loaded.files)) run call.past
       call.old call.ended call.later call.new
 
   -- and over one of halves
@@ -75,7 +75,7 @@ module _ (code loaded : Code) (same : loaded ≡ code) (means : RunInput → Run
   runs_files some volume halves sound = record {
     alone = λ zero. absurd (some (subst (λ (c : Code). c.files ≡ []) (sym same) (no_files code zero)));
     volume = λ with files held.
-        subst (λ (c : Code). RunsOnVolume HoldsFiles (LacksRoomForChange lacks_either (entries_of c.tables c.files))
+        subst (λ (c : Code). RunsOnVolume HoldsFiles (LacksForChange lacks_either (entries_of c.tables c.files))
         (means (given_files call files)) call.past call.old call.ended call.later call.new) same
         (volume files held (means (given_files call files)) (runs_loaded (given_files call files)));
     halves = λ with of_halves.

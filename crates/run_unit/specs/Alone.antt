@@ -23,7 +23,7 @@ pub record FinishedAlone (run : Run) (how : End) (old now : State) : Type 0 wher
 
 -- What is so after each end. A store has no part in it, and want of memory comes before anything was done.
 abbrev pub EndsAlone : Run → State → Ended → State → Type 0
-EndsAlone run old ended now = EndsBy (λ how. FinishedAlone run how old now) ⊥ (now ≡ old) old ended now
+EndsAlone run old ended now = EndsBy (λ how. FinishedAlone run how old now) (λ fault. ⊥) (now ≡ old) old ended now
 
 -- a run from a state to another, by this end
 abbrev pub RunsAlone : Run → List State → State → Ended → List State → State → Type 0

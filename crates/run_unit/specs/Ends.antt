@@ -16,7 +16,7 @@ use Rattle.machine.specs.Ends as run
 use Rattle.run_unit.specs.Images.{IsImage, RefusesImage}
 use Rattle.run_unit.specs.declared.fault.CompileError.{CompileError}
 use Rattle.run_unit.specs.declared.ended.Refusal.{Refusal}
-use Rattle.run_unit.specs.declared.ended.Refusal.TheVariants.{Image, Device, Full, Damaged, Memory}
+use Rattle.run_unit.specs.declared.ended.Refusal.TheVariants.{Image, Device, Full, Damaged, Memory, Old}
 use Rattle.run_unit.specs.declared.ended.Ended.{Ended}
 use Rattle.run_unit.specs.declared.ended.Ended.TheVariants.{Stopped, Budget, Faulted, Refused}
 
@@ -27,6 +27,7 @@ number_of Device = run.number_of refused.Device
 number_of Full = run.number_of refused.Full
 number_of Damaged = run.number_of refused.Damaged
 number_of Memory = run.number_of refused.Memory
+number_of Old = run.number_of refused.Old
 
 -- the refusal that an error becomes
 abbrev pub from_image : ImageError → Refusal
@@ -39,6 +40,7 @@ refusal_of refused.Device = Device
 refusal_of refused.Full = Full
 refusal_of refused.Damaged = Damaged
 refusal_of refused.Memory = Memory
+refusal_of refused.Old = Old
 
 -- Why a volume isn't opened. One that each store takes for the other's counts as damaged.
 abbrev pub of_opening : StoreFault → Refusal
@@ -64,6 +66,7 @@ IsCauseOf Device image = ⊥
 IsCauseOf Full image = ⊥
 IsCauseOf Damaged image = ⊥
 IsCauseOf Memory image = Unit {0}
+IsCauseOf Old image = ⊥
 
 -- an end that isn't for the image
 abbrev pub IsRun : Ended → Type 0
@@ -80,6 +83,7 @@ ForImage (Refused Device) image = IsImage image
 ForImage (Refused Full) image = IsImage image
 ForImage (Refused Damaged) image = IsImage image
 ForImage (Refused Memory) image = Unit {0}
+ForImage (Refused Old) image = IsImage image
 
 -- this, where bytes are refused as an image
 abbrev pub IfUnbegun : Ended → Type 0 → Type 0
@@ -96,6 +100,7 @@ IsEndOfImage (Refused Device) = Unit {0}
 IsEndOfImage (Refused Full) = Unit {0}
 IsEndOfImage (Refused Damaged) = Unit {0}
 IsEndOfImage (Refused Memory) = Unit {0}
+IsEndOfImage (Refused Old) = Unit {0}
 
 -- What loading an image may answer where it is of that code.
 abbrev pub IsLoaded : Code → Result Verified Refusal → Type 0

@@ -11,7 +11,7 @@ use Rattle.source_tree.specs.Meaning.{Run, meaning}
 use Rattle.code_image.specs.declared.code.Code.{Code}
 use Rattle.file_image.specs.Files.{entries_of}
 use Rattle.code_image.specs.Table.{Runs}
-use Rattle.machine.specs.Ends.{LacksRoomForChange}
+use Rattle.machine.specs.Ends.{LacksForChange}
 use Rattle.run_unit.specs.Trees.{IsTreeOf}
 use Rattle.run_unit.specs.Images.{IsImageOf, entries_of_tree}
 use Rattle.run_unit.specs.Alone.{RunsAlone}
@@ -62,9 +62,10 @@ pub record RunsAsMeant (entries : List Entry) (means : RunInput → Run) (count 
   -- after one more, which is in progress. After the program's own end they are all of the run's events, the end is the
   -- run's, and the files are its last. If the volume isn't opened, no sector is written. If it ends as 81, it does so in a
   -- statement that would change files, and the volume as it is lacks room for that: too few of its sectors are free, the
-  -- files would be more than 255, or no generation is left.
+  -- files would be more than 255, or no generation is left. If it ends as 87, it does so in an OPEN that would make a file
+  -- with long records, and the volume has the first mark or is one of halves.
   pub volume : count ≢ 0 → (files : Files) → HoldsFiles call.old.disk.present files
-      → RunsOnVolume HoldsFiles (LacksRoomForChange lacks_either entries) (means (given_files call files)) call.past call.old call.ended call.later call.new
+      → RunsOnVolume HoldsFiles (LacksForChange lacks_either entries) (means (given_files call files)) call.past call.old call.ended call.later call.new
   -- With files, over a volume of halves, of which nothing else is presumed. It is read whole when it is opened: either it
   -- isn't opened, and no sector is written, or it held files, and the run is the one with these.
   pub halves : count ≢ 0 → IsOfHalves call.old.disk.present

@@ -6,15 +6,16 @@ use Rattle.station.specs.History.{Spans, Through}
 use Rattle.station.specs.Opening.{IsOpening}
 use Rattle.roots.specs.declared.pair.Roots.{Roots}
 use Rattle.roots.specs.Reading.{roots_in}
+use Rattle.records.specs.declared.fault.StoreFault.{StoreFault}
 use Rattle.records.specs.Files.{Files}
 use Rattle.records.specs.Connector.{Entry}
 use Rattle.half_store.specs.Half.{known_families as half_families, Holds as HoldsHalf}
-use Rattle.half_store.specs.Stands.{LacksRoom as LacksHalf}
+use Rattle.half_store.specs.Stands.{Lacks as LacksHalf}
 use Rattle.alternate_keys.specs.Opened.{HasMap}
-use Rattle.alternate_keys.specs.Stands.{LacksRoom as LacksTrees}
+use Rattle.alternate_keys.specs.Stands.{Lacks as LacksTrees}
 use Rattle.source_tree.specs.Meaning.{Run}
 use Rattle.machine.specs.Prefix.{Moment}
-use Rattle.machine.specs.Ends.{IsFinished, BeforeNote, LacksRoomForChange}
+use Rattle.machine.specs.Ends.{IsFinished, BeforeNote, LacksForChange}
 use Rattle.run_unit.specs.declared.ended.Refusal.TheVariants.{Device, Damaged, Memory}
 use Rattle.run_unit.specs.declared.ended.Ended.{Ended}
 use Rattle.run_unit.specs.declared.ended.Ended.TheVariants.{Refused}
@@ -36,23 +37,24 @@ IsUnwritten old new = (new ≡ old) ⊎ (new ≡ state_after_sync old)
 abbrev pub IsDamageFound : State → State → Type 0
 IsDamageFound old new = IsUnwritten old new ⊎ HasMap old.disk.present
 
--- The volume in an image lacks room to turn files into others, in two halves, or by whichever store.
-abbrev pub lacks_half : List Sector → Bool → List ℕ → Files → Files → Type 0
-lacks_half image is_new name before after = LacksHalf image after
+-- The volume in an image lacks what turning files into others needs, in two halves, or by whichever store.
+abbrev pub lacks_half : StoreFault → List Sector → Bool → List ℕ → Files → Files → Type 0
+lacks_half fault image is_new name before after = LacksHalf fault image is_new name after
 
-abbrev pub lacks_either : List Sector → Bool → List ℕ → Files → Files → Type 0
-lacks_either image is_new name before after = LacksTrees image is_new name after ⊎ LacksHalf image after
+abbrev pub lacks_either : StoreFault → List Sector → Bool → List ℕ → Files → Files → Type 0
+lacks_either fault image is_new name before after =
+    LacksTrees fault image is_new name after ⊎ LacksHalf fault image is_new name after
 
 -- What is so after each end of a run over the files that a store stands for. Want of memory ends it in a file
 -- statement or before it begins.
-abbrev pub EndsOver : (List Sector → Files → Type 0) → (Run → State → State → Type 0) → Run → State → Ended → State → Type 0
-EndsOver holds no_room run old ended now =
-    EndsBy (λ how. IsFinished holds run how old now) (no_room run old now) (BeforeNote run old now ⊎ (now ≡ old)) old ended now
+abbrev pub EndsOver : (List Sector → Files → Type 0) → (StoreFault → Run → State → State → Type 0) → Run → State → Ended → State → Type 0
+EndsOver holds lacking run old ended now =
+    EndsBy (λ how. IsFinished holds run how old now) (λ fault. lacking fault run old now) (BeforeNote run old now ⊎ (now ≡ old)) old ended now
 
 -- a run over these files, from a state to another, by this end
-abbrev pub RunsOver : (List Sector → Files → Type 0) → (Run → State → State → Type 0) → Run
+abbrev pub RunsOver : (List Sector → Files → Type 0) → (StoreFault → Run → State → State → Type 0) → Run
     → List State → State → Ended → List State → State → Type 0
-RunsOver holds no_room run past old = TakesCourse (Moment holds run old) (EndsOver holds no_room run old) past old
+RunsOver holds lacking run past old = TakesCourse (Moment holds run old) (EndsOver holds lacking run old) past old
 
 -- A call that doesn't open the volume: there are no events, whatever a crash leaves was possible before the
 -- call, and no sector was written.
@@ -63,11 +65,11 @@ pub record LeavesClosed (past : List State) (old : State) (ended : Ended) (later
 
 -- A call that opens a volume which holds files, and does a run over them. Until the volume is opened there are no events,
 -- and whatever a crash leaves was possible before the call. From its opening on each moment is one of the run.
-pub data RunsOnVolume (holds : List Sector → Files → Type 0) (no_room : Run → State → State → Type 0) (run : Run) (past : List State)
+pub data RunsOnVolume (holds : List Sector → Files → Type 0) (lacking : StoreFault → Run → State → State → Type 0) (run : Run) (past : List State)
     (old : State) (ended : Ended) (later : List State) (new : State) : Type 0 where
-  Unopened : LeavesClosed past old ended later new → RunsOnVolume holds no_room run past old ended later new
+  Unopened : LeavesClosed past old ended later new → RunsOnVolume holds lacking run past old ended later new
   Opened : (opened : List State) → Spans past opened (IsOpening old)
-      → RunsOver holds no_room run opened (state_after_sync old) ended later new → RunsOnVolume holds no_room run past old ended later new
+      → RunsOver holds lacking run opened (state_after_sync old) ended later new → RunsOnVolume holds lacking run past old ended later new
 
 -- the newest root of an image is one of a volume of halves
 abbrev pub IsOfHalves : List Sector → Type 0
@@ -79,5 +81,5 @@ pub data RunsOnHalves (entries : List Entry) (run : Files → Run) (past : List 
     (ended : Ended) (later : List State) (new : State) : Type 0 where
   NotOpened : LeavesClosed past old ended later new → RunsOnHalves entries run past old ended later new
   HeldFiles : (files : Files) → HoldsHalf old.disk.present files
-      → RunsOnVolume HoldsHalf (LacksRoomForChange lacks_half entries) (run files) past old ended later new
+      → RunsOnVolume HoldsHalf (LacksForChange lacks_half entries) (run files) past old ended later new
       → RunsOnHalves entries run past old ended later new

@@ -27,6 +27,9 @@ pub enum Refusal {
     /// 83.
     #[error("out of memory")]
     Memory,
+    /// 87.
+    #[error("the volume has an earlier mark, and cannot have the file")]
+    Old,
 }
 
 impl Refusal {
@@ -40,6 +43,7 @@ impl Refusal {
             Refusal::Full => machine::Refusal::Full.number(),
             Refusal::Damaged => machine::Refusal::Damaged.number(),
             Refusal::Memory => machine::Refusal::Memory.number(),
+            Refusal::Old => machine::Refusal::Old.number(),
         }
     }
 }
@@ -54,6 +58,7 @@ impl Refusal {
             machine::Refusal::Full => Refusal::Full,
             machine::Refusal::Damaged => Refusal::Damaged,
             machine::Refusal::Memory => Refusal::Memory,
+            machine::Refusal::Old => Refusal::Old,
         }
     }
 
@@ -64,9 +69,11 @@ impl Refusal {
         match fault {
             StoreFault::Device => Refusal::Device,
             StoreFault::Memory => Refusal::Memory,
-            StoreFault::Full | StoreFault::Damaged | StoreFault::Spent | StoreFault::Layout => {
-                Refusal::Damaged
-            }
+            StoreFault::Full
+            | StoreFault::Damaged
+            | StoreFault::Spent
+            | StoreFault::Layout
+            | StoreFault::Old => Refusal::Damaged,
         }
     }
 }

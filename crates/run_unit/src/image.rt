@@ -18,7 +18,8 @@ use std::alloc::Global;
 ///
 /// An image with files runs over the volume that the station's sectors are, which is opened first; one without files leaves
 /// them alone. `Refused` by 70 to 74 where the bytes are no image, before any call on the station; by 80 where the station failed,
-/// by 82 where its sectors hold no files, by 81 where the volume has no room for a change, and by 83 where memory runs out.
+/// by 82 where its sectors hold no files, by 81 where the volume has no room for a change, by
+/// 87 where its mark is too early for a file that an OPEN would make, and by 83 where memory runs out.
 pub fn run_image<S: Station>(
     alloc: Global,
     image: &[u8],

@@ -20,7 +20,7 @@ impl Keeps for NoVolume {
 
     ghost is_spent = { λ store. store.spent };
 
-    ghost lacks_room = { λ _ _ _ _ _. Unit {0} };
+    ghost lacks = { λ _ _ _ _ _ _. Unit {0} };
 }
 
 impl NoVolume {

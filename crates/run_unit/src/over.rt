@@ -3,6 +3,7 @@
 ghost use Rattle.std.specs.Prelude.{◌≡◌, ◌≢◌, ◌≤◌, ◌↔◌, Bool, false, ℕ, List, All, IfOk, IfErr};
 ghost use Rattle.station.specs.Disk.{Disk, Sector};
 ghost use Rattle.records.specs.Files.{Files};
+ghost use Rattle.records.specs.declared.fault.StoreFault.{StoreFault};
 ghost use Rattle.records.specs.Calls.{Represents};
 ghost use Rattle.file_image.specs.Files.{entries_of};
 ghost use Rattle.source_tree.specs.Given.{given_over};
@@ -10,7 +11,7 @@ ghost use Rattle.source_tree.specs.Meaning.{Run};
 ghost use Rattle.code_image.specs.Demands.{IsVerified};
 ghost use Rattle.code_image.specs.Points.{all_closed};
 ghost use Rattle.code_image.specs.Table.{Runs};
-ghost use Rattle.machine.specs.Ends.{IsDigit, LacksRoomForChange};
+ghost use Rattle.machine.specs.Ends.{IsDigit, LacksForChange};
 ghost use Rattle.run_unit.specs.Ends.{HasCause, IsRun};
 ghost use Rattle.run_unit.specs.Volume.{RunsOver};
 ghost use Rattle.run_unit.specs.declared.ended.Refusal.TheVariants.{Memory};
@@ -42,9 +43,10 @@ pub(crate) fn connect<T: Store + Drop>(
         ⟦<Connectors<T> as Keeps>⟧.holds image files → T.holds image files }
     ensures stands { IfOk result (λ all. (disk : Disk) (files : Files) →
         T.stands store disk files → ⟦<Connectors<T> as Keeps>⟧.stands all disk files) }
-    ensures room { (image : List Sector) (is_new : Bool) (name : List ℕ) (before after : Files) →
-        ⟦<Connectors<T> as Keeps>⟧.lacks_room image is_new name before after
-        → T.lacks_room image is_new name before after }
+    ensures lacks { (fault : StoreFault) (image : List Sector) (is_new : Bool) (name : List ℕ)
+        (before after : Files) →
+        ⟦<Connectors<T> as Keeps>⟧.lacks fault image is_new name before after
+        → T.lacks fault image is_new name before after }
     ensures memory { IfErr result (λ refusal. refusal ≡ Memory) }
 {
     let mut connectors = Connectors::new(alloc, store);
@@ -59,8 +61,8 @@ pub(crate) fn connect<T: Store + Drop>(
 
 /// Runs code over the files of a store, with a budget of one for each statement. The day is six ASCII digits, YYMMDD.
 ///
-/// `Refused` by 80 where the station failed, by 83 where memory runs out, before the run or in a file statement, and by 81 where the
-/// store has no room for a change.
+/// `Refused` by 80 where the station failed, by 83 where memory runs out, before the run or in a file statement, by 81 where the
+/// store has no room for a change, and by 87 where its mark is too early for a file that an OPEN would make.
 pub fn run_over<S: Station, T: Store + Drop>(
     alloc: Global,
     code: Verified,
@@ -78,11 +80,11 @@ pub fn run_over<S: Station, T: Store + Drop>(
     // The code isn't refused.
     ensures run { IsRun result }
     // At each moment the files are those after the statuses that were received, or after one more, which is in progress. After the
-    // program's own end they are the last, and the events are all of the run's. 81 comes only in a statement that would change files, on
-    // a disk that lacks room for that.
+    // program's own end they are the last, and the events are all of the run's. 81 and 87 come only in a statement that would change
+    // files, on a disk that lacks room, or the mark, for that.
     ensures runs { (files : Files) → Represents T.Keeps S.Device store station.old files →
         (run : Run) → Runs code (given_over files (S.state station.old) day budget) run →
-        RunsOver T.holds (LacksRoomForChange T.lacks_room (entries_of code.tables code.files)) run
+        RunsOver T.holds (LacksForChange T.lacks (entries_of code.tables code.files)) run
         (S.history station.old) (S.state station.old)
         result (S.history station.new) (S.state station.new) }
     // 82 isn't reported of files that the store stands for.

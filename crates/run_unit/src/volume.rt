@@ -8,7 +8,7 @@ ghost use Rattle.source_tree.specs.Given.{given_on, given_over};
 ghost use Rattle.source_tree.specs.Meaning.{Run};
 ghost use Rattle.code_image.specs.Table.{Runs};
 ghost use Rattle.file_image.specs.Files.{entries_of};
-ghost use Rattle.machine.specs.Ends.{IsDigit, LacksRoomForChange};
+ghost use Rattle.machine.specs.Ends.{IsDigit, LacksForChange};
 ghost use Rattle.run_unit.specs.Alone.{RunsAlone};
 ghost use Rattle.run_unit.specs.Ends.{HasCause, IsRun};
 ghost use Rattle.run_unit.specs.Volume.{RunsOnVolume, RunsOnHalves, IsOfHalves, IsUnwritten, IsDamageFound, lacks_half, lacks_either};
@@ -74,7 +74,7 @@ fn run_on_halves<S: Station>(
     ensures volume { S.is_honest station.old →
         (files : Files) → HoldsHalf (S.state station.old).disk.present files →
         (run : Run) → Runs code (given_over files (S.state station.old) day budget) run →
-        RunsOnVolume HoldsHalf (LacksRoomForChange lacks_half (entries_of code.tables code.files))
+        RunsOnVolume HoldsHalf (LacksForChange lacks_half (entries_of code.tables code.files))
         run (S.history station.old) (S.state station.old)
         result (S.history station.new) (S.state station.new) }
     ensures halves { S.is_honest station.old → (run : Files → Run) →
@@ -112,7 +112,7 @@ pub(crate) fn run_on_volume<S: Station>(
     ensures volume { S.is_honest station.old →
         (files : Files) → HoldsFiles (S.state station.old).disk.present files →
         (run : Run) → Runs code (given_over files (S.state station.old) day budget) run →
-        RunsOnVolume HoldsFiles (LacksRoomForChange lacks_either
+        RunsOnVolume HoldsFiles (LacksForChange lacks_either
         (entries_of code.tables code.files)) run (S.history station.old) (S.state station.old)
         result (S.history station.new) (S.state station.new) }
     ensures halves { S.is_honest station.old → IsOfHalves (S.state station.old).disk.present →

@@ -133,7 +133,7 @@ assigned : Breaks ((called (replicate 30 65), []) ∷ (called (replicate 31 65),
 unfolding computing
 assigned = (refl, (refl, (refl, tt)))
 
--- 69: a record of more than 1,000 bytes, a key of more than 100, more than 7 alternate keys, more than 15 files
+-- 69: a record of more than 16,000 bytes, a key of more than 100, more than 7 alternate keys, more than 15 files
 abbrev of_length : String → List ℕ
 of_length picture = of_files (indexed Random "K" [] f ∷ [])
     (described "F" (entries (item (codes "01") (codes "K") (codes picture) ∷ [])) ∷ [])
@@ -146,13 +146,13 @@ too_long_key : of_length "X(101)" ≡ 69 ∷ []
 unfolding computing
 too_long_key = refl
 
-longest_record : of_files (f ∷ []) (described "F" (entries (item (codes "01") (codes "R") (codes "X(1000)") ∷ [])) ∷ [])
+longest_record : of_files (f ∷ []) (described "F" (entries (item (codes "01") (codes "R") (codes "X(16000)") ∷ [])) ∷ [])
     ≡ []
 unfolding computing
 longest_record = refl
 
 too_long_record : of_files (f ∷ []) (described "F" (entries
-    (item (codes "01") (codes "R") (codes "X") ∷ item (codes "01") (codes "T") (codes "X(1001)") ∷ [])) ∷ []) ≡ 69 ∷ []
+    (item (codes "01") (codes "R") (codes "X") ∷ item (codes "01") (codes "T") (codes "X(16001)") ∷ [])) ∷ []) ≡ 69 ∷ []
 unfolding computing
 too_long_record = refl
 

@@ -425,7 +425,7 @@ module _ (items : List LocatedItem) (areas : ℕ) (descriptions : List FileDescr
       (few one.alternate_keys (right_none (assigned ++ clauses) many three)) in
       record {
         name = kept (is_name one.assigned.characters) 66 one.assigned.place (left_none assigned clauses two);
-        spec = and_from (nat_le 1 size && nat_le size 1000) (are_keys
+        spec = and_from (nat_le 1 size && nat_le size 16000) (are_keys
             size (organization_by items one.organization one.record_key) (alternates items one.alternate_keys))
             (has_size areas one.name descriptions among sizes) keys;
         relative_key = relative_sound items there one.organization one (right_none assigned clauses two);

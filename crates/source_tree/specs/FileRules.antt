@@ -36,7 +36,7 @@ abbrev pub most_files : ℕ
 most_files = 15
 
 abbrev pub most_record_bytes : ℕ
-most_record_bytes = 1000
+most_record_bytes = 16000
 
 abbrev pub most_key_bytes : ℕ
 most_key_bytes = 100

@@ -7,7 +7,7 @@ use Rattle.station.specs.Opening.{IsOpening}
 use Rattle.station.specs.State.{State}
 use Rattle.station.proofs.Spans.{goes, weakens}
 use Rattle.records.specs.declared.fault.StoreFault.{StoreFault}
-use Rattle.records.specs.declared.fault.StoreFault.TheVariants.{Device, Full, Damaged, Memory, Spent, Layout}
+use Rattle.records.specs.declared.fault.StoreFault.TheVariants.{Device, Full, Damaged, Memory, Spent, Layout, Old}
 use Rattle.records.specs.Files.{Files}
 use Rattle.alternate_keys.specs.Migrated.{IsMigrating, IsMigrateRefusal}
 use Rattle.alternate_keys.specs.Opened.{FailsWith, IsReadCause}
@@ -52,6 +52,7 @@ recovery_refused image Damaged why = λ files holds. why files (inl holds)
 recovery_refused image Memory why = tt
 recovery_refused image Spent why = absurd why
 recovery_refused image Layout why = absurd why
+recovery_refused image Old why = absurd why
 
 -- Recovery refuses an image as damaged, unless the device or memory failed.
 pub refused_as_damaged : (image : List Sector) (fault : StoreFault) → IsRecoveryRefusal image fault
@@ -62,6 +63,7 @@ refused_as_damaged image Damaged why = inl refl
 refused_as_damaged image Memory why = inr (inr refl)
 refused_as_damaged image Spent why = absurd why
 refused_as_damaged image Layout why = absurd why
+refused_as_damaged image Old why = absurd why
 
 -- A call that fails with one fault doesn't succeed.
 pub never_ok : {T : Type 0} (fault : StoreFault) (result : Result T StoreFault) (G : Type 0) → FailsWith fault result

@@ -31,6 +31,7 @@ failed_device A B store.Damaged e = cc
 failed_device A B store.Memory e = cc
 failed_device A B store.Spent e = cc
 failed_device A B store.Layout e = cc
+failed_device A B store.Old e = cc
 
 not_damage : (B : Type 0) (fault : StoreFault) → IsReadCause fault
     → refused B VolumeError (error_of fault) ≡ refused B VolumeError Damaged → ⊥
@@ -49,6 +50,7 @@ is_refusal image store.Damaged so = so
 is_refusal image store.Memory so = tt
 is_refusal image store.Spent so = absurd so
 is_refusal image store.Layout so = absurd so
+is_refusal image store.Old so = absurd so
 
 module _ {D : Type 0} (d : Devices D) where
   pub reads_of_fault : (A B : Type 0) (fault : StoreFault) (error : VolumeError) (old new : D) → error ≡ error_of fault

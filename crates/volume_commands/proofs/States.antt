@@ -64,6 +64,7 @@ read_error store.Damaged = tt
 read_error store.Memory = tt
 read_error store.Spent = tt
 read_error store.Layout = tt
+read_error store.Old = tt
 
 -- a read that is refused for its cause
 pub read_cause : (fault : StoreFault) → (fault ≡ store.Device) ⊎ (fault ≡ store.Memory) → IsReadFailure (error_of fault)

@@ -19,6 +19,7 @@ error_of store.Damaged = Damaged
 error_of store.Memory = Memory
 error_of store.Spent = Damaged
 error_of store.Layout = Damaged
+error_of store.Old = Damaged
 
 -- the writer failed, or memory ran out
 abbrev pub IsWriteCause : VolumeError → Type 0

@@ -45,9 +45,11 @@ impl VolumeError {
         match fault {
             StoreFault::Device => VolumeError::Device,
             StoreFault::Memory => VolumeError::Memory,
-            StoreFault::Full | StoreFault::Damaged | StoreFault::Spent | StoreFault::Layout => {
-                VolumeError::Damaged
-            }
+            StoreFault::Full
+            | StoreFault::Damaged
+            | StoreFault::Spent
+            | StoreFault::Layout
+            | StoreFault::Old => VolumeError::Damaged,
         }
     }
 }

@@ -39,6 +39,7 @@ empty_holds sectors = record {
   };
   named = refl;
   are = no_files;
+  short = λ first. tt;
 }
 
 next_kept : (m : Map) (kept : FileTrees) → IsKept m.generation kept → IsKept (next_generation m).generation kept
@@ -63,4 +64,5 @@ next_holds m files holds = record {
   };
   named = holds.named;
   are = holds.are;
+  short = holds.short;
 }

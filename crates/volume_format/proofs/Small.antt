@@ -7,20 +7,20 @@ use Rattle.std.specs.List.{list_all}
 use Rattle.records.specs.declared.file_spec.AlternateKey.{AlternateKey}
 use Rattle.records.specs.declared.file_spec.Organization.{Organization}
 use Rattle.records.specs.declared.file_spec.Organization.TheVariants.{Sequential, Relative, Indexed}
-use Rattle.records.specs.Spec.{Spec, is_spec, is_place, are_keys, in_order, begins_elsewhere}
+use Rattle.records.specs.Spec.{Spec, is_spec, is_long, is_place, are_keys, in_order, begins_elsewhere}
 use Rattle.records.specs.declared.file_spec.KeyPlace.{KeyPlace}
 use Rattle.records.specs.declared.key.KeyOfReference.{KeyOfReference}
 use Rattle.records.specs.declared.key.KeyOfReference.TheVariants.{Prime, Alternate}
 use Rattle.records.specs.Rows.{place_of, no_key}
 use Rattle.records.specs.Stores.{IsKey}
 use Rattle.btree_pages.specs.RowLayouts.{IsRowLayout}
-use Rattle.volume_format.specs.Chained.{is_long, kept_bytes}
+use Rattle.volume_format.specs.Chained.{kept_bytes}
 use Rattle.volume_format.specs.Trees.{layout_under}
 use Rattle.records.proofs.Places.{both, all_places, spec as spec_with}
 
-pub short_record : (s : Spec) → is_spec s ≡ true → s.record_length ≤ 1000
-short_record s is = leb-true s.record_length 1000
-    (both (nat_le 1 s.record_length) _ (both (nat_le 1 s.record_length && nat_le s.record_length 1000) _ is).0).1
+pub short_record : (s : Spec) → is_spec s ≡ true → s.record_length ≤ 16000
+short_record s is = leb-true s.record_length 16000
+    (both (nat_le 1 s.record_length) _ (both (nat_le 1 s.record_length && nat_le s.record_length 16000) _ is).0).1
 
 few_keys : (n : ℕ) (o : Organization) (keys : List AlternateKey) → are_keys n o keys ≡ true → length keys ≤ 7
 few_keys n Sequential keys is = let none : length keys ≡ 0 = eqb-true _ _ is in omega arith
@@ -33,7 +33,7 @@ few_keys n (Indexed place) keys is =
 
 pub few_alternates : (s : Spec) → is_spec s ≡ true → length s.alternates ≤ 7
 few_alternates s is = few_keys s.record_length s.organization s.alternates
-    (both (nat_le 1 s.record_length && nat_le s.record_length 1000) _ is).1
+    (both (nat_le 1 s.record_length && nat_le s.record_length 16000) _ is).1
 
 -- keys have at most 100 bytes, and one at least where the file has keys
 sized : (n : ℕ) (place : KeyPlace) → is_place n place ≡ true → (1 ≤ place.length) × (place.length ≤ 100)
@@ -93,7 +93,7 @@ pub layouts_fit : (spec : Spec) (key : KeyOfReference) → is_spec spec ≡ true
     → IsRowLayout (layout_under spec key)
 layouts_fit spec key is within =
     layout_by spec.record_length spec.organization spec.alternates key (few_kept spec) (few_alternates spec is)
-    (both (nat_le 1 spec.record_length && nat_le spec.record_length 1000) _ is).1 within
+    (both (nat_le 1 spec.record_length && nat_le spec.record_length 16000) _ is).1 within
 
 -- the value of a key is short
 short_by : (n : ℕ) (o : Organization) (keys : List AlternateKey) (key : KeyOfReference) → are_keys n o keys ≡ true
@@ -110,8 +110,8 @@ short_by n (Indexed place) keys (Alternate i) is within = (alternate_sized n pla
 pub place_short : (spec : Spec) (key : KeyOfReference) → is_spec spec ≡ true → IsKey spec key
     → (place_of spec key).length ≤ 100
 place_short spec key is within = short_by spec.record_length spec.organization spec.alternates key
-    (both (nat_le 1 spec.record_length && nat_le spec.record_length 1000) _ is).1 within
+    (both (nat_le 1 spec.record_length && nat_le spec.record_length 16000) _ is).1 within
 
 pub spec_keys : (spec : Spec) → is_spec spec ≡ true
     → are_keys spec.record_length spec.organization spec.alternates ≡ true
-spec_keys spec is = (both (nat_le 1 spec.record_length && nat_le spec.record_length 1000) _ is).1
+spec_keys spec is = (both (nat_le 1 spec.record_length && nat_le spec.record_length 16000) _ is).1

@@ -1,8 +1,7 @@
 -- A tree without chains: its entries have their records themselves.
-use Rattle.std.proofs.Common.{◌≡◌, ◌++◌, ℕ, true, false, Bool, List, [], ◌∷◌, length, map, refl, sym, ap, subst, ◌∙◌}
-use Rattle.std.specs.Prelude.{Contains, Option, if◌then◌else◌}
+use Rattle.std.proofs.Common.{◌≡◌, ◌++◌, ℕ, List, [], ◌∷◌, length, map, refl, sym, ap, subst, ◌∙◌}
+use Rattle.std.specs.Prelude.{Contains, Option}
 use Rattle.std.specs.List.{All}
-use Rattle.std.proofs.lemmas.Bool.{le-ltb}
 use Rattle.std.proofs.lemmas.List.{length-map}
 use Rattle.std.proofs.lemmas.List.Elements.{All-nil, All-cons}
 use Rattle.station.specs.Disk.{Sector}
@@ -15,11 +14,9 @@ use Rattle.btree.proofs.Runs.{in_none, once_append}
 use Rattle.btree.proofs.Stays.{pages_once, holds_there}
 use Rattle.chains.specs.Rows.{RowForm, HasChain, chains_of, unrolled_entry}
 use Rattle.chains.proofs.Rows.{keys_kept}
-use Rattle.records.specs.Spec.{Spec, is_spec}
-use Rattle.volume_format.specs.Chained.{is_long, chained_bytes, kept_bytes, form_of}
+use Rattle.volume_format.specs.Chained.{form_of}
 use Rattle.volume_format.specs.Forest.{TreeLevels, IsTreeIn, tree_levels, stored_entries, pages_under}
 use Rattle.volume_format.proofs.OneTree.{same_fields}
-use Rattle.volume_format.proofs.Small.{short_record}
 
 -- such entries have no chains, and are seen as they are
 no_chains : (pages : List (Option Sector)) (entries : List Entry) → chains_of (form_of 0) pages entries ≡ []
@@ -94,13 +91,3 @@ pub same_count : (pages : List (Option Sector)) (planted : TreeLevels) → IsTre
     → length planted.entries ≡ length (stored_entries planted)
 same_count pages planted grows = ap (λ (l : List Entry). length l) grows.entries_are
     ∙ length-map (stored_entries planted) (unrolled_entry (form_of planted.record_bytes) pages)
-
--- As long as records have at most 1,000 bytes, each is in the tree itself.
-not_long : (spec : Spec) → is_spec spec ≡ true → is_long spec ≡ false
-not_long spec is = le-ltb 1000 spec.record_length (short_record spec is)
-
-pub short_spec : (spec : Spec) → is_spec spec ≡ true → chained_bytes spec ≡ 0
-short_spec spec is = ap (λ (b : Bool). if b then spec.record_length else 0) (not_long spec is)
-
-pub short_value : (spec : Spec) → is_spec spec ≡ true → kept_bytes spec ≡ spec.record_length
-short_value spec is = ap (λ (b : Bool). if b then 4 else spec.record_length) (not_long spec is)

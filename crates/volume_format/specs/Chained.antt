@@ -1,14 +1,11 @@
 -- Where the record of a row is: a record of more than 1,000 bytes is in a chain of pages, and the value of its entry in the
 -- tree of rows is the chain's first page (4) and the arrivals (own choice).
-use Rattle.std.specs.Prelude.{◌++◌, ℕ, zero, suc, Bool, nat_lt, take, drop, if◌then◌else◌}
+use Rattle.std.specs.Prelude.{◌++◌, ℕ, zero, suc, take, drop, if◌then◌else◌}
 use Rattle.std.proofs.Common.{refl}
 use Rattle.byteorder.specs.Endian.{big_number}
 use Rattle.chains.specs.Chain.{pages_for}
 use Rattle.chains.specs.Rows.{RowForm}
-use Rattle.records.specs.Spec.{Spec}
-
-abbrev pub is_long : Spec → Bool
-is_long spec = nat_lt 1000 spec.record_length
+use Rattle.records.specs.Spec.{Spec, is_long}
 
 -- the bytes of a record that is in a chain, 0 for a file that has its records in its tree
 abbrev pub chained_bytes : Spec → ℕ

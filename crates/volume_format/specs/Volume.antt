@@ -6,7 +6,7 @@ use Rattle.pages.specs.Image.{Map, IsImageOf as HoldsMap}
 use Rattle.btree.specs.Tree.{TreeNode}
 use Rattle.btree.specs.Entries.{Entry, entries_of}
 use Rattle.records.specs.declared.key.KeyOfReference.TheVariants.{Prime, Alternate}
-use Rattle.records.specs.Files.{File, NamedFile, Files, AreFiles}
+use Rattle.records.specs.Files.{File, NamedFile, Files, AreFiles, AreShort}
 use Rattle.volume_format.specs.Catalog.{Listing, listing_bytes, catalog_value, catalog_layout}
 use Rattle.file_bytes.specs.Description.{padded_name}
 use Rattle.volume_format.specs.Trees.{entry_under, layout_under, AreOf}
@@ -74,6 +74,7 @@ pub record MapHolds (m : Map) (files : Files) : Type 0 where
   pub keeps : HasCatalog m kept
   pub named : map (λ (one : FileTrees). one.named) kept ≡ files
   pub are : AreFiles files
+  pub short : m.mark ≡ 0 → AreShort files
 
 -- the image holds these files
 abbrev pub Holds : List Sector → Files → Type 0

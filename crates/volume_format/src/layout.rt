@@ -2,7 +2,7 @@
 ghost use Rattle.std.specs.Prelude.{◌≡◌};
 ghost use Rattle.btree_pages.specs.RowLayouts.{IsRowLayout};
 ghost use Rattle.records.specs.Stores.{spec_of, IsKey};
-ghost use Rattle.volume_format.specs.Chained.{is_long, kept_bytes};
+ghost use Rattle.volume_format.specs.Chained.{chained_bytes, kept_bytes};
 ghost use Rattle.volume_format.specs.Trees.{layout_under};
 
 use crate::laws::layouts_fit;
@@ -15,9 +15,6 @@ const ARRIVAL_BYTES: usize = 8;
 
 /// The bytes of a page's number.
 const PAGE_NUMBER_BYTES: usize = 4;
-
-/// The bytes of the longest record that is in the tree of rows itself.
-const LONGEST_IN_TREE: u16 = 1000;
 
 /// The lengths of keys and values in the tree of a key: of the rows under the prime key, and of pairs under an alternate key.
 pub fn tree_layout(file: &FileSpec, key: KeyOfReference) -> RowLayout
@@ -39,18 +36,22 @@ pub fn tree_layout(file: &FileSpec, key: KeyOfReference) -> RowLayout
     }
 }
 
-/// Whether the records of a file are in chains of pages.
-pub fn is_long(file: &FileSpec) -> bool
-    ensures { result ≡ is_long (spec_of file.now) }
+/// The bytes of each record of a file that are in a chain of pages, or 0 if its tree of rows has the records itself.
+pub fn chained_bytes(file: &FileSpec) -> u16
+    ensures { result ≡ chained_bytes (spec_of file.now) }
 {
-    LONGEST_IN_TREE < file.record_length
+    if file.is_long() {
+        file.record_length
+    } else {
+        0
+    }
 }
 
 /// The bytes of a row's entry that stand for its record: the record, or the first page of its chain.
 fn kept_bytes(file: &FileSpec) -> usize
     ensures { result ≡ kept_bytes (spec_of file.now) }
 {
-    if is_long(file) {
+    if file.is_long() {
         PAGE_NUMBER_BYTES
     } else {
         file.record_length as usize

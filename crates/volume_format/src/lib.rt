@@ -15,7 +15,7 @@ pub use laws::{
     catalog_tells, empty_holds, forest_moves, keys_in_order, layouts_fit, listing_reads_back,
     next_holds, one_list_of_files, one_rows, pair_comes, row_comes, rows_fit, value_reads_back,
 };
-pub use layout::{is_long, tree_layout};
+pub use layout::{chained_bytes, tree_layout};
 pub use listing::{
     LISTING_BYTES, alternate_root, next_arrival, prime_root, spell_listing, spell_value,
     stored_rows, value_bytes,

@@ -1,4 +1,4 @@
-use Rattle.std.proofs.Common.{◌≡◌, inr, Bool, false, Err, List, ℕ, length, sym, ap, subst, ◌∙◌, arith}
+use Rattle.std.proofs.Common.{◌≡◌, inr, ⊎_elim, Bool, false, Err, List, ℕ, length, sym, ap, subst, ◌∙◌, arith}
 use Rattle.std.specs.Prelude.{if◌then◌else◌, IfErr}
 use Rattle.station.specs.State.{State}
 use Rattle.station.proofs.Calls.{reads_writes, blamed_where, writes_then}
@@ -6,13 +6,15 @@ use Rattle.pages.specs.Pages.{committed_of, Agrees}
 use Rattle.records.specs.declared.fault.StoreFault.TheVariants.{Device}
 use Rattle.records.specs.Changes.{FileChange}
 use Rattle.records.specs.Files.{File, Files, file_at, with_file}
+use Rattle.chains.specs.Chain.{pages_for}
+use Rattle.volume_format.specs.Chained.{chained_bytes}
 use Rattle.records.specs.Stores.{Has, spec_of, is_change, files_after}
 use Rattle.alternate_keys.specs.Moved.{changed_by}
-use Rattle.alternate_keys.specs.Stands.{Represents, keys_of}
+use Rattle.alternate_keys.specs.Stands.{Represents, keys_of, record_pages}
 use Rattle.alternate_keys.proofs.Committing.{changed_from, refused_turned, put_turned}
-use Rattle.alternate_keys.proofs.Faults.{refused_by_call}
+use Rattle.alternate_keys.proofs.Faults.{never_old, refused_by_call}
 use Rattle.alternate_keys.proofs.Still.{stands_still}
-use Rattle.alternate_keys.proofs.Turning.{changed_spec, keys_then, lacks_before, lacks_then}
+use Rattle.alternate_keys.proofs.Turning.{changed_spec, keys_then, pages_then, lacks_before, lacks_then}
 use Rattle.alternate_keys.specs.Faults.{IsWriteFault}
 use Rattle.alternate_keys.proofs.Calling.{sectors_still}
 use Rattle.alternate_keys.proofs.Passing.{passed, spent_before}
@@ -40,6 +42,13 @@ keys g c files held has =
     keys_then c.args.file.now.name.items files held (change g c held) (spec_of c.args.file.now) has.there has.spec
     (changed_spec c.args.verb c.args.file.now.organization c.args.number c.args.bytes.now held)
 
+chains : (g : Over) (c : After-prepare g) (files : Files) (held : File) → Has files c.args.file.now held
+    → record_pages (file_at c.args.file.now.name.items (after g c files held))
+    ≡ pages_for (chained_bytes (spec_of c.args.file.now))
+chains g c files held has =
+    pages_then c.args.file.now.name.items files held (change g c held) (spec_of c.args.file.now) has.there has.spec
+    (changed_spec c.args.verb c.args.file.now.organization c.args.number c.args.bytes.now held)
+
 pub returns-in_err-outcome-clause-turned : goal.returns-in_err-outcome-clause-turned
 returns-in_err-outcome-clause-turned g c = λ honest files held stands has.
     let at = (goal.at.returns-in_err-outcome-clause-turned g c).After-prepare in
@@ -52,7 +61,10 @@ returns-in_err-outcome-clause-turned g c = λ honest files held stands has.
     (λ is. let room = c.prepare.ensures.room honest stands.agrees files held stands.holds has
     (refused_by_call c.in_err-outcome.was c.from_residual.ensures.1 is) in
     lacks_before (committed_of c.args.pages.now) c.args.file.now.name.items (after g at files held)
-    (length c.args.file.now.alternates.items) (keys g at files held has) (omega (arith, room, none)))
+    (length c.args.file.now.alternates.items) _ (keys g at files held has) (chains g at files held has)
+    (omega (arith, room, none)))
+    (λ is. absurd (never_old c.prepare.result c.prepare.ensures.cause
+    (refused_by_call c.in_err-outcome.was c.from_residual.ensures.1 is)))
 
 pub returns-clause-only : goal.returns-clause-only
 returns-clause-only g c =
@@ -97,8 +109,10 @@ returns-clause-turned g c = λ honest files held stands has.
     (rested g at.After-finish honest files held stands (change g at.After-prepare held)
     (c.in_ok-outcome.ensures.outcome honest stands.agrees files held stands.holds has)))
     (λ full. lacks_then c.args.pages.now c.prepare.new.pages c.args.file.now.name.items later
-    (length c.args.file.now.alternates.items) (keys g at.After-prepare files held has) edits.committed
+    (length c.args.file.now.alternates.items) _ (keys g at.After-prepare files held has)
+    (chains g at.After-prepare files held has) edits.committed
     (c.few_needed.ensures c.prepare.new.pages) (omega (arith, few, none)) full)
+    (λ is. never_old c.finish.result c.finish.ensures.cause is)
 
 pub returns-in_err-outcome-clause-full : goal.returns-in_err-outcome-clause-full
 returns-in_err-outcome-clause-full g c = λ honest files held stands has is.
@@ -116,7 +130,8 @@ returns-in_err-outcome-clause-unwritten g c = λ is honest. c.prepare.ensures.ed
 pub returns-clause-unwritten : goal.returns-clause-unwritten
 returns-clause-unwritten g c = λ is honest.
     let only = c.prepare.ensures.edits.only in
-    c.finish.ensures.unwritten is (only.honest.0 honest) ∙ only.state honest
+    ⊎_elim (λ full. c.finish.ensures.unwritten full (only.honest.0 honest) ∙ only.state honest)
+    (λ old. absurd (never_old c.finish.result c.finish.ensures.cause old)) is
 
 pub returns-in_err-outcome-clause-spent : goal.returns-in_err-outcome-clause-spent
 returns-in_err-outcome-clause-spent g c =

@@ -6,9 +6,11 @@ use Rattle.pages.specs.Pages.{mark_of}
 use Rattle.btree.proofs.Frames.{unchanged_on}
 use Rattle.records.specs.declared.fault.StoreFault.TheVariants.{Device}
 use Rattle.records.specs.Files.{File, Files}
+use Rattle.chains.specs.Chain.{pages_for}
+use Rattle.volume_format.specs.Chained.{chained_bytes}
 use Rattle.records.specs.Stores.{spec_of, is_change}
 use Rattle.volume_format.specs.Calls.{LooksAt}
-use Rattle.alternate_keys.specs.Calls.{Edits}
+use Rattle.row_trees.specs.Calls.{EditsPages}
 use Rattle.alternate_keys.specs.Moved.{changed_by}
 use Rattle.alternate_keys.proofs.Bytes.{bytes_by}
 use Rattle.alternate_keys.proofs.Calling.{looks_edits, edits_blamed, edits_last, sectors_still}
@@ -17,7 +19,7 @@ use Rattle.alternate_keys.proofs.HeldTrees.{HoldsTrees}
 use Rattle.alternate_keys.proofs.ListedFile.{HoldsFile, HoldsChanged, file_held, map_at, lefts, rights, named_at}
 use Rattle.alternate_keys.proofs.ListedFile.{never_listed, trees_listed, entry_listed, changed_from, catalog_there}
 use Rattle.alternate_keys.proofs.ListedFile.{files_listed, rows_listed}
-use Rattle.alternate_keys.proofs.Preparing.{are_then}
+use Rattle.alternate_keys.proofs.Preparing.{are_then, short_then}
 use Rattle.alternate_keys.proofs.RowCounts.{rows_spelled}
 use Rattle.alternate_keys.proofs.Still.{room_before}
 use Rattle.alternate_keys.specs.Faults.{IsWriteFault}
@@ -92,7 +94,8 @@ returns-in_err-turn-clause-room g c = λ honest agrees files held holds has full
     let at = file_held g.D.Device c.args.file.now c.args.pages.now c.args.device.now honest agrees holds has in
     let to = goal.at.returns-in_err-turn-clause-room g c in
     let trees = listed g to.After-change_trees at has.spec (looks g to.After-find_listing) in
-    let room = room_before c.args.pages.now c.find_listing.new.pages (84 * length c.args.file.now.alternates.items + 42)
+    let room = room_before c.args.pages.now c.find_listing.new.pages (84 * length c.args.file.now.alternates.items
+    + (42 + pages_for (chained_bytes (spec_of c.args.file.now))))
     c.find_listing.ensures.unchanged (c.change_trees.ensures.room trees.honest trees.agrees _ _ _ _ trees.has
     (refused_by_call c.in_err-turn.was c.from_residual-in_err-turn.ensures.1 full)) in
     omega (arith, room)
@@ -165,6 +168,8 @@ returns-clause-will g c = λ honest agrees files held holds has change.
     c.in_ok-replace_listing.ensures.replaced change_is
     (are_then c.args.verb c.args.file.now files held holds.are has c.args.number c.args.bytes.now c.requires.asked
     (bytes_by c.args.bytes.now c.type_inv.bytes))
+    (λ first. short_then c.args.verb c.args.file.now files held has c.args.number c.args.bytes.now
+    (holds.short first))
 
 pub returns-in_err-entry-clause-edits : goal.returns-in_err-entry-clause-edits
 returns-in_err-entry-clause-edits g c =
@@ -179,7 +184,8 @@ returns-in-None-clause-edits g c =
 -- what was read and written until the trees have changed
 turned : (g : Over) (c : After-change_trees g) → LooksAt g.D.Device (c.find_listing.result ≡ Err Device)
     c.args.pages.now c.args.device.now c.find_listing.new.pages c.find_listing.new.device →
-    Edits g.D.Device (c.change_trees.result ≡ Err Device) c.args.pages.now c.args.device.now c.change_trees.new.pages
+    EditsPages g.D.Device (c.change_trees.result ≡ Err Device) c.args.pages.now c.args.device.now
+    c.change_trees.new.pages
     c.change_trees.new.device
 turned g c seen =
     edits_last g.D.Device _ _ _ _ _ _ _ _ _ (λ is. is) (looks_edits g.D.Device _ _ _ _ _ seen)

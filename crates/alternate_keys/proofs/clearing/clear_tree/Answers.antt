@@ -4,10 +4,11 @@ use Rattle.station.specs.Disk.{Sector}
 use Rattle.pages.specs.Pages.{map_now}
 use Rattle.btree.specs.Rooted.{RootedTree}
 use Rattle.records.specs.declared.fault.StoreFault.TheVariants.{Damaged}
+use Rattle.records.specs.declared.key.KeyOfReference.TheVariants.{Alternate}
 use Rattle.volume_format.specs.Trees.{layout_under}
 use Rattle.alternate_keys.specs.Listed.{root_in}
 use Rattle.alternate_keys.proofs.Keeping.{same_tree}
-use Rattle.alternate_keys.proofs.WholeTrees.{no_chains, whole_forest}
+use Rattle.alternate_keys.proofs.WholeTrees.{whole_forest}
 use Rattle.alternate_keys.proofs.clearing.clear_tree.Goals as goal
 
 pub returns-in_err-tree-clause-damaged : goal.returns-in_err-tree-clause-damaged
@@ -22,10 +23,14 @@ returns-clause-cleared g c = λ honest agrees l tree left right spec says within
     (map_now c.args.pages.now (g.D.Device.state c.args.device.now).disk.present).pages in
     let told = c.in_ok-tree.ensures.tree l spec says within in
     let own : RootedTree =
-    record { layout = layout_under l.spec c.args.key; root = root_in c.args.key c.args.value.now } in
+    record {
+      layout = layout_under l.spec (Alternate c.args.key);
+      root = root_in (Alternate c.args.key)
+          c.args.value.now;
+    } in
     let same : tree.tree ≡ c.in_ok-tree.tree = is ∙ sym (same_tree c.in_ok-tree.tree own told.0 told.1) in
     c.clear_among.ensures.cleared honest agrees left right tree.levels
-    (whole_forest before left right tree c.in_ok-tree.tree (form ∙ no_chains l.spec c.args.key spec) same forest)
+    (whole_forest before left right tree c.in_ok-tree.tree form same forest)
 
 pub returns-clause-damaged : goal.returns-clause-damaged
 returns-clause-damaged g c = λ honest agrees l tree left right spec says within is form forest refused.
@@ -33,8 +38,12 @@ returns-clause-damaged g c = λ honest agrees l tree left right spec says within
     (map_now c.args.pages.now (g.D.Device.state c.args.device.now).disk.present).pages in
     let told = c.in_ok-tree.ensures.tree l spec says within in
     let own : RootedTree =
-    record { layout = layout_under l.spec c.args.key; root = root_in c.args.key c.args.value.now } in
+    record {
+      layout = layout_under l.spec (Alternate c.args.key);
+      root = root_in (Alternate c.args.key)
+          c.args.value.now;
+    } in
     let same : tree.tree ≡ c.in_ok-tree.tree = is ∙ sym (same_tree c.in_ok-tree.tree own told.0 told.1) in
     c.clear_among.ensures.damaged honest agrees left right tree.levels
-    (whole_forest before left right tree c.in_ok-tree.tree (form ∙ no_chains l.spec c.args.key spec) same forest)
+    (whole_forest before left right tree c.in_ok-tree.tree form same forest)
     refused

@@ -12,15 +12,15 @@ use Rattle.alternate_keys.proofs.Calling.{sectors_still}
 use Rattle.alternate_keys.proofs.Faults.{refused_by_call}
 use Rattle.alternate_keys.proofs.clearing.clear_trees.Goals as goal
 
-pub returns-in_err-clear_tree-clause-damaged : goal.returns-in_err-clear_tree-clause-damaged
-returns-in_err-clear_tree-clause-damaged g c = λ honest agrees spec named generation left right has refused.
-    let told = refused_by_call c.in_err-clear_tree.was c.from_residual.ensures.1 refused in
+pub returns-in_err-clear_rows-clause-damaged : goal.returns-in_err-clear_rows-clause-damaged
+returns-in_err-clear_rows-clause-damaged g c = λ honest agrees spec named generation left right has refused.
+    let told = refused_by_call c.in_err-clear_rows.was c.from_residual.ensures.1 refused in
     let before : List (Option Sector) =
     (map_now c.args.pages.now (g.D.Device.state c.args.device.now).disk.present).pages in
     let kept : FileTrees = has.placed.kept in
     let good = good_spec spec named generation before left right c.args.value.now has in
     let told_prime = prime_told spec named generation before left right c.args.value.now has in
-    c.clear_tree.ensures.damaged honest agrees (listing_of kept) kept.prime left (kept.alternates ++ right) good
+    c.clear_rows.ensures.damaged honest agrees (listing_of kept) kept.prime left (kept.alternates ++ right) good
     has.placed.says (omega arith) told_prime has.placed.is.form has.placed.forest told
 
 pub returns-clause-cleared : goal.returns-clause-cleared
@@ -30,11 +30,11 @@ returns-clause-cleared g c = λ honest agrees spec named generation left right h
     let kept : FileTrees = has.placed.kept in
     let good = good_spec spec named generation before left right c.args.value.now has in
     let told_prime = prime_told spec named generation before left right c.args.value.now has in
-    let edits = c.clear_tree.ensures.edits in
+    let edits = c.clear_rows.ensures.edits in
     let still = edits.only.state honest in
-    let first = c.in_ok-clear_tree.ensures.cleared honest agrees (listing_of kept) kept.prime left
+    let first = c.in_ok-clear_rows.ensures.cleared honest agrees (listing_of kept) kept.prime left
     (kept.alternates ++ right) good has.placed.says (omega arith) told_prime has.placed.is.form has.placed.forest in
-    let there = subst (λ (s : State). IsForest (map_now c.clear_tree.new.pages s.disk.present).pages
+    let there = subst (λ (s : State). IsForest (map_now c.clear_rows.new.pages s.disk.present).pages
     (left ++ (kept.alternates ++ right))) (sym still) first in
     let done = c.clear_alternates.ensures.cleared (edits.only.honest.0 honest) (edits.agrees honest agrees) kept left
     right (all_stored spec named generation before left right c.args.value.now has) there in
@@ -48,33 +48,33 @@ returns-clause-damaged g c = λ honest agrees spec named generation left right h
     let kept : FileTrees = has.placed.kept in
     let good = good_spec spec named generation before left right c.args.value.now has in
     let told_prime = prime_told spec named generation before left right c.args.value.now has in
-    let edits = c.clear_tree.ensures.edits in
+    let edits = c.clear_rows.ensures.edits in
     let still = edits.only.state honest in
-    let first = c.in_ok-clear_tree.ensures.cleared honest agrees (listing_of kept) kept.prime left
+    let first = c.in_ok-clear_rows.ensures.cleared honest agrees (listing_of kept) kept.prime left
     (kept.alternates ++ right) good has.placed.says (omega arith) told_prime has.placed.is.form has.placed.forest in
-    let there = subst (λ (s : State). IsForest (map_now c.clear_tree.new.pages s.disk.present).pages
+    let there = subst (λ (s : State). IsForest (map_now c.clear_rows.new.pages s.disk.present).pages
     (left ++ (kept.alternates ++ right))) (sym still) first in
     c.clear_alternates.ensures.damaged (edits.only.honest.0 honest) (edits.agrees honest agrees) kept left right
     (all_stored spec named generation before left right c.args.value.now has) there refused
 
-pub returns-in_err-clear_tree-clause-spent : goal.returns-in_err-clear_tree-clause-spent
-returns-in_err-clear_tree-clause-spent g c =
-    λ is. c.clear_tree.ensures.spent (refused_by_call c.in_err-clear_tree.was c.from_residual.ensures.1 is)
+pub returns-in_err-clear_rows-clause-spent : goal.returns-in_err-clear_rows-clause-spent
+returns-in_err-clear_rows-clause-spent g c =
+    λ is. c.clear_rows.ensures.spent (refused_by_call c.in_err-clear_rows.was c.from_residual.ensures.1 is)
 
-pub returns-in_err-clear_tree-clause-cause : goal.returns-in_err-clear_tree-clause-cause
-returns-in_err-clear_tree-clause-cause g c =
-    passed c.from_residual.result c.in_err-clear_tree.field-0.0 c.from_residual.ensures.1 (λ r. IfErr r IsReadFault)
-    c.in_err-clear_tree.ensures.cause
+pub returns-in_err-clear_rows-clause-cause : goal.returns-in_err-clear_rows-clause-cause
+returns-in_err-clear_rows-clause-cause g c =
+    passed c.from_residual.result c.in_err-clear_rows.field-0.0 c.from_residual.ensures.1 (λ r. IfErr r IsReadFault)
+    c.in_err-clear_rows.ensures.cause
 
 pub clear_alternates-requires-clause-sectors : goal.clear_alternates-requires-clause-sectors
 clear_alternates-requires-clause-sectors g c =
-    sectors_still g.D.Device _ c.args.pages.now c.clear_tree.new.pages c.args.device.now c.clear_tree.new.device
-    c.clear_tree.ensures.edits.only c.clear_tree.ensures.edits.committed c.requires.sectors
+    sectors_still g.D.Device _ c.args.pages.now c.clear_rows.new.pages c.args.device.now c.clear_rows.new.device
+    c.clear_rows.ensures.edits.only c.clear_rows.ensures.edits.committed c.requires.sectors
 
 pub clear_alternates-requires-clause-open : goal.clear_alternates-requires-clause-open
-clear_alternates-requires-clause-open g c = c.clear_tree.ensures.edits.is_open
+clear_alternates-requires-clause-open g c = c.clear_rows.ensures.edits.is_open
 
 pub returns-clause-spent : goal.returns-clause-spent
 returns-clause-spent g c =
-    λ is. spent_before c.args.pages.now c.clear_tree.new.pages c.clear_tree.ensures.edits.committed
+    λ is. spent_before c.args.pages.now c.clear_rows.new.pages c.clear_rows.ensures.edits.committed
     (c.clear_alternates.ensures.spent is)

@@ -13,7 +13,7 @@ use Rattle.volume_format.specs.Catalog.{catalog_layout, catalog_value}
 use Rattle.volume_format.specs.Grows.{IsTreeAmong}
 use Rattle.volume_format.specs.Volume.{MapHolds, trees_of, catalog_entry}
 use Rattle.volume_format.proofs.Values.{reads_back}
-use Rattle.alternate_keys.specs.Calls.{Edits}
+use Rattle.row_trees.specs.Calls.{EditsPages}
 use Rattle.alternate_keys.proofs.Added.{entry_as}
 use Rattle.alternate_keys.proofs.Calling.{looks_edits, edits_blamed, edits_last, prepares_of, prepares_set}
 use Rattle.alternate_keys.proofs.Faults.{refused_by_call, never_full, never_device, never_full_memory, never_damaged}
@@ -40,7 +40,7 @@ returns-then-branch-clause-prepares g c = prepares_of g.D.Device _ _ _ _ _
     (looks_edits g.D.Device _ _ _ _ _ c.is_full.ensures.looks))
 
 -- what the new entry changes, and what both calls change
-put : (g : Over) (c : After-insert_among g) → Edits g.D.Device (c.insert_among.result ≡ Err Device)
+put : (g : Over) (c : After-insert_among g) → EditsPages g.D.Device (c.insert_among.result ≡ Err Device)
     c.is_full.new.pages c.is_full.new.device c.insert_among.new.pages c.insert_among.new.device
 put g c = record {
   only = c.insert_among.ensures.only;
@@ -51,7 +51,7 @@ put g c = record {
 }
 
 both : (g : Over) (c : After-insert_among g) (B : Type 0) → (B → c.insert_among.result ≡ Err Device)
-    → Edits g.D.Device B c.args.pages.now c.args.device.now c.insert_among.new.pages c.insert_among.new.device
+    → EditsPages g.D.Device B c.args.pages.now c.args.device.now c.insert_among.new.pages c.insert_among.new.device
 both g c B from = edits_last g.D.Device (c.is_full.result ≡ Err Device) (c.insert_among.result ≡ Err Device) B _ _ _ _ _
     _ from (looks_edits g.D.Device _ _ _ _ _ c.is_full.ensures.looks) (put g c)
 

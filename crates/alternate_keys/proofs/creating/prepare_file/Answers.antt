@@ -115,7 +115,7 @@ committed g c = committed_on c.args.pages.now c.clear_trees.new.pages c.replace_
     c.replace_listing.ensures.edits.committed
 
 pub returns-in-Some-clause-will : goal.returns-in-Some-clause-will
-returns-in-Some-clause-will g c = λ honest agrees files holds.
+returns-in-Some-clause-will g c = λ fits honest agrees files holds.
     let at = goal.at.returns-in-Some-clause-will g c in
     let honest_found = c.find_listing.ensures.only.honest.0 honest in
     let agrees_found = c.find_listing.ensures.agrees honest agrees in
@@ -128,7 +128,7 @@ returns-in-Some-clause-will g c = λ honest agrees files holds.
     let put = c.in_ok-replace_listing-in-Some.ensures.replaced (edits.only.honest.0 honest_found)
     (edits.agrees honest_found agrees_found) [] (all_around here _ _ _ placed) entries
     (stands_emptied here _ _ _ placed _ _ marked same) in
-    made_there here _ _ _ placed c.args.file.now.sound c.args.pages.now c.replace_listing.new.pages
+    made_there here _ _ _ placed c.args.file.now.sound fits c.args.pages.now c.replace_listing.new.pages
     (g.D.Device.state c.args.device.now).disk.present refl (committed g at.After-replace_listing)
     (c.replace_listing.ensures.edits.catalog ∙ same) (catalog_put g.D.Device (mark_of c.args.pages.now)
     c.replace_listing.new.pages c.args.device.now c.clear_trees.new.device (all_around here _ _ _ placed) _ _ _
@@ -193,7 +193,7 @@ returns-in_err-add_listing-in-None-clause-damaged g c = λ honest agrees files h
     (refused_by_call c.in_err-add_listing-in-None.was c.from_residual-in_err-add_listing-in-None.ensures.1 refused)
 
 pub returns-clause-will : goal.returns-clause-will
-returns-clause-will g c = λ honest agrees files holds.
+returns-clause-will g c = λ fits honest agrees files holds.
     let at = (goal.at.returns-clause-will g c).After-add_listing in
     let honest_found = c.find_listing.ensures.only.honest.0 honest in
     let agrees_found = c.find_listing.ensures.agrees honest agrees in
@@ -206,7 +206,7 @@ returns-clause-will g c = λ honest agrees files holds.
     c.deref-in-None.ensures.value c.deref-in-None-2.ensures.value
     (c.in_ok-add_listing-in-None.ensures.added honest_found agrees_found files here) in
     made_new c.args.pages.now c.add_listing.new.pages (g.D.Device.state c.args.device.now).disk.present files holds
-    c.args.file.now.name.items (spec_of c.args.file.now) c.args.file.now.named c.args.file.now.sound
+    c.args.file.now.name.items (spec_of c.args.file.now) c.args.file.now.named c.args.file.now.sound fits
     (absent g at honest agrees files holds) (committed_on c.args.pages.now c.find_listing.new.pages
     c.add_listing.new.pages c.find_listing.ensures.unchanged.committed c.add_listing.ensures.prepares.committed)
     (c.in_ok-add_listing-in-None.ensures.few_files honest_found agrees_found files here) c.in_ok-listing.listing.items

@@ -26,6 +26,6 @@ returns-in-Ok-clause-found g c = λ honest agrees rows has.
     (sym c.is_no_number.ensures ∙ c.if-is_no_number.false) in
     let key : c.deref.result.now ≡ prime_key spec.organization pair = c.deref.ensures.value ∙ c.in_ok-key.ensures.key in
     let own : List Entry = map (entry_under spec Prime) rows in
-    c.in-Ok.ensures.entry honest agrees has.levels has.holds
+    c.in-Ok.ensures.row honest agrees has.planted has.stands
     ∙ ap (λ (es : List Entry). entry_with es c.deref.result.now) has.entries ∙ ap (entry_with own) key
     ∙ row_found spec pair good rows has.fits

@@ -1,14 +1,15 @@
-use Rattle.std.proofs.Common.{◌≡◌, ◌+◌, ℕ, Bool, List, length, sym, ap, subst, ◌∙◌, arith}
+use Rattle.std.proofs.Common.{◌≡◌, inr, Result, Err, ◌+◌, ℕ, Bool, List, length, sym, ap, subst, ◌∙◌, arith}
 use Rattle.std.specs.Prelude.{take, drop, Option, Some, None}
 use Rattle.std.specs.List.{flat_map}
+use Rattle.std.specs.Result.{IsErrAnd}
 use Rattle.std.proofs.lemmas.List.{length-append, take_at}
 use Rattle.std.proofs.lemmas.List.Elements.{All-contains}
 use Rattle.byteorder.specs.Endian.{big_bytes, big_number}
 use Rattle.station.specs.Disk.{Sector}
 use Rattle.pages.specs.Pages.{map_now}
-use Rattle.btree.specs.Tree.{IsTreeOrEmpty}
 use Rattle.btree.specs.Rooted.{RootedTree}
 use Rattle.btree.specs.Entries.{Entry, entries_of, entry_with}
+use Rattle.row_trees.specs.RowTree.{ChainedTree, IsRowTree}
 use Rattle.records.specs.declared.answer.Found.{Found}
 use Rattle.records.specs.declared.key.KeyOfReference.TheVariants.{Prime, Alternate}
 use Rattle.records.specs.Rows.{Row}
@@ -17,81 +18,133 @@ use Rattle.volume_format.specs.Pairs.{IsUnder}
 use Rattle.alternate_keys.specs.Aims.{found_entry}
 use Rattle.alternate_keys.specs.Seen.{begins_with_value}
 use Rattle.volume_format.specs.Trees.{entry_under}
-use Rattle.btree.proofs.Frames.{unchanged_on, same_pages}
+use Rattle.btree.proofs.Frames.{same_pages}
+use Rattle.btree.proofs.Passing.{never_ok, same_error}
+use Rattle.pages.specs.declared.error.PagesError.{PagesError}
+use Rattle.pages.specs.declared.error.PagesError.TheVariants.{Device, Damaged}
+use Rattle.volume_format.specs.Calls.{LooksAt}
+use Rattle.volume_format.proofs.Looks.{looks_blamed, looks_nowhere, looks_then}
 use Rattle.alternate_keys.proofs.Tells.{repeated_is, row_there, alternate_number, alternate_long}
 use Rattle.alternate_keys.proofs.Faults.{refused_by_call}
+use Rattle.alternate_keys.proofs.found_rows.read_alternate_row.Given.{Over}
 use Rattle.alternate_keys.proofs.found_rows.read_alternate_row.Goals as goal
+use Rattle.alternate_keys.proofs.found_rows.read_alternate_row.Goals.{After-find, After-is_repeated}
 
-pub returns-in_err-row-clause-unchanged : goal.returns-in_err-row-clause-unchanged
-returns-in_err-row-clause-unchanged g c = unchanged_on c.args.pages.now c.is_repeated.new.pages c.get.new.pages
-    c.is_repeated.ensures.unchanged c.get.ensures.unchanged
+-- the calls only read
+looked : (g : Over) (c : After-is_repeated g) → LooksAt g.D.Device (c.is_repeated.result ≡ Err Device)
+    c.args.pages.now c.args.device.now c.is_repeated.new.pages c.is_repeated.new.device
+looked g c = record {
+  only = c.is_repeated.ensures.only;
+  unchanged = c.is_repeated.ensures.unchanged;
+  agrees = c.is_repeated.ensures.agrees;
+  is_open = c.is_repeated.ensures.open;
+}
 
-pub returns-in-None-clause-unchanged : goal.returns-in-None-clause-unchanged
-returns-in-None-clause-unchanged g c = unchanged_on c.args.pages.now c.is_repeated.new.pages c.get.new.pages
-    c.is_repeated.ensures.unchanged c.get.ensures.unchanged
+both : (g : Over) (c : After-find g) (C : Type 0) → (C → c.find.result ≡ Err Device)
+    → LooksAt g.D.Device C c.args.pages.now c.args.device.now c.find.new.pages c.find.new.device
+both g c C from =
+    looks_then g.D.Device (c.is_repeated.result ≡ Err Device) (c.find.result ≡ Err Device) C _ _ _ _ _ _
+    (λ is. inr (from is)) (record {
+      only = c.is_repeated.ensures.only;
+      unchanged = c.is_repeated.ensures.unchanged;
+      agrees = c.is_repeated.ensures.agrees;
+      is_open = c.is_repeated.ensures.open;
+    }) c.find.ensures.looks
 
-pub returns-in_err-copy_record-clause-unchanged : goal.returns-in_err-copy_record-clause-unchanged
-returns-in_err-copy_record-clause-unchanged g c = unchanged_on c.args.pages.now c.is_repeated.new.pages c.get.new.pages
-    c.is_repeated.ensures.unchanged c.get.ensures.unchanged
+damaged_clash : {A : Type 0} → Damaged ≡ Device → A
+damaged_clash is = cc
 
-pub returns-clause-unchanged : goal.returns-clause-unchanged
-returns-clause-unchanged g c = unchanged_on c.args.pages.now c.is_repeated.new.pages c.get.new.pages
-    c.is_repeated.ensures.unchanged c.get.ensures.unchanged
+-- damage that is passed on isn't the device's refusal
+not_device : {T U A : Type 0} {call : Result T PagesError} {given : Result U PagesError} {e : PagesError}
+    → call ≡ Err e → e ≡ Damaged → IsErrAnd given (λ x. x ≡ e) → given ≡ Err Device → A
+not_device was why passed_on is =
+    damaged_clash (sym why ∙ same_error (sym was ∙ refused_by_call was passed_on is))
+
+pub returns-in_err-number-clause-looks : goal.returns-in_err-number-clause-looks
+returns-in_err-number-clause-looks g c =
+    looks_blamed g.D.Device ⊥ _ _ _ _ _
+    (λ is. not_device c.in_err-number.was c.in_err-number.ensures.err.0 c.from_residual.ensures.1 is)
+    (looks_nowhere g.D.Device c.args.pages.now c.args.device.now c.requires.open)
+
+pub returns-in_err-repeated-clause-looks : goal.returns-in_err-repeated-clause-looks
+returns-in_err-repeated-clause-looks g c =
+    looks_blamed g.D.Device (c.is_repeated.result ≡ Err Device) _ _ _ _ _
+    (λ is. refused_by_call c.in_err-repeated.was c.from_residual-in_err-repeated.ensures.1 is)
+    (looked g (goal.at.returns-in_err-repeated-clause-looks g c).After-is_repeated)
+
+pub returns-in_err-row-clause-looks : goal.returns-in_err-row-clause-looks
+returns-in_err-row-clause-looks g c =
+    both g (goal.at.returns-in_err-row-clause-looks g c).After-find _
+    (λ is. refused_by_call c.in_err-row.was c.from_residual-in_err-row.ensures.1 is)
+
+pub returns-in-None-clause-looks : goal.returns-in-None-clause-looks
+returns-in-None-clause-looks g c =
+    both g (goal.at.returns-in-None-clause-looks g c).After-find _ (λ is. damaged_clash (same_error is))
+
+pub returns-in_err-copy_record-clause-looks : goal.returns-in_err-copy_record-clause-looks
+returns-in_err-copy_record-clause-looks g c =
+    both g (goal.at.returns-in_err-copy_record-clause-looks g c).After-find _
+    (λ is. not_device c.in_err-copy_record.was c.in_err-copy_record.ensures.err.0
+    c.from_residual-in_err-copy_record.ensures.1 is)
+
+pub returns-clause-looks : goal.returns-clause-looks
+returns-clause-looks g c = both g (goal.at.returns-clause-looks g c).After-find _ (λ is. never_ok is)
 
 pub returns-in_err-row-clause-damaged : goal.returns-in_err-row-clause-damaged
-returns-in_err-row-clause-damaged g c = λ honest agrees is spec i rows row told fits.
+returns-in_err-row-clause-damaged g c = λ honest agrees spec i rows row told fits is.
     let damaged = refused_by_call c.in_err-row.was c.from_residual-in_err-row.ensures.1 is in
     let same =
     same_pages c.args.pages.now c.is_repeated.new.pages (g.D.Device.state c.args.device.now) (g.D.Device.state
     c.is_repeated.new.device) c.is_repeated.ensures.unchanged (c.is_repeated.ensures.only.state honest) in
-    let prime : RootedTree = c.args.prime.now in
-    let here = subst (λ (p : List (Option Sector)). IsTreeOrEmpty prime.layout p prime.root told.there.levels)
-    (sym same) told.there.holds in
-    c.get.ensures.damaged (c.is_repeated.ensures.only.honest.0 honest) (c.is_repeated.ensures.agrees honest agrees)
-    damaged told.there.levels here
+    let prime : ChainedTree = c.args.prime.now in
+    let here = subst (λ (p : List (Option Sector)). IsRowTree p prime told.there.planted) (sym same)
+    told.there.stands in
+    c.find.ensures.damaged (c.is_repeated.ensures.only.honest.0 honest) (c.is_repeated.ensures.agrees honest agrees)
+    told.there.planted here damaged
 
 pub returns-in-None-clause-damaged : goal.returns-in-None-clause-damaged
-returns-in-None-clause-damaged g c = λ honest agrees is spec i rows row told fits.
+returns-in-None-clause-damaged g c = λ honest agrees spec i rows row told fits is.
     let pages : List (Option Sector) =
     (map_now c.args.pages.now (g.D.Device.state c.args.device.now).disk.present).pages in
     let same =
     same_pages c.args.pages.now c.is_repeated.new.pages (g.D.Device.state c.args.device.now) (g.D.Device.state
     c.is_repeated.new.device) c.is_repeated.ensures.unchanged (c.is_repeated.ensures.only.state honest) in
-    let prime : RootedTree = c.args.prime.now in
-    let here = subst (λ (p : List (Option Sector)). IsTreeOrEmpty prime.layout p prime.root told.there.levels)
-    (sym same) told.there.holds in
-    let got = c.in_ok-row.ensures.entry (c.is_repeated.ensures.only.honest.0 honest)
-    (c.is_repeated.ensures.agrees honest agrees) told.there.levels here in
+    let prime : ChainedTree = c.args.prime.now in
+    let here = subst (λ (p : List (Option Sector)). IsRowTree p prime told.there.planted) (sym same)
+    told.there.stands in
+    let got = c.in_ok-row.ensures.row (c.is_repeated.ensures.only.honest.0 honest)
+    (c.is_repeated.ensures.agrees honest agrees) told.there.planted here in
     let there = row_there spec i c.args.value_length pages rows prime c.args.under.now c.args.entry.now row told in
-    let found = got ∙ ap (entry_with (entries_of prime.layout told.there.levels)) c.value.ensures ∙ there in
+    let found = got ∙ ap (entry_with told.there.planted.entries) c.value.ensures ∙ there in
     let clash : None ≡ Some (entry_under spec Prime row) = sym c.in-None.is ∙ found in
     cc
 
 pub returns-in_err-copy_record-clause-damaged : goal.returns-in_err-copy_record-clause-damaged
-returns-in_err-copy_record-clause-damaged g c = λ honest agrees is spec i rows row told fits.
+returns-in_err-copy_record-clause-damaged g c = λ honest agrees spec i rows row told fits is.
     let pages : List (Option Sector) =
     (map_now c.args.pages.now (g.D.Device.state c.args.device.now).disk.present).pages in
     let same =
     same_pages c.args.pages.now c.is_repeated.new.pages (g.D.Device.state c.args.device.now) (g.D.Device.state
     c.is_repeated.new.device) c.is_repeated.ensures.unchanged (c.is_repeated.ensures.only.state honest) in
-    let prime : RootedTree = c.args.prime.now in
-    let here = subst (λ (p : List (Option Sector)). IsTreeOrEmpty prime.layout p prime.root told.there.levels)
-    (sym same) told.there.holds in
-    let got = c.in_ok-row.ensures.entry (c.is_repeated.ensures.only.honest.0 honest)
-    (c.is_repeated.ensures.agrees honest agrees) told.there.levels here in
+    let prime : ChainedTree = c.args.prime.now in
+    let here = subst (λ (p : List (Option Sector)). IsRowTree p prime told.there.planted) (sym same)
+    told.there.stands in
+    let got = c.in_ok-row.ensures.row (c.is_repeated.ensures.only.honest.0 honest)
+    (c.is_repeated.ensures.agrees honest agrees) told.there.planted here in
     let there = row_there spec i c.args.value_length pages rows prime c.args.under.now c.args.entry.now row told in
-    let found = got ∙ ap (entry_with (entries_of prime.layout told.there.levels)) c.value.ensures ∙ there in
+    let found = got ∙ ap (entry_with told.there.planted.entries) c.value.ensures ∙ there in
     let some : Some c.in-Some.row ≡ Some (entry_under spec Prime row) = sym c.in-Some.is ∙ found in
     let whole : c.in-Some.row ≡ entry_under spec Prime row = cc in
     let count =
-    ap (λ (e : Entry). length e.value) whole ∙ length-append row.bytes (flat_map (big_bytes 8) row.arrivals) in
+    ap (λ (l : List ℕ). length l) c.value-2.ensures ∙ ap (λ (e : Entry). length e.value) whole
+    ∙ length-append row.bytes (flat_map (big_bytes 8) row.arrivals) in
     let record_is =
     All-contains (λ (r : Row). length r.bytes ≡ spec.record_length) rows row told.there.records told.has in
     let low = c.in_err-copy_record.ensures.err.1 in
     omega arith
 
 pub returns-in_err-number-clause-damaged : goal.returns-in_err-number-clause-damaged
-returns-in_err-number-clause-damaged g c = λ honest agrees is spec i rows row told fits.
+returns-in_err-number-clause-damaged g c = λ honest agrees spec i rows row told fits is.
     let under = All-contains (IsUnder spec (Alternate i)) rows row told.pairs.fits told.has in
     let count : length c.key.result.now ≡ c.args.value_length + 8 = ap length c.key.ensures
     ∙ ap (λ (e : Entry). length e.key) told.is ∙ alternate_long spec i c.args.value_length row under told.long in
@@ -99,7 +152,7 @@ returns-in_err-number-clause-damaged g c = λ honest agrees is spec i rows row t
     omega arith
 
 pub returns-in_err-repeated-clause-damaged : goal.returns-in_err-repeated-clause-damaged
-returns-in_err-repeated-clause-damaged g c = λ honest agrees is spec i rows row told fits.
+returns-in_err-repeated-clause-damaged g c = λ honest agrees spec i rows row told fits is.
     let damaged = refused_by_call c.in_err-repeated.was c.from_residual-in_err-repeated.ensures.1 is in
     c.is_repeated.ensures.damaged honest agrees damaged told.pairs.levels told.pairs.holds
 
@@ -126,16 +179,17 @@ returns-clause-bytes g c = λ honest agrees spec i rows row told fits.
     let same =
     same_pages c.args.pages.now c.is_repeated.new.pages (g.D.Device.state c.args.device.now) (g.D.Device.state
     c.is_repeated.new.device) c.is_repeated.ensures.unchanged (c.is_repeated.ensures.only.state honest) in
-    let prime : RootedTree = c.args.prime.now in
-    let here = subst (λ (p : List (Option Sector)). IsTreeOrEmpty prime.layout p prime.root told.there.levels)
-    (sym same) told.there.holds in
-    let got = c.in_ok-row.ensures.entry (c.is_repeated.ensures.only.honest.0 honest)
-    (c.is_repeated.ensures.agrees honest agrees) told.there.levels here in
+    let prime : ChainedTree = c.args.prime.now in
+    let here = subst (λ (p : List (Option Sector)). IsRowTree p prime told.there.planted) (sym same)
+    told.there.stands in
+    let got = c.in_ok-row.ensures.row (c.is_repeated.ensures.only.honest.0 honest)
+    (c.is_repeated.ensures.agrees honest agrees) told.there.planted here in
     let there = row_there spec i c.args.value_length pages rows prime c.args.under.now c.args.entry.now row told in
-    let found = got ∙ ap (entry_with (entries_of prime.layout told.there.levels)) c.value.ensures ∙ there in
+    let found = got ∙ ap (entry_with told.there.planted.entries) c.value.ensures ∙ there in
     let some : Some c.in-Some.row ≡ Some (entry_under spec Prime row) = sym c.in-Some.is ∙ found in
     let whole : c.in-Some.row ≡ entry_under spec Prime row = cc in
     let record_is =
     All-contains (λ (r : Row). length r.bytes ≡ spec.record_length) rows row told.there.records told.has in
-    c.in_ok-copy_record.ensures.ok ∙ ap (λ (e : Entry). take (length c.args.bytes.now) e.value) whole
+    c.in_ok-copy_record.ensures.ok ∙ ap (take (length c.args.bytes.now)) c.value-2.ensures
+    ∙ ap (λ (e : Entry). take (length c.args.bytes.now) e.value) whole
     ∙ take_at row.bytes (flat_map (big_bytes 8) row.arrivals) (length c.args.bytes.now) (record_is ∙ sym fits)

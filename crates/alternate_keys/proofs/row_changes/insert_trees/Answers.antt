@@ -1,14 +1,16 @@
-use Rattle.std.proofs.Common.{◌≡◌, ◌<◌, ◌+◌, Ok, Err, ℕ, List, [], length, sym, ap, ◌∙◌, arith, refl}
+use Rattle.std.proofs.Common.{◌≡◌, ◌<◌, ◌+◌, Ok, Err, ℕ, List, [], length, sym, ap, subst, ◌∙◌, arith, refl}
 use Rattle.pages.specs.Use.{free_count}
 use Rattle.pages.specs.Pages.{committed_of, changed_pages_of}
 use Rattle.btree.proofs.Frames.{unchanged_on}
 use Rattle.records.specs.declared.fault.StoreFault.TheVariants.{Device, Full, Damaged}
 use Rattle.records.specs.Changes.{FileChange, insertion}
 use Rattle.records.specs.Files.{NamedFile}
+use Rattle.chains.specs.Chain.{pages_for}
+use Rattle.volume_format.specs.Chained.{chained_bytes}
 use Rattle.records.specs.Stores.{spec_of, is_change}
 use Rattle.volume_format.specs.Forest.{TreeLevels}
 use Rattle.alternate_keys.specs.declared.row_verb.RowVerb.TheVariants.{Insert}
-use Rattle.alternate_keys.specs.Calls.{Edits}
+use Rattle.row_trees.specs.Calls.{EditsPages}
 use Rattle.alternate_keys.specs.Moved.{named_after}
 use Rattle.alternate_keys.specs.Placed.{OnTrees}
 use Rattle.alternate_keys.proofs.Bytes.{all_bytes}
@@ -52,13 +54,18 @@ is_new g c trees = record {
 -- too few pages for one more entry
 lacks_entry : (g : Over) (c : After-insert_row g) → OnTrees g.D.Device (spec_of c.args.file.now) c.args.pages.now
     c.args.device.now c.args.listing.now (λ named generation left right. c.insert_row.result ≡ Err Full →
-    free_count (committed_of c.args.pages.now) < length (changed_pages_of c.args.pages.now) + 42)
+    free_count (committed_of c.args.pages.now) < length (changed_pages_of c.args.pages.now)
+    + (42 + pages_for (chained_bytes (spec_of c.args.file.now))))
 lacks_entry g c honest agrees named generation left right has full =
     let looks = c.look_at_new_row.ensures.looks in
     let trees = still_holds g.D.Device (record { honest = honest; agrees = agrees; has = has }) looks in
-    room_before c.args.pages.now c.look_at_new_row.new.pages 42 looks.unchanged
+    room_before c.args.pages.now c.look_at_new_row.new.pages
+    (42 + pages_for (chained_bytes (spec_of c.args.file.now))) looks.unchanged
+    (subst (λ (n : ℕ). free_count (committed_of c.look_at_new_row.new.pages)
+    < length (changed_pages_of c.look_at_new_row.new.pages) + (42 + pages_for n)) c.row_tree-prime.ensures.form
     (c.insert_row.ensures.room trees.honest trees.agrees left _ _ (prime_stands _ _ _ _ _ _ _ trees.has
-    c.file_tree-prime.result c.file_tree-prime.ensures.layout c.file_tree-prime.ensures.root) full)
+    c.row_tree-prime.result c.row_tree-prime.ensures.layout c.row_tree-prime.ensures.root
+    c.row_tree-prime.ensures.form) full))
 
 -- the row came
 abbrev Came : (g : Over) (c : Else-not-branch g) → NamedFile → ℕ → List TreeLevels → List TreeLevels → Type 0
@@ -73,8 +80,9 @@ came : (g : Over) (c : Else-not-branch g) {named : NamedFile} {generation : ℕ}
     → IsNew (spec_of c.args.file.now) named.file c.args.number c.next_arrival-arrival.result c.args.bytes.now →
     Came g c named generation left right
 came g c trees new =
-    has_new_row g.D.Device trees new c.number_of_new-own.ensures c.file_tree-prime.ensures.layout
-    c.file_tree-prime.ensures.root (ap Ok c.if-not-branch.false) c.in_ok-insert_row.ensures.inserted
+    has_new_row g.D.Device trees new c.number_of_new-own.ensures c.row_tree-prime.ensures.layout
+    c.row_tree-prime.ensures.root c.row_tree-prime.ensures.form (ap Ok c.if-not-branch.false)
+    c.in_ok-insert_row.ensures.inserted
 
 inserts : (g : Over) (c : Else-not-branch g) → OnTrees g.D.Device (spec_of c.args.file.now) c.args.pages.now
     c.args.device.now c.args.listing.now (λ named generation left right. Came g c named generation left right →
@@ -86,15 +94,9 @@ inserts g c honest agrees named generation left right has here =
     (c.in_ok-outcome.ensures.told honest agrees named generation left right has change) change here.none
 
 -- what is known before the pairs move
-edits_row : (g : Over) (c : After-insert_row g) → Edits g.D.Device (c.insert_row.result ≡ Err Device)
+edits_row : (g : Over) (c : After-insert_row g) → EditsPages g.D.Device (c.insert_row.result ≡ Err Device)
     c.look_at_new_row.new.pages c.look_at_new_row.new.device c.insert_row.new.pages c.insert_row.new.device
-edits_row g c = record {
-  only = c.insert_row.ensures.only;
-  committed = c.insert_row.ensures.committed;
-  catalog = c.insert_row.ensures.catalog;
-  agrees = c.insert_row.ensures.agrees;
-  is_open = c.insert_row.ensures.open;
-}
+edits_row g c = c.insert_row.ensures.edits
 
 abbrev Moves : (g : Over) (c : After-move_row g) → NamedFile → ℕ → List TreeLevels → List TreeLevels → Type 0
 Moves g c named generation left right =
@@ -108,12 +110,12 @@ moves : (g : Over) (c : After-move_row g) {named : NamedFile} {generation : ℕ}
     right c.args.listing.now c.args.number c.next_arrival-arrival.result c.args.bytes.now c.insert_row.new.prime
     c.look_at_new_row.new.pages c.look_at_new_row.new.device c.insert_row.new.pages
     → Inserts (spec_of c.args.file.now) c.args.number c.next_arrival-arrival.result c.args.bytes.now named.file
-    c.in_ok-outcome.outcome → Edits g.D.Device (c.insert_row.result ≡ Err Device) c.look_at_new_row.new.pages
+    c.in_ok-outcome.outcome → EditsPages g.D.Device (c.insert_row.result ≡ Err Device) c.look_at_new_row.new.pages
     c.look_at_new_row.new.device c.insert_row.new.pages c.insert_row.new.device → Moves g c named generation left right
 moves g c honest here done edits =
     inserted_moves g.D.Device honest c.look_at_new_row.ensures.looks here done edits
-    c.in_ok-insert_row.ensures.changed_pages c.insert_row.ensures.layout c.file_tree-prime.ensures.layout
-    c.file_tree-prime.ensures.root c.root-root.ensures
+    c.in_ok-insert_row.ensures.changed_pages c.insert_row.ensures.layout c.insert_row.ensures.form
+    c.row_tree-prime.ensures.layout c.row_tree-prime.ensures.root c.row_tree-prime.ensures.form c.root-root.ensures
 
 pub returns-in_err-outcome-clause-damaged : goal.returns-in_err-outcome-clause-damaged
 returns-in_err-outcome-clause-damaged g c = λ honest agrees named generation left right has refused.
@@ -145,7 +147,7 @@ returns-in_err-insert_row-clause-damaged g c = λ honest agrees named generation
     let at = goal.at.returns-in_err-insert_row-clause-damaged g c in
     let trees = trees_looked g at.After-look_at_new_row honest agrees named generation left right has in
     c.insert_row.ensures.damaged trees.honest trees.agrees left _ _ (prime_stands _ _ _ _ _ _ _ trees.has
-    c.file_tree-prime.result c.file_tree-prime.ensures.layout c.file_tree-prime.ensures.root)
+    c.row_tree-prime.result c.row_tree-prime.ensures.layout c.row_tree-prime.ensures.root c.row_tree-prime.ensures.form)
     (refused_by_call c.in_err-insert_row.was c.from_residual-in_err-insert_row.ensures.1 refused)
 
 pub returns-then-not-branch-clause-outcome : goal.returns-then-not-branch-clause-outcome
@@ -153,7 +155,7 @@ returns-then-not-branch-clause-outcome g c = λ honest agrees named generation l
     let at = goal.at.returns-then-not-branch-clause-outcome g c in
     let trees = trees_looked g at.After-look_at_new_row honest agrees named generation left right has in
     let some = c.in_ok-insert_row.ensures.there trees.honest trees.agrees left _ _ (prime_stands _ _ _ _ _ _ _ trees.has
-    c.file_tree-prime.result c.file_tree-prime.ensures.layout c.file_tree-prime.ensures.root)
+    c.row_tree-prime.result c.row_tree-prime.ensures.layout c.row_tree-prime.ensures.root c.row_tree-prime.ensures.form)
     (ap Ok c.if-not-branch.true) in
     c.none-then-not-branch.ensures ∙ sym (ap (λ (ch : FileChange). ch.outcome) (taken_numbered trees.has
     (is_new g at.After-insert_row trees) c.number_of_new-own.ensures some))
@@ -222,7 +224,7 @@ returns-then-arrival-clause-edits g c =
     edits_blamed g.D.Device _ _ _ _ _ _ (λ is. damaged_not_device is)
     (looks_edits g.D.Device _ _ _ _ _ c.look_at_new_row.ensures.looks)
 
-put : (g : Over) (c : After-insert_row g) → Edits g.D.Device (c.insert_row.result ≡ Err Device) c.args.pages.now
+put : (g : Over) (c : After-insert_row g) → EditsPages g.D.Device (c.insert_row.result ≡ Err Device) c.args.pages.now
     c.args.device.now c.insert_row.new.pages c.insert_row.new.device
 put g c = edits_last g.D.Device _ _ _ _ _ _ _ _ _ (λ is. is)
     (looks_edits g.D.Device _ _ _ _ _ c.look_at_new_row.ensures.looks) (edits_row g c)
@@ -313,18 +315,19 @@ returns-in_err-insert_row-clause-cause g c =
 pub move_row-requires-clause-sectors : goal.move_row-requires-clause-sectors
 move_row-requires-clause-sectors g c =
     sectors_still g.D.Device _ c.look_at_new_row.new.pages c.insert_row.new.pages c.look_at_new_row.new.device
-    c.insert_row.new.device c.insert_row.ensures.only c.insert_row.ensures.committed (sectors_still g.D.Device _
+    c.insert_row.new.device c.insert_row.ensures.edits.only c.insert_row.ensures.edits.committed (sectors_still
+    g.D.Device _
     c.args.pages.now c.look_at_new_row.new.pages c.args.device.now c.look_at_new_row.new.device
     c.look_at_new_row.ensures.looks.only c.look_at_new_row.ensures.looks.unchanged.committed c.requires.sectors)
 
 pub move_row-requires-clause-open : goal.move_row-requires-clause-open
-move_row-requires-clause-open g c = c.insert_row.ensures.open
+move_row-requires-clause-open g c = c.insert_row.ensures.edits.is_open
 
 pub returns-in_err-listing-clause-spent : goal.returns-in_err-listing-clause-spent
 returns-in_err-listing-clause-spent g c =
     λ is. spent_before c.args.pages.now c.look_at_new_row.new.pages
     c.look_at_new_row.ensures.looks.unchanged.committed (spent_before c.look_at_new_row.new.pages
-    c.insert_row.new.pages c.insert_row.ensures.committed (c.move_row.ensures.spent (refused_by_call
+    c.insert_row.new.pages c.insert_row.ensures.edits.committed (c.move_row.ensures.spent (refused_by_call
     c.in_err-listing.was c.from_residual-in_err-listing.ensures.1 is)))
 
 pub returns-in_err-listing-clause-cause : goal.returns-in_err-listing-clause-cause

@@ -1,6 +1,5 @@
 use Rattle.std.proofs.Common.{◌≡◌, Err, ℕ, List, length, sym, ap, ◌∙◌, arith, refl}
 use Rattle.btree.proofs.Frames.{unchanged_on}
-use Rattle.btree_pages.specs.declared.row_layout.RowLayout.{RowLayout}
 use Rattle.records.specs.declared.fault.StoreFault.TheVariants.{Device, Damaged}
 use Rattle.records.specs.Rows.{named_pair}
 use Rattle.records.specs.Changes.{FileChange, replacement}
@@ -8,14 +7,14 @@ use Rattle.records.specs.Files.{NamedFile}
 use Rattle.records.specs.Stores.{spec_of, pair_of, is_change}
 use Rattle.volume_format.specs.Forest.{TreeLevels}
 use Rattle.alternate_keys.specs.declared.row_verb.RowVerb.TheVariants.{Replace}
-use Rattle.alternate_keys.specs.Calls.{Edits}
+use Rattle.row_trees.specs.Calls.{EditsPages}
 use Rattle.alternate_keys.specs.Moved.{named_after}
 use Rattle.alternate_keys.specs.Placed.{OnTrees}
 use Rattle.alternate_keys.proofs.Calling.{looks_edits, edits_blamed, edits_last, sectors_still}
 use Rattle.alternate_keys.proofs.Faults.{never_device, never_full, refused_by_call, never_full_memory, never_spent}
 use Rattle.alternate_keys.proofs.FileTrees.{arrival_few, arrival_is, prime_stands, prime_rows, all_pairs}
 use Rattle.alternate_keys.proofs.FoundRow.{none_at, entry_there, value_long}
-use Rattle.alternate_keys.proofs.WholeTrees.{value_whole}
+use Rattle.alternate_keys.proofs.RowForms.{value_whole}
 use Rattle.alternate_keys.proofs.HeldTrees.{HoldsRow, still_holds, holds_row}
 use Rattle.alternate_keys.proofs.Moving.{IsMoving, room_then, few_then, placed_then}
 use Rattle.alternate_keys.proofs.MovingRows.{replaced_moves}
@@ -29,7 +28,7 @@ use Rattle.alternate_keys.proofs.Passing.{damaged_not_device}
 use Rattle.alternate_keys.proofs.row_changes.replace_trees.Given.{Over}
 use Rattle.alternate_keys.proofs.row_changes.replace_trees.Goals as goal
 use Rattle.alternate_keys.proofs.row_changes.replace_trees.Goals.{After-find_row, In-Some, After-find_duplicate_key}
-use Rattle.alternate_keys.proofs.row_changes.replace_trees.Goals.{Else-not-is_done, After-replace_among, After-move_row}
+use Rattle.alternate_keys.proofs.row_changes.replace_trees.Goals.{Else-not-is_done, After-replace_row, After-move_row}
 
 -- the pair that the record names
 pair_is : (g : Over) (c : After-find_row g)
@@ -54,8 +53,8 @@ row_found g c same honest agrees named generation left right has =
     (named_pair c.args.file.now.organization c.args.number c.args.bytes.now)
     (pair_of c.args.file.now.organization c.part_of-prime_key.result.now c.args.number) same c.in_ok-row.field-0
     c.in-Some.row
-    (c.in_ok-row.ensures.found honest agrees named.file.rows (prime_rows _ _ _ _ _ _ _ has c.file_tree-prime.result
-    c.file_tree-prime.ensures.layout c.file_tree-prime.ensures.root)) c.in-Some.is
+    (c.in_ok-row.ensures.found honest agrees named.file.rows (prime_rows _ _ _ _ _ _ _ has c.row_tree-prime.result
+    c.row_tree-prime.ensures.layout c.row_tree-prime.ensures.root c.row_tree-prime.ensures.form)) c.in-Some.is
 
 -- no value of the record bars it
 replaces : (g : Over) (c : Else-not-is_done g) {named : NamedFile} {generation : ℕ} {left right : List TreeLevels}
@@ -74,7 +73,7 @@ Moves g c named generation left right =
     IsMoving g.D.Device Replace (spec_of c.args.file.now) named
     (named_after named (replacement c.args.number c.args.bytes.now named.file)) generation left right
     c.args.listing.now c.root-root.result c.value-old.result.now c.args.bytes.now c.next_arrival-arrival.result
-    c.arrival_next-next.result c.args.pages.now c.args.device.now c.replace_among.new.pages c.replace_among.new.device
+    c.arrival_next-next.result c.args.pages.now c.args.device.now c.replace_row.new.pages c.replace_row.new.device
 
 moves : (g : Over) (c : After-move_row g) {named : NamedFile} {generation : ℕ} {left right : List TreeLevels}
     → g.D.Device.is_honest c.args.device.now → (found : HoldsRow g.D.Device (spec_of c.args.file.now) named generation
@@ -84,22 +83,25 @@ moves : (g : Over) (c : After-move_row g) {named : NamedFile} {generation : ℕ}
     Moves g c named generation left right
 moves g c honest found done =
     replaced_moves g.D.Device c.args.number c.args.bytes.now c.args.file.now.sound honest c.find_row.ensures.looks found
-    c.find_duplicate_key.ensures.looks done c.replace_among.ensures.edits c.in_ok-replace_among.ensures.few
+    c.find_duplicate_key.ensures.looks done c.replace_row.ensures.edits c.in_ok-replace_row.ensures.few
     c.next_arrival-arrival.ensures c.key.ensures c.value-old.ensures
     (λ row of is. c.deref.ensures.value ∙ c.in_ok-value.ensures.value row of is) c.arrival_next-next.ensures
-    c.replace_among.ensures.tree c.file_tree-prime.ensures.layout c.file_tree-prime.ensures.root c.root-root.ensures
-    c.in_ok-replace_among.ensures.replaced
+    c.replace_row.ensures.tree c.row_tree-prime.ensures.layout c.row_tree-prime.ensures.root
+    c.row_tree-prime.ensures.form c.root-root.ensures
+    c.in_ok-replace_row.ensures.replaced
 
 pub returns-in_err-row-clause-damaged : goal.returns-in_err-row-clause-damaged
 returns-in_err-row-clause-damaged g c = λ honest agrees named generation left right has refused.
     c.find_row.ensures.damaged honest agrees named.file.rows
-    (prime_rows _ _ _ _ _ _ _ has c.file_tree-prime.result c.file_tree-prime.ensures.layout
-    c.file_tree-prime.ensures.root) (refused_by_call c.in_err-row.was c.from_residual.ensures.1 refused)
+    (prime_rows _ _ _ _ _ _ _ has c.row_tree-prime.result c.row_tree-prime.ensures.layout
+    c.row_tree-prime.ensures.root c.row_tree-prime.ensures.form)
+    (refused_by_call c.in_err-row.was c.from_residual.ensures.1 refused)
 
 pub returns-in-None-clause-outcome : goal.returns-in-None-clause-outcome
 returns-in-None-clause-outcome g c = λ honest agrees named generation left right has.
     let told = c.in_ok-row.ensures.found honest agrees named.file.rows (prime_rows _ _ _ _ _ _ _ has
-    c.file_tree-prime.result c.file_tree-prime.ensures.layout c.file_tree-prime.ensures.root) in
+    c.row_tree-prime.result c.row_tree-prime.ensures.layout c.row_tree-prime.ensures.root
+    c.row_tree-prime.ensures.form) in
     c.none.ensures ∙ sym (ap (λ (ch : FileChange). ch.outcome) (named_missing c.args.number c.args.bytes.now
     named.file has.spec_is (pair_is g (goal.at.returns-in-None-clause-outcome g c).After-find_row)
     (none_at _ _ _ _ _ _ _ has _ c.in_ok-row.field-0 told c.in-None.is)))
@@ -130,15 +132,15 @@ returns-then-arrival-clause-damaged g c = λ honest agrees named generation left
     let most = c.if-arrival.true in
     omega (arith, few, same, own, most)
 
-pub returns-in_err-replace_among-clause-damaged : goal.returns-in_err-replace_among-clause-damaged
-returns-in_err-replace_among-clause-damaged g c = λ honest agrees named generation left right has refused.
-    let at = goal.at.returns-in_err-replace_among-clause-damaged g c in
+pub returns-in_err-replace_row-clause-damaged : goal.returns-in_err-replace_row-clause-damaged
+returns-in_err-replace_row-clause-damaged g c = λ honest agrees named generation left right has refused.
+    let at = goal.at.returns-in_err-replace_row-clause-damaged g c in
     let found = row_found g at.In-Some (pair_is g at.After-find_row) honest agrees named generation left right has in
     let looked = still_holds g.D.Device found.trees c.find_duplicate_key.ensures.looks in
-    c.replace_among.ensures.damaged looked.honest looked.agrees left _ _
-    (prime_stands _ _ _ _ _ _ _ looked.has c.file_tree-prime.result c.file_tree-prime.ensures.layout
-    c.file_tree-prime.ensures.root) (entry_there found.row c.key.result.now c.key.ensures)
-    (refused_by_call c.in_err-replace_among.was c.from_residual-in_err-replace_among.ensures.1 refused)
+    c.replace_row.ensures.damaged looked.honest looked.agrees left _ _
+    (prime_stands _ _ _ _ _ _ _ looked.has c.row_tree-prime.result c.row_tree-prime.ensures.layout
+    c.row_tree-prime.ensures.root c.row_tree-prime.ensures.form) (entry_there found.row c.key.result.now c.key.ensures)
+    (refused_by_call c.in_err-replace_row.was c.from_residual-in_err-replace_row.ensures.1 refused)
 
 pub returns-in_err-listing-clause-room : goal.returns-in_err-listing-clause-room
 returns-in_err-listing-clause-room g c = λ honest agrees named generation left right has full.
@@ -181,44 +183,44 @@ returns-clause-few g c = λ honest agrees named generation left right has.
 
 pub find_duplicate_key-requires-clause-values : goal.find_duplicate_key-requires-clause-values
 find_duplicate_key-requires-clause-values g c = (
-  value_long (spec_of c.args.file.now) c.file_tree-prime.result.layout c.in_ok-row.field-0 c.in-Some.row
-      c.value-old.result.now c.args.file.now.sound c.file_tree-prime.ensures.layout c.in_ok-row.ensures.lengths
+  value_long (spec_of c.args.file.now) c.row_tree-prime.result c.in_ok-row.field-0 c.in-Some.row
+      c.value-old.result.now c.row_tree-prime.ensures.layout c.row_tree-prime.ensures.form c.in_ok-row.ensures.lengths
       c.in-Some.is c.value-old.ensures,
   c.requires.bytes,
 )
 
 pub value_after-requires-clause-old : goal.value_after-requires-clause-old
 value_after-requires-clause-old g c =
-    value_long (spec_of c.args.file.now) c.file_tree-prime.result.layout c.in_ok-row.field-0 c.in-Some.row
-    c.value-old.result.now c.args.file.now.sound c.file_tree-prime.ensures.layout c.in_ok-row.ensures.lengths
+    value_long (spec_of c.args.file.now) c.row_tree-prime.result c.in_ok-row.field-0 c.in-Some.row
+    c.value-old.result.now c.row_tree-prime.ensures.layout c.row_tree-prime.ensures.form c.in_ok-row.ensures.lengths
     c.in-Some.is c.value-old.ensures
 
-pub replace_among-requires-clause-value : goal.replace_among-requires-clause-value
-replace_among-requires-clause-value g c =
+pub replace_row-requires-clause-value : goal.replace_row-requires-clause-value
+replace_row-requires-clause-value g c =
     ap (λ (l : List ℕ). length l) c.deref.ensures.value ∙ c.in_ok-value.ensures.long
-    ∙ sym (value_whole (spec_of c.args.file.now) c.args.file.now.sound)
-    ∙ sym (ap (λ (l : RowLayout). l.value_length) c.file_tree-prime.ensures.layout)
+    ∙ sym (value_whole (spec_of c.args.file.now) c.row_tree-prime.result c.row_tree-prime.ensures.layout
+    c.row_tree-prime.ensures.form)
 
 pub move_row-requires-clause-values : goal.move_row-requires-clause-values
 move_row-requires-clause-values g c = (
-  value_long (spec_of c.args.file.now) c.file_tree-prime.result.layout c.in_ok-row.field-0 c.in-Some.row
-      c.value-old.result.now c.args.file.now.sound c.file_tree-prime.ensures.layout c.in_ok-row.ensures.lengths
+  value_long (spec_of c.args.file.now) c.row_tree-prime.result c.in_ok-row.field-0 c.in-Some.row
+      c.value-old.result.now c.row_tree-prime.ensures.layout c.row_tree-prime.ensures.form c.in_ok-row.ensures.lengths
       c.in-Some.is c.value-old.ensures,
   c.requires.bytes,
 )
 
 -- what was read and written until a call
-looked : (g : Over) (c : After-find_duplicate_key g) → Edits g.D.Device (c.find_duplicate_key.result ≡ Err Device)
+looked : (g : Over) (c : After-find_duplicate_key g) → EditsPages g.D.Device (c.find_duplicate_key.result ≡ Err Device)
     c.args.pages.now c.args.device.now c.find_duplicate_key.new.pages c.find_duplicate_key.new.device
 looked g c =
     edits_last g.D.Device _ _ _ _ _ _ _ _ _ (λ is. is) (looks_edits g.D.Device _ _ _ _ _ c.find_row.ensures.looks)
     (looks_edits g.D.Device _ _ _ _ _ c.find_duplicate_key.ensures.looks)
 
-put : (g : Over) (c : After-replace_among g) → Edits g.D.Device (c.find_duplicate_key.result ≡ Err Device)
+put : (g : Over) (c : After-replace_row g) → EditsPages g.D.Device (c.find_duplicate_key.result ≡ Err Device)
     c.args.pages.now c.args.device.now c.find_duplicate_key.new.pages c.find_duplicate_key.new.device →
-    Edits g.D.Device (c.replace_among.result ≡ Err Device) c.args.pages.now c.args.device.now
-    c.replace_among.new.pages c.replace_among.new.device
-put g c before = edits_last g.D.Device _ _ _ _ _ _ _ _ _ (λ is. is) before c.replace_among.ensures.edits
+    EditsPages g.D.Device (c.replace_row.result ≡ Err Device) c.args.pages.now c.args.device.now
+    c.replace_row.new.pages c.replace_row.new.device
+put g c before = edits_last g.D.Device _ _ _ _ _ _ _ _ _ (λ is. is) before c.replace_row.ensures.edits
 
 pub returns-in_err-row-clause-edits : goal.returns-in_err-row-clause-edits
 returns-in_err-row-clause-edits g c =
@@ -251,34 +253,34 @@ returns-in_err-value-clause-edits g c =
     (refused_by_call c.in_err-value.was c.from_residual-in_err-value.ensures.1 is)))
     (looked g (goal.at.returns-in_err-value-clause-edits g c).After-find_duplicate_key)
 
-pub returns-in_err-replace_among-clause-edits : goal.returns-in_err-replace_among-clause-edits
-returns-in_err-replace_among-clause-edits g c =
-    let at = goal.at.returns-in_err-replace_among-clause-edits g c in
+pub returns-in_err-replace_row-clause-edits : goal.returns-in_err-replace_row-clause-edits
+returns-in_err-replace_row-clause-edits g c =
+    let at = goal.at.returns-in_err-replace_row-clause-edits g c in
     edits_blamed g.D.Device _ _ _ _ _ _
-    (λ is. refused_by_call c.in_err-replace_among.was c.from_residual-in_err-replace_among.ensures.1 is)
-    (put g at.After-replace_among (looked g at.After-find_duplicate_key))
+    (λ is. refused_by_call c.in_err-replace_row.was c.from_residual-in_err-replace_row.ensures.1 is)
+    (put g at.After-replace_row (looked g at.After-find_duplicate_key))
 
 pub returns-in_err-listing-clause-edits : goal.returns-in_err-listing-clause-edits
 returns-in_err-listing-clause-edits g c =
     let at = goal.at.returns-in_err-listing-clause-edits g c in
     edits_last g.D.Device _ _ _ _ _ _ _ _ _
     (λ is. refused_by_call c.in_err-listing.was c.from_residual-in_err-listing.ensures.1 is)
-    (put g at.After-replace_among (looked g at.After-find_duplicate_key)) c.move_row.ensures.edits
+    (put g at.After-replace_row (looked g at.After-find_duplicate_key)) c.move_row.ensures.edits
 
 pub returns-clause-edits : goal.returns-clause-edits
 returns-clause-edits g c =
     let at = goal.at.returns-clause-edits g c in
     edits_last g.D.Device _ _ _ _ _ _ _ _ _ (λ is. never_ok is)
-    (put g at.After-replace_among (looked g at.After-find_duplicate_key)) c.move_row.ensures.edits
+    (put g at.After-replace_row (looked g at.After-find_duplicate_key)) c.move_row.ensures.edits
 
 pub returns-then-not-is_done-clause-same : goal.returns-then-not-is_done-clause-same
 returns-then-not-is_done-clause-same g c =
     λ none. unchanged_on c.args.pages.now c.find_row.new.pages c.find_duplicate_key.new.pages
     c.find_row.ensures.looks.unchanged c.find_duplicate_key.ensures.looks.unchanged
 
-pub returns-in_err-replace_among-clause-full : goal.returns-in_err-replace_among-clause-full
-returns-in_err-replace_among-clause-full g c = λ honest agrees named generation left right has full.
-    let at = goal.at.returns-in_err-replace_among-clause-full g c in
+pub returns-in_err-replace_row-clause-full : goal.returns-in_err-replace_row-clause-full
+returns-in_err-replace_row-clause-full g c = λ honest agrees named generation left right has full.
+    let at = goal.at.returns-in_err-replace_row-clause-full g c in
     let found = row_found g at.In-Some (pair_is g at.After-find_row) honest agrees named generation left right has in
     ap (λ (ch : FileChange). is_change ch.outcome) (replaces g at.Else-not-is_done found)
     ∙ sym c.is_done.ensures ∙ c.if-not-is_done.false
@@ -354,55 +356,55 @@ returns-in_err-value-clause-room g c =
     λ honest agrees named generation left right has is. absurd (never_full_memory c.value_after.result
     c.value_after.ensures.memory (refused_by_call c.in_err-value.was c.from_residual-in_err-value.ensures.1 is))
 
-pub replace_among-requires-clause-sectors : goal.replace_among-requires-clause-sectors
-replace_among-requires-clause-sectors g c =
+pub replace_row-requires-clause-sectors : goal.replace_row-requires-clause-sectors
+replace_row-requires-clause-sectors g c =
     sectors_still g.D.Device _ c.find_row.new.pages c.find_duplicate_key.new.pages c.find_row.new.device
     c.find_duplicate_key.new.device c.find_duplicate_key.ensures.looks.only
     c.find_duplicate_key.ensures.looks.unchanged.committed (sectors_still g.D.Device _ c.args.pages.now
     c.find_row.new.pages c.args.device.now c.find_row.new.device c.find_row.ensures.looks.only
     c.find_row.ensures.looks.unchanged.committed c.requires.sectors)
 
-pub replace_among-requires-clause-open : goal.replace_among-requires-clause-open
-replace_among-requires-clause-open g c = c.find_duplicate_key.ensures.looks.is_open
+pub replace_row-requires-clause-open : goal.replace_row-requires-clause-open
+replace_row-requires-clause-open g c = c.find_duplicate_key.ensures.looks.is_open
 
-pub returns-in_err-replace_among-clause-spent : goal.returns-in_err-replace_among-clause-spent
-returns-in_err-replace_among-clause-spent g c =
+pub returns-in_err-replace_row-clause-spent : goal.returns-in_err-replace_row-clause-spent
+returns-in_err-replace_row-clause-spent g c =
     λ is. spent_before c.args.pages.now c.find_row.new.pages c.find_row.ensures.looks.unchanged.committed
     (spent_before c.find_row.new.pages c.find_duplicate_key.new.pages
-    c.find_duplicate_key.ensures.looks.unchanged.committed (c.replace_among.ensures.spent (refused_by_call
-    c.in_err-replace_among.was c.from_residual-in_err-replace_among.ensures.1 is)))
+    c.find_duplicate_key.ensures.looks.unchanged.committed (c.replace_row.ensures.spent (refused_by_call
+    c.in_err-replace_row.was c.from_residual-in_err-replace_row.ensures.1 is)))
 
-pub returns-in_err-replace_among-clause-cause : goal.returns-in_err-replace_among-clause-cause
-returns-in_err-replace_among-clause-cause g c =
-    passed c.from_residual-in_err-replace_among.result c.in_err-replace_among.field-0.0
-    c.from_residual-in_err-replace_among.ensures.1 (λ r. IfErr r IsWriteFault) (read_is_write
-    c.in_err-replace_among.field-0.0 c.in_err-replace_among.ensures.cause)
+pub returns-in_err-replace_row-clause-cause : goal.returns-in_err-replace_row-clause-cause
+returns-in_err-replace_row-clause-cause g c =
+    passed c.from_residual-in_err-replace_row.result c.in_err-replace_row.field-0.0
+    c.from_residual-in_err-replace_row.ensures.1 (λ r. IfErr r IsWriteFault) (read_is_write
+    c.in_err-replace_row.field-0.0 c.in_err-replace_row.ensures.cause)
 
-pub returns-in_err-replace_among-clause-room : goal.returns-in_err-replace_among-clause-room
-returns-in_err-replace_among-clause-room g c =
-    λ honest agrees named generation left right has is. absurd (never_full c.replace_among.result
-    c.replace_among.ensures.cause (refused_by_call c.in_err-replace_among.was
-    c.from_residual-in_err-replace_among.ensures.1 is))
+pub returns-in_err-replace_row-clause-room : goal.returns-in_err-replace_row-clause-room
+returns-in_err-replace_row-clause-room g c =
+    λ honest agrees named generation left right has is. absurd (never_full c.replace_row.result
+    c.replace_row.ensures.cause (refused_by_call c.in_err-replace_row.was
+    c.from_residual-in_err-replace_row.ensures.1 is))
 
 pub move_row-requires-clause-sectors : goal.move_row-requires-clause-sectors
 move_row-requires-clause-sectors g c =
-    sectors_still g.D.Device _ c.find_duplicate_key.new.pages c.replace_among.new.pages
-    c.find_duplicate_key.new.device c.replace_among.new.device c.replace_among.ensures.edits.only
-    c.replace_among.ensures.edits.committed (sectors_still g.D.Device _ c.find_row.new.pages
+    sectors_still g.D.Device _ c.find_duplicate_key.new.pages c.replace_row.new.pages
+    c.find_duplicate_key.new.device c.replace_row.new.device c.replace_row.ensures.edits.only
+    c.replace_row.ensures.edits.committed (sectors_still g.D.Device _ c.find_row.new.pages
     c.find_duplicate_key.new.pages c.find_row.new.device c.find_duplicate_key.new.device
     c.find_duplicate_key.ensures.looks.only c.find_duplicate_key.ensures.looks.unchanged.committed (sectors_still
     g.D.Device _ c.args.pages.now c.find_row.new.pages c.args.device.now c.find_row.new.device
     c.find_row.ensures.looks.only c.find_row.ensures.looks.unchanged.committed c.requires.sectors))
 
 pub move_row-requires-clause-open : goal.move_row-requires-clause-open
-move_row-requires-clause-open g c = c.replace_among.ensures.edits.is_open
+move_row-requires-clause-open g c = c.replace_row.ensures.edits.is_open
 
 pub returns-in_err-listing-clause-spent : goal.returns-in_err-listing-clause-spent
 returns-in_err-listing-clause-spent g c =
     λ is. spent_before c.args.pages.now c.find_row.new.pages c.find_row.ensures.looks.unchanged.committed
     (spent_before c.find_row.new.pages c.find_duplicate_key.new.pages
     c.find_duplicate_key.ensures.looks.unchanged.committed (spent_before c.find_duplicate_key.new.pages
-    c.replace_among.new.pages c.replace_among.ensures.edits.committed (c.move_row.ensures.spent (refused_by_call
+    c.replace_row.new.pages c.replace_row.ensures.edits.committed (c.move_row.ensures.spent (refused_by_call
     c.in_err-listing.was c.from_residual-in_err-listing.ensures.1 is))))
 
 pub returns-in_err-listing-clause-cause : goal.returns-in_err-listing-clause-cause

@@ -13,10 +13,11 @@ use Rattle.volume_format.specs.Volume.{listing_of}
 use Rattle.volume_format.proofs.Faults.{damaged_back}
 use Rattle.alternate_keys.specs.Listed.{root_in}
 use Rattle.alternate_keys.specs.Placed.{HasTrees}
-use Rattle.alternate_keys.specs.Seen.{HasRows}
+use Rattle.alternate_keys.specs.Seen.{HasRows, row_tree_of}
 use Rattle.alternate_keys.proofs.Faults.{refused_by_call}
 use Rattle.alternate_keys.proofs.FileTrees.{good_spec}
 use Rattle.alternate_keys.proofs.Migrating.{rows_there, rows_counted}
+use Rattle.alternate_keys.proofs.ThereSeen.{rows_stand}
 use Rattle.alternate_keys.proofs.second_mark.counted_value.Given.{Over}
 use Rattle.alternate_keys.proofs.second_mark.counted_value.Goals as goal
 use Rattle.alternate_keys.proofs.second_mark.counted_value.Goals.{After-count}
@@ -29,7 +30,8 @@ whole value part long is = is ∙ take_all 83 value (omega (arith, long))
 rows : (g : Over) (c : After-count g) (spec : Spec) (named : NamedFile) (generation : ℕ) (left right : List TreeLevels)
     → HasTrees spec named generation (pages_on g.D.Device c.args.pages.now c.args.device.now) left right
     c.args.entry.now.value
-    → HasRows spec (pages_on g.D.Device c.args.pages.now c.args.device.now) named.file.rows c.in_ok-rows.rows
+    → HasRows spec (pages_on g.D.Device c.args.pages.now c.args.device.now) named.file.rows
+    (row_tree_of spec c.in_ok-rows.rows)
 rows g c spec named generation left right has =
     rows_there spec named generation (pages_on g.D.Device c.args.pages.now c.args.device.now) left right
     c.args.entry.now.value has c.in_ok-rows.rows
@@ -52,7 +54,7 @@ pub returns-in-Ok-clause-value : goal.returns-in-Ok-clause-value
 returns-in-Ok-clause-value g c = λ honest agrees spec named generation left right has.
     let at = goal.at.returns-in-Ok-clause-value g c in
     let there = rows g at.After-count spec named generation left right has in
-    let count = c.in-Ok.ensures.count honest agrees there.levels there.holds
+    let count = c.in-Ok.ensures.count honest agrees there.planted.levels (rows_stand there)
     ∙ rows_counted spec (pages_on g.D.Device c.args.pages.now c.args.device.now) named.file.rows c.in_ok-rows.rows
     there in
     let same = whole c.args.entry.now.value c.listing_part-listing.result.now c.requires.long
@@ -70,4 +72,4 @@ returns-in-Err-clause-damaged g c = λ honest agrees spec named generation left 
     let there = rows g at.After-count spec named generation left right has in
     let told : c.to_fault.result ≡ Damaged = cc in
     let fault : c.in-Err.error ≡ pages.Damaged = damaged_back c.in-Err.error (sym c.to_fault.ensures ∙ told) in
-    c.in-Err.ensures.damaged honest agrees (ap Err fault) there.levels there.holds
+    c.in-Err.ensures.damaged honest agrees (ap Err fault) there.planted.levels (rows_stand there)

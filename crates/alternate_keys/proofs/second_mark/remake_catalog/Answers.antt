@@ -16,7 +16,7 @@ use Rattle.volume_format.specs.Grows.{IsTreeAmong}
 use Rattle.volume_format.specs.Volume.{MapHolds, catalog_entry, trees_of}
 use Rattle.volume_format.proofs.Faults.{full_back}
 use Rattle.btree.specs.Calls.{pages_on}
-use Rattle.alternate_keys.specs.Calls.{Edits}
+use Rattle.row_trees.specs.Calls.{EditsPages}
 use Rattle.alternate_keys.specs.Faults.{IsWriteFault}
 use Rattle.alternate_keys.proofs.Calling.{edits_blamed, edits_last, looks_edits, prepares_of, prepares_set}
 use Rattle.alternate_keys.proofs.Calling.{sectors_still}
@@ -32,12 +32,12 @@ use Rattle.alternate_keys.proofs.second_mark.remake_catalog.Goals.{After-clear_a
 
 -- what the calls before the new tree change
 cleared : (g : Over) (c : After-clear_among g) (B : Type 0) → (B → c.clear_among.result ≡ Err Device)
-    → Edits g.D.Device B c.args.pages.now c.args.device.now c.clear_among.new.pages c.clear_among.new.device
+    → EditsPages g.D.Device B c.args.pages.now c.args.device.now c.clear_among.new.pages c.clear_among.new.device
 cleared g c B from = edits_last g.D.Device (c.counted_leaves.result ≡ Err Device) (c.clear_among.result ≡ Err Device) B
     _ _ _ _ _ _ from (looks_edits g.D.Device _ _ _ _ _ c.counted_leaves.ensures.looks) c.clear_among.ensures.edits
 
 -- and those with it
-built : (g : Over) (c : After-build g) → Edits g.D.Device ⊥ c.args.pages.now c.args.device.now c.build.new.pages
+built : (g : Over) (c : After-build g) → EditsPages g.D.Device ⊥ c.args.pages.now c.args.device.now c.build.new.pages
     c.clear_among.new.device
 built g c =
     edits_last g.D.Device (c.clear_among.result ≡ Err Device) ⊥ ⊥ _ _ _ _ _ _ (λ is. is)

@@ -1,31 +1,34 @@
-use Rattle.std.proofs.Common.{◌≡◌, ◌≤◌, List, Err, sym, ap, subst, ◌∙◌, arith}
+use Rattle.std.proofs.Common.{◌≡◌, ◌≤◌, inr, List, Err, sym, ap, subst, ◌∙◌, arith}
 use Rattle.std.specs.Prelude.{Option}
 use Rattle.station.specs.Disk.{Sector}
 use Rattle.pages.specs.Pages.{map_now}
 use Rattle.pages.specs.declared.error.PagesError.TheVariants as pages
-use Rattle.records.specs.declared.fault.StoreFault.TheVariants.{Damaged}
+use Rattle.records.specs.declared.fault.StoreFault.TheVariants.{Damaged, Device}
 use Rattle.records.specs.declared.key.KeyOfReference.TheVariants.{Prime}
 use Rattle.records.specs.Spec.{Spec}
 use Rattle.records.specs.Files.{file_at}
 use Rattle.records.specs.Stores.{spec_of, bound_at}
 use Rattle.btree_pages.specs.declared.row_layout.RowLayout.{RowLayout}
-use Rattle.btree.proofs.Frames.{unchanged_on, same_pages}
+use Rattle.btree.proofs.Frames.{same_pages}
 use Rattle.btree.specs.Calls.{pages_on}
+use Rattle.volume_format.specs.Calls.{LooksAt}
 use Rattle.alternate_keys.specs.Listed.{root_in}
 use Rattle.alternate_keys.specs.Seen.{IsSought}
 use Rattle.alternate_keys.specs.Turned.{OnFile}
-use Rattle.volume_format.proofs.Faults.{damaged_back}
+use Rattle.volume_format.proofs.Faults.{damaged_back, device_back}
+use Rattle.volume_format.proofs.Looks.{looks_blamed, looks_then}
 use Rattle.alternate_keys.proofs.FoundTrees.{Knows, layout_short, listed_as, sought_in, unlisted}
-use Rattle.alternate_keys.proofs.Faults.{refused_by_call}
+use Rattle.alternate_keys.proofs.Faults.{never_device, refused_by_call}
+use Rattle.alternate_keys.proofs.Passing.{never_ok, same_error}
 use Rattle.alternate_keys.proofs.seeking.seek_in.Given.{Over}
 use Rattle.alternate_keys.proofs.seeking.seek_in.Goals as goal
-use Rattle.alternate_keys.proofs.seeking.seek_in.Goals.{After-seek_row}
+use Rattle.alternate_keys.proofs.seeking.seek_in.Goals.{After-find_listing, After-seek_row}
 
 -- the file's entry in the catalog, and its trees
 knows : (g : Over) (c : After-seek_row g) → OnFile g.D.Device c.args.file.now c.args.pages.now c.args.device.now
     (λ files held. Knows (map_now c.args.pages.now (g.D.Device.state c.args.device.now).disk.present)
     (file_at c.args.file.now.name.items files) held (spec_of c.args.file.now) c.args.key c.in_ok-entry.field-0
-    c.in-Some.entry c.file_tree-prime.result c.file_tree-under.result)
+    c.in-Some.entry c.row_tree-prime.result c.file_tree-under.result)
 knows g c honest agrees files held holds has =
     let image = (g.D.Device.state c.args.device.now).disk.present in
     let bounds = c.map_bounds.ensures.open c.args.pages.now image c.requires.open c.requires.unspent in
@@ -39,8 +42,9 @@ knows g c honest agrees files held holds has =
       spec_is = has.spec;
       good = c.args.file.now.sound;
       key_is = c.requires.key;
-      prime_layout = c.file_tree-prime.ensures.layout;
-      prime_root = c.file_tree-prime.ensures.root ∙ ap (root_in Prime) c.listing_part.ensures.part;
+      prime_layout = c.row_tree-prime.ensures.layout;
+      prime_root = c.row_tree-prime.ensures.root ∙ ap (root_in Prime) c.listing_part.ensures.part;
+      prime_form = c.row_tree-prime.ensures.form;
       under_layout = c.file_tree-under.ensures.layout;
       under_root = c.file_tree-under.ensures.root ∙ ap (root_in c.args.key) c.listing_part-2.ensures.part;
     }
@@ -49,12 +53,12 @@ knows g c honest agrees files held holds has =
 sought : (g : Over) (c : After-seek_row g) → OnFile g.D.Device c.args.file.now c.args.pages.now c.args.device.now
     (λ files held. IsSought (spec_of c.args.file.now) c.args.key
     (bound_at c.args.side c.args.value.now c.args.number)
-    (pages_on g.D.Device c.find_listing.new.pages c.find_listing.new.device) held.rows c.file_tree-prime.result
+    (pages_on g.D.Device c.find_listing.new.pages c.find_listing.new.device) held.rows c.row_tree-prime.result
     c.file_tree-under.result c.search_start_for-aim.result c.deref-2.result.now)
 sought g c honest agrees files held holds has =
     let way = sought_in _ _ held (spec_of c.args.file.now) c.args.key
     (bound_at c.args.side c.args.value.now c.args.number) c.in_ok-entry.field-0 c.in-Some.entry
-    c.file_tree-prime.result c.file_tree-under.result c.search_start_for-aim.result c.deref-2.result.now
+    c.row_tree-prime.result c.file_tree-under.result c.search_start_for-aim.result c.deref-2.result.now
     (knows g c honest agrees files held holds has)
     (record { value = c.requires.value; number = let low = c.ranges.number.fits in omega arith })
     c.search_start_for-aim.ensures (c.deref-2.ensures.value ∙ c.in_ok-at.ensures.bytes) in
@@ -62,7 +66,7 @@ sought g c honest agrees files held holds has =
     (g.D.Device.state c.find_listing.new.device) c.find_listing.ensures.unchanged
     (c.find_listing.ensures.only.state honest) in
     subst (λ (p : List (Option Sector)). IsSought (spec_of c.args.file.now) c.args.key
-    (bound_at c.args.side c.args.value.now c.args.number) p held.rows c.file_tree-prime.result
+    (bound_at c.args.side c.args.value.now c.args.number) p held.rows c.row_tree-prime.result
     c.file_tree-under.result c.search_start_for-aim.result c.deref-2.result.now) (sym same) way
 
 pub returns-in_err-entry-clause-damaged : goal.returns-in_err-entry-clause-damaged
@@ -90,14 +94,8 @@ pub seek_row-requires-clause-short : goal.seek_row-requires-clause-short
 seek_row-requires-clause-short g c =
     let spec : Spec = spec_of c.args.file.now in
     let sound = c.args.file.now.sound in
-    let P : RowLayout → Type 0 = λ l. l.key_length ≤ 128 in (
-      subst P (sym c.file_tree-prime.ensures.layout) (layout_short spec Prime sound (omega arith)),
-      subst P (sym c.file_tree-under.ensures.layout) (layout_short spec c.args.key sound c.requires.key),
-    )
-
-pub returns-in-Ok-clause-unchanged : goal.returns-in-Ok-clause-unchanged
-returns-in-Ok-clause-unchanged g c = unchanged_on c.args.pages.now c.find_listing.new.pages c.seek_row.new.pages
-    c.find_listing.ensures.unchanged c.seek_row.ensures.unchanged
+    let P : RowLayout → Type 0 = λ l. l.key_length ≤ 128 in
+    subst P (sym c.file_tree-under.ensures.layout) (layout_short spec c.args.key sound c.requires.key)
 
 pub returns-in-Ok-clause-found : goal.returns-in-Ok-clause-found
 returns-in-Ok-clause-found g c = λ honest agrees files held holds has.
@@ -113,16 +111,51 @@ returns-in-Ok-clause-bytes g c = λ honest agrees files held holds has.
     (bound_at c.args.side c.args.value.now c.args.number) held.rows
     (sought g at.After-seek_row honest agrees files held holds has) c.requires.bytes
 
-pub returns-clause-unchanged : goal.returns-clause-unchanged
-returns-clause-unchanged g c = unchanged_on c.args.pages.now c.find_listing.new.pages c.seek_row.new.pages
-    c.find_listing.ensures.unchanged c.seek_row.ensures.unchanged
-
 pub returns-clause-damaged : goal.returns-clause-damaged
 returns-clause-damaged g c = λ honest agrees files held holds has is.
     let at = goal.at.returns-clause-damaged g c in
     let told : c.to_fault.result ≡ Damaged = cc in
     let fault : c.in-Err.error ≡ pages.Damaged = damaged_back c.in-Err.error (sym c.to_fault.ensures ∙ told) in
     c.in-Err.ensures.damaged (c.find_listing.ensures.only.honest.0 honest)
-    (c.find_listing.ensures.agrees honest agrees) (ap Err fault)
-    (bound_at c.args.side c.args.value.now c.args.number) held.rows
-    (sought g at.After-seek_row honest agrees files held holds has) c.requires.bytes
+    (c.find_listing.ensures.agrees honest agrees) (bound_at c.args.side c.args.value.now c.args.number) held.rows
+    (sought g at.After-seek_row honest agrees files held holds has) c.requires.bytes (ap Err fault)
+
+-- the calls only read
+looked : (g : Over) (c : After-find_listing g) → LooksAt g.D.Device (c.find_listing.result ≡ Err Device)
+    c.args.pages.now c.args.device.now c.find_listing.new.pages c.find_listing.new.device
+looked g c = record {
+  only = c.find_listing.ensures.only;
+  unchanged = c.find_listing.ensures.unchanged;
+  agrees = c.find_listing.ensures.agrees;
+  is_open = c.find_listing.ensures.open;
+}
+
+pub returns-in_err-entry-clause-looks : goal.returns-in_err-entry-clause-looks
+returns-in_err-entry-clause-looks g c =
+    looks_blamed g.D.Device (c.find_listing.result ≡ Err Device) _ _ _ _ _
+    (λ is. refused_by_call c.in_err-entry.was c.from_residual.ensures.1 is)
+    (looked g (goal.at.returns-in_err-entry-clause-looks g c).After-find_listing)
+
+pub returns-in-None-clause-looks : goal.returns-in-None-clause-looks
+returns-in-None-clause-looks g c =
+    looks_blamed g.D.Device (c.find_listing.result ≡ Err Device) _ _ _ _ _ (λ is. never_ok is)
+    (looked g (goal.at.returns-in-None-clause-looks g c).After-find_listing)
+
+pub returns-in_err-at-clause-looks : goal.returns-in_err-at-clause-looks
+returns-in_err-at-clause-looks g c =
+    looks_blamed g.D.Device (c.find_listing.result ≡ Err Device) _ _ _ _ _
+    (λ is. absurd (never_device c.key_for.result c.key_for.ensures.memory
+    (refused_by_call c.in_err-at.was c.from_residual-in_err-at.ensures.1 is)))
+    (looked g (goal.at.returns-in_err-at-clause-looks g c).After-find_listing)
+
+pub returns-in-Ok-clause-looks : goal.returns-in-Ok-clause-looks
+returns-in-Ok-clause-looks g c =
+    looks_then g.D.Device (c.find_listing.result ≡ Err Device) (c.seek_row.result ≡ Err pages.Device) _ _ _ _ _ _ _
+    (λ is. never_ok is) (looked g (goal.at.returns-in-Ok-clause-looks g c).After-find_listing) c.seek_row.ensures.looks
+
+pub returns-clause-looks : goal.returns-clause-looks
+returns-clause-looks g c =
+    looks_then g.D.Device (c.find_listing.result ≡ Err Device) (c.seek_row.result ≡ Err pages.Device) _ _ _ _ _ _ _
+    (λ is. let told : c.to_fault.result ≡ Device = same_error is in
+    inr (c.in-Err.is ∙ ap Err (device_back c.in-Err.error (sym c.to_fault.ensures ∙ told))))
+    (looked g (goal.at.returns-clause-looks g c).After-find_listing) c.seek_row.ensures.looks

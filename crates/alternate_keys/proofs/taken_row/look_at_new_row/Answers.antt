@@ -1,4 +1,4 @@
-use Rattle.std.proofs.Common.{◌≡◌, inr, true, false, ℕ, List, [], length, Err, sym, ap, ◌∙◌, arith}
+use Rattle.std.proofs.Common.{◌≡◌, inr, true, false, ℕ, List, [], length, Err, refl, sym, ap, ◌∙◌, arith}
 use Rattle.std.specs.Prelude.{IfErr}
 use Rattle.pages.specs.Use.{free_count}
 use Rattle.btree.specs.Calls.{pages_on}
@@ -10,7 +10,7 @@ use Rattle.volume_format.specs.Forest.{TreeLevels}
 use Rattle.volume_format.proofs.Looks.{looks_blamed, looks_then}
 use Rattle.alternate_keys.specs.Faults.{IsReadFault}
 use Rattle.alternate_keys.specs.Placed.{OnTrees}
-use Rattle.alternate_keys.specs.Seen.{HasRows}
+use Rattle.alternate_keys.specs.Seen.{HasRows, row_tree_of}
 use Rattle.alternate_keys.proofs.Bytes.{all_bytes}
 use Rattle.alternate_keys.proofs.Calling.{sectors_still}
 use Rattle.alternate_keys.proofs.Faults.{refused_by_call}
@@ -78,9 +78,10 @@ rows_looked : (g : Over) (c : After-is_row_there g) {named : NamedFile} {generat
     → HoldsTrees g.D.Device (spec_of c.args.file.now) named generation left right c.args.listing.now
     c.find_duplicate_key.new.pages c.find_duplicate_key.new.device → HasRows (spec_of c.args.file.now)
     (pages_on g.D.Device c.find_duplicate_key.new.pages c.find_duplicate_key.new.device) named.file.rows
-    c.file_tree-prime.result
-rows_looked g c trees = prime_rows _ _ _ _ _ _ _ trees.has c.file_tree-prime.result c.file_tree-prime.ensures.layout
-    c.file_tree-prime.ensures.root
+    (row_tree_of (spec_of c.args.file.now) c.file_tree-prime.result)
+rows_looked g c trees = prime_rows _ _ _ _ _ _ _ trees.has
+    (row_tree_of (spec_of c.args.file.now) c.file_tree-prime.result) c.file_tree-prime.ensures.layout
+    c.file_tree-prime.ensures.root refl
 
 is_new : (g : Over) (c : After-is_row_there g) {named : NamedFile} {generation : ℕ} {left right : List TreeLevels}
     → HoldsTrees g.D.Device (spec_of c.args.file.now) named generation left right c.args.listing.now

@@ -1,37 +1,33 @@
-use Rattle.std.proofs.Common.{◌≡◌, ◌≤◌, ◌^◌, inr, ℕ, List, Err, length, drop, sym, ap, subst, ◌∙◌, arith}
-use Rattle.std.specs.Prelude.{Option, Ok, map}
+use Rattle.std.proofs.Common.{◌≡◌, ◌≤◌, ◌^◌, inr, ℕ, List, Err, length, drop, refl, sym, ap, subst, ◌∙◌, arith}
+use Rattle.std.specs.Prelude.{Option, Ok}
 use Rattle.std.specs.List.{All}
 use Rattle.byteorder.specs.Endian.{big_number}
 use Rattle.station.specs.Disk.{Sector}
 use Rattle.std.proofs.lemmas.List.{length-map}
 use Rattle.pages.specs.Layout.{version_of}
 use Rattle.pages.specs.Pages.{map_now, mark_of}
-use Rattle.btree_pages.specs.Keys.{Ascend}
 use Rattle.btree.specs.Entries.{Entry, entries_of}
-use Rattle.btree.specs.Laws.{keys_listed}
 use Rattle.btree.specs.Rooted.{RootedTree}
 use Rattle.btree.specs.Tree.{IsTreeOrEmpty}
-use Rattle.btree.proofs.There.{tree_ascends}
 use Rattle.records.specs.declared.fault.StoreFault.TheVariants.{Device, Damaged}
 use Rattle.records.specs.declared.file_spec.FileSpec.{FileSpec}
 use Rattle.records.specs.declared.key.KeyOfReference.TheVariants.{Prime}
 use Rattle.records.specs.Stores.{spec_of}
 use Rattle.file_bytes.specs.declared.stored.StoredRow.{StoredRow}
 use Rattle.records.specs.Laws.{RowsAscend}
-use Rattle.volume_format.specs.Trees.{entry_under, layout_under}
-use Rattle.volume_format.specs.Forest.{tree_levels}
+use Rattle.volume_format.specs.Trees.{layout_under}
 use Rattle.file_recovery.specs.Found.{FindsIndexes, NoIndexes}
-use Rattle.file_recovery.specs.Rows.{IsSized}
+use Rattle.file_recovery.specs.Rows.{FindsRows, IsSized, NoRows}
 use Rattle.file_bytes.specs.Stored.{row_of, rows_of}
 use Rattle.file_recovery.proofs.Ascents.{rows_ascend}
 use Rattle.volume_format.proofs.Looks.{looks_then}
-use Rattle.volume_format.proofs.Whole.{whole_grows, short_spec}
 use Rattle.file_recovery.proofs.Calling.{pages_kept}
 use Rattle.file_recovery.proofs.Entered.{is_none}
 use Rattle.file_recovery.proofs.FirstMark.{without_count, counted_as, none_counted, none_miscounted, finds_counted}
 use Rattle.file_recovery.proofs.Headings.{heading_read, root_told}
 use Rattle.file_recovery.proofs.Kepts.{rows_sized, finds_file, own_listing, own_key, own_value, own_next}
 use Rattle.file_recovery.proofs.NoFiles.{no_tree_there, no_rows_there, no_pairs_there, same_rows_there}
+use Rattle.file_recovery.proofs.PlantedRows.{planted_rows, FindsRowTree, planted_marks, planted_grows, rows_up}
 use Rattle.file_recovery.proofs.checked_file.check_file.Given.{Over}
 use Rattle.file_recovery.proofs.checked_file.check_file.Goals as goal
 use Rattle.file_recovery.proofs.checked_file.check_file.Goals.{After-is_counted}
@@ -71,14 +67,21 @@ returns-then-not-is_counted-clause-damaged g c = λ honest agrees told.
     let there_now =
     subst (λ (p : List (Option Sector)). IsTreeOrEmpty tree.layout p tree.root found.levels) (sym same) found.holds in
     let rows = rows_of c.in_ok-rows.rows.items in
-    let listed : entries_of tree.layout found.levels ≡ map (entry_under spec Prime) rows =
-    c.in_ok-rows.ensures.rows (one.only.honest.0 honest) (one.agrees honest agrees) found.levels there_now in
-    let up : Ascend (keys_listed (map (entry_under spec Prime) rows)) = subst (λ (es : List Entry).
-    Ascend (keys_listed es)) listed (tree_ascends tree.layout before tree.root found.levels found.holds) in
+    let old = c.args.seen.now in
+    let mid = c.check_pages.new.seen in
+    let new = c.read_rows.new.seen in
+    let there : FindsRowTree spec before tree found.levels rows old mid new = record {
+      stands = found.holds;
+      marks = found.marks;
+      listed = subst (λ (p : List (Option Sector)).
+          FindsRows spec p (entries_of tree.layout found.levels) rows mid new) same
+          (c.in_ok-rows.ensures.rows (one.only.honest.0 honest) (one.agrees honest agrees) found.levels there_now);
+    } in
     let ascend = rows_ascend spec c.next_arrival-next.result file.sound heading.some (let low = heading.few in let few =
-    c.requires.generation in omega (arith, low, few)) rows c.in_ok-rows.ensures.are up in
+    c.requires.generation in omega (arith, low, few)) rows c.in_ok-rows.ensures.are
+    (rows_up spec before tree found.levels rows old mid new there) in
     none_miscounted rows c.args.seen.now (same_rows_there before c.args.generation entry small c.requires.generation
-    file.name.items spec c.next_arrival-next.result heading tree layout root rows found.levels found.holds listed
+    file.name.items spec c.next_arrival-next.result heading tree layout root rows found.levels old mid new there
     c.in_ok-rows.ensures.are ascend) (λ is. c.is_counted.ensures.no c.if-not-is_counted.true
     (counted_as (sym c.value.ensures) (sym (mark_read g to.After-is_counted))
     (sym (rows_counted g to.After-is_counted)) is))
@@ -143,29 +146,38 @@ returns-clause-file g c = λ honest agrees.
     let there_now =
     subst (λ (p : List (Option Sector)). IsTreeOrEmpty tree.layout p tree.root found.levels) (sym same) found.holds in
     let rows = rows_of c.in_ok-rows.rows.items in
-    let listed : entries_of tree.layout found.levels ≡ map (entry_under spec Prime) rows =
-    c.in_ok-rows.ensures.rows (one.only.honest.0 honest) (one.agrees honest agrees) found.levels there_now in
-    let up : Ascend (keys_listed (map (entry_under spec Prime) rows)) = subst (λ (es : List Entry).
-    Ascend (keys_listed es)) listed (tree_ascends tree.layout before tree.root found.levels found.holds) in
+    let old = c.args.seen.now in
+    let mid = c.check_pages.new.seen in
+    let new = c.read_rows.new.seen in
+    let there : FindsRowTree spec before tree found.levels rows old mid new = record {
+      stands = found.holds;
+      marks = found.marks;
+      listed = subst (λ (p : List (Option Sector)).
+          FindsRows spec p (entries_of tree.layout found.levels) rows mid new) same
+          (c.in_ok-rows.ensures.rows (one.only.honest.0 honest) (one.agrees honest agrees) found.levels there_now);
+    } in
     let ascend = rows_ascend spec c.next_arrival-next.result file.sound heading.some (let low = heading.few in let few =
-    c.requires.generation in omega (arith, low, few)) rows c.in_ok-rows.ensures.are up in
+    c.requires.generation in omega (arith, low, few)) rows c.in_ok-rows.ensures.are
+    (rows_up spec before tree found.levels rows old mid new there) in
     let passed =
     subst (λ (l : List StoredRow). RowsAscend spec.organization (rows_of l)) (sym c.deref.ensures.value) ascend in
     let indexes = c.in_ok-check_alternates.ensures.indexes passed (two.only.honest.0 (one.only.honest.0 honest))
     (two.agrees (one.only.honest.0 honest) (one.agrees honest agrees)) in
-    let there = subst (λ (v : List ℕ). FindsIndexes before spec rows v (length spec.alternates) c.check_pages.new.seen
+    let pairs = subst (λ (v : List ℕ). FindsIndexes before spec rows v (length spec.alternates) new
     c.check_alternates.new.seen) c.listing_part-value.ensures.part
     (subst (λ (l : List StoredRow). FindsIndexes before spec (rows_of l) c.listing_part-value.result.now
-    (length spec.alternates) c.check_pages.new.seen c.check_alternates.new.seen) c.deref.ensures.value
+    (length spec.alternates) new c.check_alternates.new.seen) c.deref.ensures.value
     (subst
     (λ (p : List (Option Sector)). FindsIndexes p spec (rows_of c.deref.result.now) c.listing_part-value.result.now
-    (length spec.alternates) c.check_pages.new.seen c.check_alternates.new.seen) (same_too ∙ same) indexes)) in
+    (length spec.alternates) new c.check_alternates.new.seen) (same_too ∙ same) indexes)) in
     let finds = finds_file before c.args.generation entry file.name.items spec rows c.next_arrival-next.result
-    (tree_levels tree found.levels) c.args.seen.now c.check_pages.new.seen c.check_alternates.new.seen heading layout
+    (planted_rows spec before tree found.levels) old new c.check_alternates.new.seen heading layout
     (root_told entry c.key.result.now c.listing_part-value.result.now c.key.ensures c.listing_part-value.ensures.part
     tree.root
-    (c.new-tree.ensures.root ∙ c.prime_root.ensures)) (sym (short_spec spec file.sound))
-    (whole_grows before tree found.levels found.holds) found.marks listed c.in_ok-rows.ensures.are ascend there in
+    (c.new-tree.ensures.root ∙ c.prime_root.ensures)) refl
+    (planted_grows spec before tree found.levels rows old mid new there)
+    (planted_marks spec before tree found.levels rows old mid new there) there.listed.are c.in_ok-rows.ensures.are ascend
+    pairs in
     let to = goal.at.returns-clause-file g c in
     finds_counted finds (counted_as c.value.ensures (mark_read g to.After-is_counted)
     (rows_counted g to.After-is_counted) (c.is_counted.ensures.yes c.if-not-is_counted.false))
@@ -223,12 +235,15 @@ returns-in_err-rows-clause-damaged g c = λ honest agrees refused.
     let one = c.check_pages.ensures.looks in
     let same = pages_kept g.D.Device (c.check_pages.result ≡ Err Device) c.args.pages.now c.check_pages.new.pages
     c.args.device.now c.check_pages.new.device one honest in
-    none_counted (no_rows_there before c.args.generation entry small c.requires.generation file.name.items spec
-    c.next_arrival-next.result heading tree layout root c.args.seen.now
-    (λ levels holds.
+    let found = c.in_ok-check_pages.ensures.holds honest agrees in
     let there_now =
-    subst (λ (p : List (Option Sector)). IsTreeOrEmpty tree.layout p tree.root levels) (sym same) holds in
-    c.read_rows.ensures.damaged (one.only.honest.0 honest) (one.agrees honest agrees) levels there_now told))
+    subst (λ (p : List (Option Sector)). IsTreeOrEmpty tree.layout p tree.root found.levels) (sym same) found.holds in
+    let mid = c.check_pages.new.seen in
+    none_counted (no_rows_there before c.args.generation entry small c.requires.generation file.name.items spec
+    c.next_arrival-next.result heading tree layout root c.args.seen.now mid found.levels found.holds found.marks
+    (subst (λ (p : List (Option Sector)).
+    NoRows spec c.next_arrival-next.result p (entries_of tree.layout found.levels) mid) same
+    (c.read_rows.ensures.damaged (one.only.honest.0 honest) (one.agrees honest agrees) found.levels there_now told)))
 
 pub returns-in_err-check_alternates-clause-damaged : goal.returns-in_err-check_alternates-clause-damaged
 returns-in_err-check_alternates-clause-damaged g c = λ honest agrees refused.
@@ -263,26 +278,33 @@ returns-in_err-check_alternates-clause-damaged g c = λ honest agrees refused.
     let there_now =
     subst (λ (p : List (Option Sector)). IsTreeOrEmpty tree.layout p tree.root found.levels) (sym same) found.holds in
     let rows = rows_of c.in_ok-rows.rows.items in
-    let listed : entries_of tree.layout found.levels ≡ map (entry_under spec Prime) rows =
-    c.in_ok-rows.ensures.rows (one.only.honest.0 honest) (one.agrees honest agrees) found.levels there_now in
-    let up : Ascend (keys_listed (map (entry_under spec Prime) rows)) = subst (λ (es : List Entry).
-    Ascend (keys_listed es)) listed (tree_ascends tree.layout before tree.root found.levels found.holds) in
+    let old = c.args.seen.now in
+    let mid = c.check_pages.new.seen in
+    let new = c.read_rows.new.seen in
+    let there : FindsRowTree spec before tree found.levels rows old mid new = record {
+      stands = found.holds;
+      marks = found.marks;
+      listed = subst (λ (p : List (Option Sector)).
+          FindsRows spec p (entries_of tree.layout found.levels) rows mid new) same
+          (c.in_ok-rows.ensures.rows (one.only.honest.0 honest) (one.agrees honest agrees) found.levels there_now);
+    } in
     let ascend = rows_ascend spec c.next_arrival-next.result file.sound heading.some (let low = heading.few in let few =
-    c.requires.generation in omega (arith, low, few)) rows c.in_ok-rows.ensures.are up in
+    c.requires.generation in omega (arith, low, few)) rows c.in_ok-rows.ensures.are
+    (rows_up spec before tree found.levels rows old mid new there) in
     let passed =
     subst (λ (l : List StoredRow). RowsAscend spec.organization (rows_of l)) (sym c.deref.ensures.value) ascend in
     let never = c.check_alternates.ensures.damaged passed (two.only.honest.0 (one.only.honest.0 honest))
     (two.agrees (one.only.honest.0 honest) (one.agrees honest agrees)) told in
-    none_counted (no_pairs_there before c.args.generation entry small c.requires.generation file.name.items
-    spec c.next_arrival-next.result heading tree layout root c.args.seen.now c.check_pages.new.seen rows found.levels
-    found.holds found.marks listed c.in_ok-rows.ensures.are ascend
-    (subst (λ (v : List ℕ). NoIndexes before spec rows v (length spec.alternates) c.check_pages.new.seen)
+    none_counted (λ kept own can. no_pairs_there before c.args.generation entry small c.requires.generation
+    file.name.items spec c.next_arrival-next.result heading tree layout root rows found.levels old mid new there
+    c.in_ok-rows.ensures.are ascend kept own
+    (subst (λ (v : List ℕ). NoIndexes before spec rows v (length spec.alternates) new)
     c.listing_part-value.ensures.part
     (subst (λ (l : List StoredRow).
-    NoIndexes before spec (rows_of l) c.listing_part-value.result.now (length spec.alternates)
-    c.check_pages.new.seen) c.deref.ensures.value
+    NoIndexes before spec (rows_of l) c.listing_part-value.result.now (length spec.alternates) new)
+    c.deref.ensures.value
     (subst (λ (p : List (Option Sector)). NoIndexes p spec (rows_of c.deref.result.now) c.listing_part-value.result.now
-    (length spec.alternates) c.check_pages.new.seen) (same_too ∙ same) never))))
+    (length spec.alternates) new) (same_too ∙ same) never))) can)
 
 pub check_alternates-requires-clause-rows : goal.check_alternates-requires-clause-rows
 check_alternates-requires-clause-rows g c =

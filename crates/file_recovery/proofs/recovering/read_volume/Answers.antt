@@ -5,9 +5,11 @@ use Rattle.pages.specs.Image.{Map}
 use Rattle.pages.specs.Pages.{map_now}
 use Rattle.records.specs.declared.fault.StoreFault.TheVariants.{Damaged}
 use Rattle.file_recovery.specs.Covered.{IsCovered}
+use Rattle.records.specs.Files.{AreShort}
+use Rattle.file_bytes.specs.declared.stored.StoredFile.{StoredFile}
 use Rattle.file_bytes.specs.Stored.{files_of}
 use Rattle.file_recovery.proofs.Covering.{NoneMarked}
-use Rattle.file_recovery.proofs.ReadTrees.{none_marked, catalog_is_held, none_is_held, stray_is_held}
+use Rattle.file_recovery.proofs.ReadTrees.{none_marked, catalog_is_held, none_is_held, stray_is_held, long_is_held}
 use Rattle.file_recovery.proofs.recovering.read_volume.Goals as goal
 
 pub returns-in_err-files-clause-damaged : goal.returns-in_err-files-clause-damaged
@@ -50,8 +52,8 @@ returns-then-not-are_covered-clause-damaged g c = λ honest agrees told files ho
     (λ covered. c.are_covered.ensures.no c.if-not-are_covered.true image
     (subst (λ (l : List Bool). IsCovered after.pages l) (sym marked) covered)) files holds
 
-pub returns-clause-holds : goal.returns-clause-holds
-returns-clause-holds g c = λ honest agrees.
+pub returns-then-may_hold-clause-holds : goal.returns-then-may_hold-clause-holds
+returns-then-may_hold-clause-holds g c = λ honest agrees.
     let image = (g.D.Device.state c.args.device.now).disk.present in
     let m : Map = map_now c.args.pages.now image in
     let after : Map = map_now c.read_catalog.new.pages image in
@@ -68,3 +70,27 @@ returns-clause-holds g c = λ honest agrees.
     (c.in_ok-files.ensures.files honest agrees)
     (subst (λ (l : List Bool). IsCovered after.pages l) marked
     (c.are_covered.ensures.yes c.if-not-are_covered.false image))
+    (λ first. subst (λ (l : List StoredFile). AreShort (files_of l)) c.deref-2.ensures.value
+    (c.may_hold.ensures.yes c.if-may_hold.true
+    (c.mark.ensures.is ∙ c.read_catalog.ensures.looks.unchanged.committed.mark ∙ first)))
+
+pub returns-clause-damaged : goal.returns-clause-damaged
+returns-clause-damaged g c = λ honest agrees told files holds.
+    let image = (g.D.Device.state c.args.device.now).disk.present in
+    let m : Map = map_now c.args.pages.now image in
+    let after : Map = map_now c.read_catalog.new.pages image in
+    let filled = c.in_ok-seen.ensures.items_if_clones_equal (λ y is. is) in
+    let old : List Bool = c.deref_mut.result.now in
+    let new : List Bool = c.read_catalog.new.seen in
+    let none : NoneMarked old =
+    subst NoneMarked (sym (c.deref_mut.ensures.value ∙ filled)) (none_marked c.page_count.result) in
+    let few = c.page_count.ensures.few c.requires.open c.requires.unspent in
+    let counted = c.page_count.ensures.count in
+    let many = c.page_count.ensures.pages image in
+    let small : length m.pages ≤ 2 ^ 20 = omega (arith, few, counted, many) in
+    long_is_held m after (c.read_catalog.ensures.looks.unchanged.map image)
+    c.generation.result (c.generation.ensures.is image) old none (files_of c.in_ok-files.files.items) new small
+    (c.in_ok-files.ensures.files honest agrees)
+    (λ short. c.may_hold.ensures.no c.if-may_hold.false
+    (λ first. subst (λ (l : List StoredFile). AreShort (files_of l)) (sym c.deref-2.ensures.value)
+    (short (sym (c.mark.ensures.is ∙ c.read_catalog.ensures.looks.unchanged.committed.mark) ∙ first)))) files holds

@@ -9,15 +9,15 @@ use Rattle.file_bytes.specs.Stored.{row_of}
 use Rattle.file_bytes.proofs.Rows.{row_back}
 use Rattle.file_recovery.proofs.rows.row_of_entry.Goals as goal
 
-pub returns-then-not-is_row-clause-none : goal.returns-then-not-is_row-clause-none
-returns-then-not-is_row-clause-none c = λ told row is key value.
+pub returns-then-not-is_row-clause-damaged : goal.returns-then-not-is_row-clause-damaged
+returns-then-not-is_row-clause-damaged c = λ told row is key value.
     let spec = spec_of c.args.file.now in
     let same : row_of c.in_ok-row.row ≡ row =
     c.in_ok-row.ensures.row ∙ row_back spec c.args.next (search) row is c.args.key.now c.args.value.now key value in
     c.is_row.ensures.no c.if-not-is_row.true (subst (IsRow spec c.args.next) (sym same) is)
 
-pub returns-then-not-is_own-clause-none : goal.returns-then-not-is_own-clause-none
-returns-then-not-is_own-clause-none c = λ told row is key value.
+pub returns-then-not-is_own-clause-damaged : goal.returns-then-not-is_own-clause-damaged
+returns-then-not-is_own-clause-damaged c = λ told row is key value.
     let spec = spec_of c.args.file.now in
     let same : row_of c.in_ok-row.row ≡ row =
     c.in_ok-row.ensures.row ∙ row_back spec c.args.next (search) row is c.args.key.now c.args.value.now key value in

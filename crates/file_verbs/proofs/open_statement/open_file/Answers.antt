@@ -1,4 +1,4 @@
-use Rattle.std.proofs.Common.{◌≡◌, true, false, refl, sym, ◌∙◌, ap, subst, inl, inr}
+use Rattle.std.proofs.Common.{◌≡◌, ⊎_elim, true, false, refl, sym, ◌∙◌, ap, subst, inl, inr}
 use Rattle.std.specs.Prelude.{Ok, Some}
 use Rattle.records.specs.declared.status.Status.TheVariants.{SuccessAbsent, FileMissing, FileDiffers}
 use Rattle.records.specs.declared.verb.OpenMode.{OpenMode}
@@ -105,8 +105,8 @@ returns-in-Different g c =
         written_length = c.requires.link.written_length;
         last = c.requires.link.last;
       };
-      full = λ files stands bytes number is. absurd cc;
-      never_full = λ none is. absurd cc;
+      full = λ files stands bytes number is. ⊎_elim (λ full. absurd cc) (λ old. absurd cc) is;
+      never_full = λ none. (λ is. absurd cc, λ is. absurd cc);
       idle = λ honest no. reads.only.state honest;
       same = tt;
       rests = tt;
@@ -141,8 +141,8 @@ returns-else-select g c =
         written_length = c.requires.link.written_length;
         last = c.requires.link.last;
       };
-      full = λ files stands bytes number is. absurd cc;
-      never_full = λ none is. absurd cc;
+      full = λ files stands bytes number is. ⊎_elim (λ full. absurd cc) (λ old. absurd cc) is;
+      never_full = λ none. (λ is. absurd cc, λ is. absurd cc);
       idle = λ honest no. reads.only.state honest;
       same = tt;
       rests = tt;
@@ -178,8 +178,8 @@ returns-in-Input g c =
           ∙ c.in_ok-there.ensures.presence files stands)) c.if-select.true))) (Gone c.begin-in-Input.ensures.absent
           (c.begin-in-Input.ensures.mode ∙ ap (λ (m : OpenMode). Some m) c.in-Input.is) none));
       link = c.begin-in-Input.ensures.link;
-      full = λ files stands bytes number is. absurd cc;
-      never_full = λ none is. absurd cc;
+      full = λ files stands bytes number is. ⊎_elim (λ full. absurd cc) (λ old. absurd cc) is;
+      never_full = λ none. (λ is. absurd cc, λ is. absurd cc);
       idle = λ honest no. reads.only.state honest;
       same = tt;
       rests = tt;

@@ -21,7 +21,7 @@ returns-in-Open g c =
           (λ files stands. c.open_file.ensures.linked files stands bytes number)
           (λ files stands. c.open_file.ensures.turns files stands bytes number) c.open_file.ensures.idle
           c.open_file.ensures.same refl c.open_file.ensures.rests
-          (λ files stands. c.open_file.ensures.full files stands bytes number) c.open_file.ensures.never_full);
+          (λ files stands. c.open_file.ensures.full files stands bytes number) c.open_file.ensures.never_full refl);
     }
 
 pub returns-in-Some : goal.returns-in-Some
@@ -64,7 +64,8 @@ returns-in-Write g c =
           c.write_row.ensures.mode c.write_row.ensures.absent c.write_row.ensures.idle c.write_row.ensures.same
           (err_map c.write_row.result (λ e. ap (λ (n : ℕ). area c.args.bytes.now n) e) c.write_row.ensures.area)
           c.write_row.ensures.rests
-          (write_stays old (area c.args.bytes.now c.args.number.now) may) c.write_row.ensures.full refl);
+          (write_stays old (area c.args.bytes.now c.args.number.now) may) c.write_row.ensures.full refl
+          c.write_row.ensures.makes_none);
     }
 
 pub returns-in-Rewrite : goal.returns-in-Rewrite
@@ -78,7 +79,8 @@ returns-in-Rewrite g c =
           (change_open old may) c.rewrite_row.ensures.step c.rewrite_row.ensures.turns
           c.rewrite_row.ensures.mode c.rewrite_row.ensures.absent c.rewrite_row.ensures.idle c.rewrite_row.ensures.same
           (err_any c.rewrite_row.result refl) c.rewrite_row.ensures.rests
-          (rewrite_stays old (area c.args.bytes.now c.args.number.now) may) c.rewrite_row.ensures.full refl);
+          (rewrite_stays old (area c.args.bytes.now c.args.number.now) may) c.rewrite_row.ensures.full refl
+          c.rewrite_row.ensures.makes_none);
     }
 
 pub returns-in-Delete : goal.returns-in-Delete
@@ -92,7 +94,8 @@ returns-in-Delete g c =
           (change_open old may) c.delete_row.ensures.step c.delete_row.ensures.turns
           c.delete_row.ensures.mode c.delete_row.ensures.absent c.delete_row.ensures.idle c.delete_row.ensures.same
           (err_any c.delete_row.result refl) c.delete_row.ensures.rests
-          (delete_stays old (area c.args.bytes.now c.args.number.now) may) c.delete_row.ensures.full refl);
+          (delete_stays old (area c.args.bytes.now c.args.number.now) may) c.delete_row.ensures.full refl
+          c.delete_row.ensures.makes_none);
     }
 
 pub returns-in-Start : goal.returns-in-Start

@@ -2,8 +2,7 @@ use Rattle.std.proofs.Common.{◌≡◌, ◌∙◌, sym, ap, subst}
 use Rattle.std.specs.Prelude.{Option, Ok, Vec, IfSome}
 use Rattle.std.specs.declared.alloc.Global.{Global}
 use Rattle.station.specs.State.{State}
-use Rattle.records.specs.Files.{AreFiles}
-use Rattle.half_store.specs.Half.{named_bytes, AreEarly}
+use Rattle.half_store.specs.Half.{named_bytes, AreHalfFiles}
 use Rattle.half_store.specs.Spelled.{files_bytes}
 use Rattle.file_bytes.specs.Stored.{files_of}
 use Rattle.file_bytes.specs.declared.stored.StoredFile.{StoredFile}
@@ -31,8 +30,8 @@ returns-in_default-clause-refused g c = λ honest.
     ∙ ap (λ (s : State). named_bytes s.disk.present roots.newest) (c.in_ok-roots.ensures.only.state honest) in
     no_spelled (g.D.Device.state c.args.device.now).disk.present roots c.in_ok-bytes.bytes.items
     (c.in_ok-roots.ensures.roots honest) named
-    (λ files is are early. c.in_ok-files.ensures.none (ap (λ o. Ok o)
-    (is_none c.in_ok-files.field-0 c.in_default.not-Some)) files (c.deref.ensures.value ∙ is) are early)
+    (λ files is are. c.in_ok-files.ensures.none (ap (λ o. Ok o)
+    (is_none c.in_ok-files.field-0 c.in_default.not-Some)) files (c.deref.ensures.value ∙ is) are)
 
 pub returns-clause-holds : goal.returns-clause-holds
 returns-clause-holds g c = λ honest.
@@ -42,9 +41,9 @@ returns-clause-holds g c = λ honest.
     let named = c.in_ok-bytes.ensures.bytes honest'
     ∙ ap (λ (s : State). named_bytes s.disk.present roots.newest) (c.in_ok-roots.ensures.only.state honest) in
     let some = subst (λ (o : Option (Vec StoredFile Global)).
-    IfSome o (λ files. (c.deref.result.now ≡ files_bytes (files_of files.items)) × AreFiles (files_of files.items)
-    × AreEarly roots.newest.generation (files_of files.items))) c.in-Some.is c.in_ok-files.ensures.some in
+    IfSome o (λ files. (c.deref.result.now ≡ files_bytes (files_of files.items))
+    × AreHalfFiles roots.newest.generation (files_of files.items))) c.in-Some.is c.in_ok-files.ensures.some in
     holds_now (g.D.Device.state c.args.device.now).disk.present roots bytes (files_of c.in-Some.files.items)
     (c.in_ok-roots.ensures.roots honest)
     (c.are_half_roots.ensures.yes c.if-not-are_half_roots.false) named c.in_ok-bytes.ensures.long
-    (sym c.deref.ensures.value ∙ some.0, some.1, some.2)
+    (sym c.deref.ensures.value ∙ some.0, some.1)

@@ -4,8 +4,7 @@ use Rattle.std.specs.declared.alloc.Global.{Global}
 use Rattle.records.specs.Rows.{same_bytes}
 use Rattle.records.proofs.Maps.{bytes_same, same_itself}
 use Rattle.file_bytes.specs.Read.{IfRead}
-use Rattle.half_store.specs.Half.{AreEarly}
-use Rattle.records.specs.Files.{AreFiles}
+use Rattle.half_store.specs.Half.{AreHalfFiles}
 use Rattle.half_store.specs.Spelled.{files_bytes}
 use Rattle.file_bytes.specs.Stored.{files_of}
 use Rattle.file_bytes.specs.declared.stored.StoredFile.{StoredFile}
@@ -13,24 +12,23 @@ use Rattle.half_store.proofs.Rested.{from_none, readable}
 use Rattle.half_store.proofs.opening.spelled_files.Goals as goal
 
 pub returns-in_default-clause-none : goal.returns-in_default-clause-none
-returns-in_default-clause-none c = λ told files is are early.
+returns-in_default-clause-none c = λ told files is are.
     from_none c.in_ok-files.field-0 _ c.in_default.not-Some
-    (c.in_ok-files.ensures.files files (readable c.args.generation files c.requires are.each early) is)
+    (c.in_ok-files.ensures.files files (readable c.args.generation files c.requires are.sound.each are.early) is)
 
-pub returns-then-not-are_files-clause-none : goal.returns-then-not-are_files-clause-none
-returns-then-not-are_files-clause-none c = λ told files is are early.
+pub returns-then-not-are_half_files-clause-none : goal.returns-then-not-are_half_files-clause-none
+returns-then-not-are_half_files-clause-none c = λ told files is are.
     let read =
     subst (λ (o : Option (Vec StoredFile Global)). IfRead (Ok o) (λ found. files_of found.items ≡ files)) c.in-Some.is
-    (c.in_ok-files.ensures.files files (readable c.args.generation files c.requires are.each early) is) in
+    (c.in_ok-files.ensures.files files (readable c.args.generation files c.requires are.sound.each are.early) is) in
     let same : files_of c.deref.result.now ≡ files = ap files_of c.deref.ensures.value ∙ read in
-    c.are_files.ensures.no c.if-not-are_files.true (subst AreFiles (sym same) are)
-    (subst (AreEarly c.args.generation) (sym same) early)
+    c.are_half_files.ensures.no c.if-not-are_half_files.true (subst (AreHalfFiles c.args.generation) (sym same) are)
 
 pub returns-then-not-is_same-clause-none : goal.returns-then-not-is_same-clause-none
-returns-then-not-is_same-clause-none c = λ told files is are early.
+returns-then-not-is_same-clause-none c = λ told files is are.
     let read =
     subst (λ (o : Option (Vec StoredFile Global)). IfRead (Ok o) (λ found. files_of found.items ≡ files)) c.in-Some.is
-    (c.in_ok-files.ensures.files files (readable c.args.generation files c.requires are.each early) is) in
+    (c.in_ok-files.ensures.files files (readable c.args.generation files c.requires are.sound.each are.early) is) in
     let again : c.deref-3.result.now ≡ c.args.bytes.now = c.deref-3.ensures.value ∙ c.in_ok-again.ensures.bytes
     ∙ ap (λ (l : List StoredFile). files_bytes (files_of l)) c.deref-2.ensures.value ∙ ap files_bytes read ∙ sym is in
     let both : true ≡ false =
@@ -40,11 +38,10 @@ returns-then-not-is_same-clause-none c = λ told files is are early.
 
 pub returns-clause-some : goal.returns-clause-some
 returns-clause-some c =
-    let yes = c.are_files.ensures.yes c.if-not-are_files.false in
+    let yes = c.are_half_files.ensures.yes c.if-not-are_half_files.false in
     let same = c.deref.ensures.value in (
       sym (bytes_same c.deref-3.result.now c.args.bytes.now (sym c.is_same.ensures ∙ c.if-not-is_same.false))
           ∙ c.deref-3.ensures.value ∙ c.in_ok-again.ensures.bytes
           ∙ ap (λ (l : List StoredFile). files_bytes (files_of l)) c.deref-2.ensures.value,
-      subst (λ (l : List StoredFile). AreFiles (files_of l)) same yes.0,
-      subst (λ (l : List StoredFile). AreEarly c.args.generation (files_of l)) same yes.1,
+      subst (λ (l : List StoredFile). AreHalfFiles c.args.generation (files_of l)) same yes,
     )

@@ -1,7 +1,8 @@
-use Rattle.std.proofs.Common.{◌≡◌, ◌∙◌, List, [], ◌∷◌, ◌++◌, length, sym, ap, subst, refl, arith, Err}
+use Rattle.std.proofs.Common.{◌≡◌, ◌∙◌, List, [], ◌∷◌, ◌++◌, length, sym, ap, subst, refl, arith, inl, inr, Err}
 use Rattle.std.proofs.lemmas.Option.{slice_get_within}
 use Rattle.station.specs.Disk.{Disk}
 use Rattle.station.specs.State.{State, Event, Noted}
+use Rattle.records.specs.declared.fault.StoreFault.TheVariants.{Full, Old}
 use Rattle.records.specs.Statuses.{bytes_of}
 use Rattle.source_tree.specs.Storage.{Storage}
 use Rattle.data_machine.specs.Data.{scratch_of}
@@ -202,15 +203,23 @@ returns-in-Err-clause-over g c = λ day run before left files stands so_far.
     let console = c.in-Err.ensures.changes.only.console stands.honest in
     refused_by code day run before files connectors c.args.address left r (g.S.Device.state c.args.station.now) so_far
     c.args.file c.args.verb one c.requires.here w.there did is
-    g.F.Keeps.holds g.F.Keeps.lacks_room (g.S.Device.state c.perform-performed.new.device) c.refusal_of.result
+    g.F.Keeps.holds g.F.Keeps.lacks (g.S.Device.state c.perform-performed.new.device) c.refusal_of.result
     c.in-Err.fault c.refusal_of.ensures
     (λ damaged. turns.sound (ap Err damaged))
     (step_looks entries (places_of code.tables c.args.file.number one) c.args.verb files connectors r.scratch.areas
     c.in-Err.ensures.asks)
     console.events console.lines
     (λ full. record {
-      changes = c.in-Err.ensures.full files stands (ap Err full);
-      room =
-          subst (λ (u : State). g.F.Keeps.lacks_room u.disk.present (makes_file c.args.verb) one.name files did.files)
-          (sym (c.in-Err.ensures.changes.unwritten (ap Err full) stands.honest)) (turns.room (ap Err full));
+      changes = c.in-Err.ensures.full files stands (inl (ap Err full));
+      need =
+          subst (λ (u : State). g.F.Keeps.lacks Full u.disk.present (makes_file c.args.verb) one.name files did.files)
+          (sym (c.in-Err.ensures.changes.unwritten (inl (ap Err full)) stands.honest)) (turns.room (ap Err full));
+      makes = λ is. absurd cc;
+    })
+    (λ old. record {
+      changes = c.in-Err.ensures.full files stands (inr (ap Err old));
+      need =
+          subst (λ (u : State). g.F.Keeps.lacks Old u.disk.present (makes_file c.args.verb) one.name files did.files)
+          (sym (c.in-Err.ensures.changes.unwritten (inr (ap Err old)) stands.honest)) (turns.mark (ap Err old));
+      makes = λ is. c.in-Err.ensures.old (ap Err old);
     })

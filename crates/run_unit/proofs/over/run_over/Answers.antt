@@ -2,7 +2,7 @@ use Rattle.std.proofs.Common.{sym, subst, ap}
 use Rattle.source_tree.specs.Given.{given_over}
 use Rattle.file_image.specs.Files.{entries_of}
 use Rattle.code_image.specs.declared.code.Code.{Code}
-use Rattle.machine.specs.Ends.{LacksRoomForChange}
+use Rattle.machine.specs.Ends.{LacksForChange}
 use Rattle.run_unit.specs.Volume.{RunsOver}
 use Rattle.run_unit.specs.declared.ended.Ended.{Ended}
 use Rattle.run_unit.specs.declared.ended.Ended.TheVariants.{Refused}
@@ -16,15 +16,15 @@ returns-in-Err-clause-runs g c = λ files stands run runs.
     let past = g.S.Device.history c.args.station.now in
     let first = at_first g.T.Keeps.holds c.args.code files run c.args.day c.args.budget s runs
     (λ image crash. g.met.T.Store.held c.args.store s.disk image files stands.there crash) in
-    subst (λ (refusal : Refusal). RunsOver g.T.Keeps.holds (LacksRoomForChange g.T.Keeps.lacks_room (entries_of
+    subst (λ (refusal : Refusal). RunsOver g.T.Keeps.holds (LacksForChange g.T.Keeps.lacks (entries_of
     c.args.code.tables c.args.code.files)) run past s (Refused refusal) past s) (sym c.in-Err.ensures.memory)
     (never_ran g.T.Keeps.holds
-    (LacksRoomForChange g.T.Keeps.lacks_room (entries_of c.args.code.tables c.args.code.files)) run past s first)
+    (LacksForChange g.T.Keeps.lacks (entries_of c.args.code.tables c.args.code.files)) run past s first)
 
 pub returns-in_default-clause-runs : goal.returns-in_default-clause-runs
 returns-in_default-clause-runs g c = λ files stands run runs.
     let s = g.S.Device.state c.args.station.now in
-    never_ran g.T.Keeps.holds (LacksRoomForChange g.T.Keeps.lacks_room
+    never_ran g.T.Keeps.holds (LacksForChange g.T.Keeps.lacks
     (entries_of c.args.code.tables c.args.code.files)) run (g.S.Device.history c.args.station.now) s
     (at_first g.T.Keeps.holds c.args.code files run c.args.day c.args.budget s runs
     (λ image crash. g.met.T.Store.held c.args.store s.disk image files stands.there crash))
@@ -39,9 +39,9 @@ returns-clause-runs g c = λ files stands run runs.
     c.in-Ok-new.ensures.day runs in
     let there = c.in-Ok.ensures.stands s.disk files stands.there in
     subst (λ (ended : Ended).
-    RunsOver g.T.Keeps.holds (LacksRoomForChange g.T.Keeps.lacks_room (entries_of c.args.code.tables c.args.code.files))
+    RunsOver g.T.Keeps.holds (LacksForChange g.T.Keeps.lacks (entries_of c.args.code.tables c.args.code.files))
     run (g.S.Device.history c.args.station.now) s ended (g.S.Device.history c.run.new.station) new) (sym c.of.ensures)
-    (ran_over _ g.T.Keeps.holds c.connect.ensures.holds run s _ g.T.Keeps.lacks_room c.connect.ensures.room _
+    (ran_over _ g.T.Keeps.holds c.connect.ensures.holds run s _ g.T.Keeps.lacks c.connect.ensures.lacks _
     (entries_of c.args.code.tables c.args.code.files)
     (ap (λ (code : Code). entries_of code.tables code.files) c.in-Ok-new.ensures.code)
     (g.S.Device.history c.args.station.now) (g.S.Device.history c.run.new.station) new c.run.result first
@@ -54,5 +54,5 @@ returns-clause-sound g c = λ files stands.
     let ran =
     c.run_law.ensures.ends c.args.code (given_over files s c.args.day c.args.budget) c.code-2.ensures.verified in
     no_damage_over g.T.Keeps.holds
-    (LacksRoomForChange g.T.Keeps.lacks_room (entries_of c.args.code.tables c.args.code.files)) ran.0 s c.of.result
+    (LacksForChange g.T.Keeps.lacks (entries_of c.args.code.tables c.args.code.files)) ran.0 s c.of.result
     (g.S.Device.state c.run.new.station) (returns-clause-runs g c files stands ran.0 ran.1).ends

@@ -6,7 +6,7 @@ use Rattle.file_bytes.specs.Stored.{files_of}
 use Rattle.source_tree.specs.Given.{RunInput}
 use Rattle.file_image.specs.Files.{entries_of}
 use Rattle.code_image.specs.Table.{Runs}
-use Rattle.machine.specs.Ends.{LacksRoomForChange}
+use Rattle.machine.specs.Ends.{LacksForChange}
 use Rattle.run_unit.specs.declared.ended.Ended.TheVariants.{Refused}
 use Rattle.run_unit.specs.Volume.{Unopened, NotOpened, HeldFiles, lacks_half}
 use Rattle.run_unit.proofs.Opening.{read_cause, left_closed, given_after, ran_on}
@@ -19,7 +19,7 @@ returns-in-Ok-clause-volume g c = λ honest files held run runs.
     let same = given_after files s mid c.args.day c.args.budget (c.in-Ok.ensures.state honest) in
     let own = c.one_list_of_files.ensures s.disk.present (files_of c.in-Ok.store.files.items) files
     (c.in-Ok.ensures.holds honest) held in
-    ran_on Holds (LacksRoomForChange lacks_half (entries_of c.args.code.tables c.args.code.files))
+    ran_on Holds (LacksForChange lacks_half (entries_of c.args.code.tables c.args.code.files))
     run (g.S.Device.history c.args.station.now) (g.S.Device.history c.open.new.device)
     (g.S.Device.history c.run_over.new.station)
     s mid (g.S.Device.state c.run_over.new.station) c.run_over.result
@@ -36,7 +36,7 @@ returns-in-Ok-clause-halves g c = λ honest run runs.
     let files = files_of c.in-Ok.store.files.items in
     let same = given_after files s mid c.args.day c.args.budget (c.in-Ok.ensures.state honest) in
     HeldFiles files (c.in-Ok.ensures.holds honest)
-    (ran_on Holds (LacksRoomForChange lacks_half (entries_of c.args.code.tables c.args.code.files)) (run files)
+    (ran_on Holds (LacksForChange lacks_half (entries_of c.args.code.tables c.args.code.files)) (run files)
     (g.S.Device.history c.args.station.now) (g.S.Device.history c.open.new.device)
     (g.S.Device.history c.run_over.new.station)
     s mid (g.S.Device.state c.run_over.new.station) c.run_over.result

@@ -9,10 +9,10 @@ use Rattle.half_store.specs.Opened.{IsReadCause}
 use Rattle.source_tree.specs.Given.{RunInput}
 use Rattle.file_image.specs.Files.{entries_of}
 use Rattle.code_image.specs.Table.{Runs}
-use Rattle.machine.specs.Ends.{LacksRoomForChange}
+use Rattle.machine.specs.Ends.{LacksForChange}
 use Rattle.run_unit.specs.declared.ended.Ended.TheVariants.{Refused}
 use Rattle.run_unit.specs.Volume.{Unopened, NotOpened, lacks_half, lacks_either}
-use Rattle.run_unit.proofs.Moments.{room_under}
+use Rattle.run_unit.proofs.Moments.{lacking_under}
 use Rattle.run_unit.proofs.Opening.{read_cause, left_closed, no_layout}
 use Rattle.run_unit.proofs.Opening.{given_after, given_later, present_after, unwritten_then, lacks_trees, ran_on}
 use Rattle.run_unit.proofs.Opening.{on_volume_then, on_halves_then, on_either}
@@ -26,12 +26,13 @@ returns-in-Ok-clause-volume g c = λ honest files held run runs.
     ⊎_elim
     (λ trees.
     on_either HoldsTrees HoldsFiles
-    (λ image files is. inl is) run (LacksRoomForChange lacks_trees (entries_of c.args.code.tables c.args.code.files))
-    (LacksRoomForChange lacks_either (entries_of c.args.code.tables c.args.code.files))
-    (room_under lacks_trees lacks_either (λ image is_new name before after lacks. inl lacks) (entries_of
-    c.args.code.tables c.args.code.files) run) (g.S.Device.history c.args.station.now) s c.run_over.result
+    (λ image files is. inl is) run (LacksForChange lacks_trees (entries_of c.args.code.tables c.args.code.files))
+    (LacksForChange lacks_either (entries_of c.args.code.tables c.args.code.files))
+    (λ fault old now. lacking_under lacks_trees lacks_either (λ fault image is_new name before after lacks. inl lacks)
+    (entries_of c.args.code.tables c.args.code.files) fault run old now) (g.S.Device.history c.args.station.now) s
+    c.run_over.result
     (g.S.Device.history c.run_over.new.station) (g.S.Device.state c.run_over.new.station)
-    (ran_on HoldsTrees (LacksRoomForChange lacks_trees (entries_of c.args.code.tables c.args.code.files))
+    (ran_on HoldsTrees (LacksForChange lacks_trees (entries_of c.args.code.tables c.args.code.files))
     run (g.S.Device.history c.args.station.now) (g.S.Device.history c.open.new.device)
     (g.S.Device.history c.run_over.new.station)
     s mid (g.S.Device.state c.run_over.new.station) c.run_over.result (c.open.ensures.moments honest)
@@ -67,12 +68,13 @@ returns-in-Layout-clause-volume g c = λ honest files held run runs.
     (λ trees. absurd (no_layout (subst IsReadCause c.in-Layout.is (c.in-Err.ensures.opens honest files trees))))
     (λ half.
     on_either HoldsHalf HoldsFiles
-    (λ image files is. inr is) run (LacksRoomForChange lacks_half (entries_of c.args.code.tables c.args.code.files))
-    (LacksRoomForChange lacks_either (entries_of c.args.code.tables c.args.code.files))
-    (room_under lacks_half lacks_either (λ image is_new name before after lacks. inr lacks) (entries_of
-    c.args.code.tables c.args.code.files) run) (g.S.Device.history c.args.station.now) s c.run_on_halves.result
+    (λ image files is. inr is) run (LacksForChange lacks_half (entries_of c.args.code.tables c.args.code.files))
+    (LacksForChange lacks_either (entries_of c.args.code.tables c.args.code.files))
+    (λ fault old now. lacking_under lacks_half lacks_either (λ fault image is_new name before after lacks. inr lacks)
+    (entries_of c.args.code.tables c.args.code.files) fault run old now) (g.S.Device.history c.args.station.now) s
+    c.run_on_halves.result
     (g.S.Device.history c.run_on_halves.new.station) (g.S.Device.state c.run_on_halves.new.station)
-    (on_volume_then HoldsHalf (LacksRoomForChange lacks_half (entries_of c.args.code.tables c.args.code.files))
+    (on_volume_then HoldsHalf (LacksForChange lacks_half (entries_of c.args.code.tables c.args.code.files))
     run (g.S.Device.history c.args.station.now) (g.S.Device.history c.open.new.device)
     (g.S.Device.history c.run_on_halves.new.station)
     s mid (g.S.Device.state c.run_on_halves.new.station) c.run_on_halves.result (c.open.ensures.moments honest) as_was

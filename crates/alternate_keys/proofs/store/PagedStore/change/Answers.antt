@@ -1,4 +1,4 @@
-use Rattle.std.proofs.Common.{inl, refl, sym, subst}
+use Rattle.std.proofs.Common.{Err, inl, refl, sym, subst}
 use Rattle.station.proofs.Spans.{stays}
 use Rattle.records.specs.Files.{Files}
 use Rattle.records.specs.Stores.{files_after}
@@ -6,6 +6,7 @@ use Rattle.alternate_keys.specs.Held.{held_law}
 use Rattle.alternate_keys.specs.Moved.{changed_by}
 use Rattle.alternate_keys.specs.Opened.{OpenedVolume}
 use Rattle.alternate_keys.specs.Stands.{Represents}
+use Rattle.alternate_keys.proofs.Faults.{never_old}
 use Rattle.alternate_keys.proofs.store.PagedStore.change.Goals as goal
 
 pub returns-then-self-clause-turns : goal.returns-then-self-clause-turns
@@ -19,6 +20,7 @@ returns-then-self-clause-turns g c = λ files held stands has.
       });
       sound = λ e. absurd cc;
       room = λ e. absurd cc;
+      mark = λ e. absurd cc;
     }
 
 pub returns-in-Err-clause-turns : goal.returns-in-Err-clause-turns
@@ -34,6 +36,7 @@ returns-in-Err-clause-turns g c = λ files held stands has.
       moments = turned.moments;
       sound = turned.sound;
       room = turned.room;
+      mark = turned.mark;
     }
 
 pub returns-in-Err-clause-full : goal.returns-in-Err-clause-full
@@ -41,3 +44,6 @@ returns-in-Err-clause-full g c = λ files held stands has is.
     let there = subst (λ (s : OpenedVolume). Represents s.pages (g.D.Device.state c.args.device.now).disk files)
     (sym c.self.view_is) stands.there in
     c.in-Err.ensures.full stands.honest files held there has is
+
+pub returns-in-Err-clause-makes_none : goal.returns-in-Err-clause-makes_none
+returns-in-Err-clause-makes_none g c = λ is. never_old (Err c.in-Err.fault) c.in-Err.ensures.cause is

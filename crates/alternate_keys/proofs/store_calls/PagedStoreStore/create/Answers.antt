@@ -1,10 +1,12 @@
-use Rattle.std.proofs.Common.{inl, refl, sym, subst}
+use Rattle.std.proofs.Common.{true, inl, refl, sym, subst}
 use Rattle.station.proofs.Spans.{stays}
 use Rattle.records.specs.Files.{Files, empty_file, with_file}
 use Rattle.records.specs.Stores.{spec_of}
+use Rattle.records.proofs.Short.{made_is_long}
 use Rattle.alternate_keys.specs.Held.{held_law}
 use Rattle.alternate_keys.specs.Opened.{OpenedVolume}
 use Rattle.alternate_keys.specs.Stands.{Represents}
+use Rattle.alternate_keys.proofs.Still.{first_there}
 use Rattle.alternate_keys.proofs.store_calls.PagedStoreStore.create.Goals as goal
 
 pub returns-then-self-clause-turns : goal.returns-then-self-clause-turns
@@ -18,6 +20,7 @@ returns-then-self-clause-turns g c = λ files stands.
       });
       sound = λ e. absurd cc;
       room = λ e. absurd cc;
+      mark = λ e. absurd cc;
     }
 
 pub returns-in-Err-clause-turns : goal.returns-in-Err-clause-turns
@@ -32,4 +35,12 @@ returns-in-Err-clause-turns g c = λ files stands.
       moments = turned.moments;
       sound = turned.sound;
       room = turned.room;
+      mark = turned.mark;
     }
+
+pub returns-in-Ok-clause-takes : goal.returns-in-Ok-clause-takes
+returns-in-Ok-clause-takes g c = λ files stands lacks.
+    let disk = (g.D.Device.state c.args.device.now).disk in
+    let there = subst (λ (s : OpenedVolume). Represents s.pages disk files) (sym c.self.view_is) stands.there in
+    c.in-Ok.ensures.takes (first_there c.self.inside.pages disk files lacks.volume there lacks.reads lacks.first)
+    (made_is_long true c.args.file.now.name.items (spec_of c.args.file.now) files lacks.long)

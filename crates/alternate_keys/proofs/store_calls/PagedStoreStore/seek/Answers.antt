@@ -14,8 +14,8 @@ returns-clause-reads g c =
     (opened c.seek_in.new.pages c.self.inside.spent) c.seek_in.new.device) c.self.view_is
     (reads_of g.D.Device c.seek_in.result c.self.inside.pages c.seek_in.new.pages c.self.inside.spent c.args.device.now
     c.seek_in.new.device
-    c.seek_in.ensures.only c.seek_in.ensures.unchanged c.seek_in.ensures.agrees unspent c.seek_in.ensures.spent
-    c.seek_in.ensures.cause)
+    c.seek_in.ensures.looks.only c.seek_in.ensures.looks.unchanged c.seek_in.ensures.looks.agrees unspent
+    c.seek_in.ensures.spent c.seek_in.ensures.cause)
 
 pub returns-clause-found : goal.returns-clause-found
 returns-clause-found g c = λ files held stands has.

@@ -173,13 +173,14 @@ returns g c =
             there,
             all_after all c.args.file old new lt here does.select files a c.args.verb other none stands.there.1 now,
           )) (does.linked files down linked))
-          (λ moments. moments) (λ lacks. lacks) (does.turns files down linked);
+          (λ moments. moments) (λ fault lacks. lacks) (does.turns files down linked);
       full = λ files stands is.
           ap (λ (t : Step). has_changed c.args.verb t.status)
           (own_step_is all c.args.file old lt here files a c.args.verb none)
           ∙ does.full files (record { honest = stands.honest; there = stands.there.0 })
           (subst (OpenLinked files) here (linked_at files all c.args.file old lt stands.there.1)) is;
       never_full = does.never_full;
+      old = does.mark;
       idle = does.idle;
       refused = err_map r (λ same. record {
         connectors_are = same_connectors all c.args.file old new lt here does.select same.connector_is;

@@ -2,16 +2,16 @@ use Rattle.std.proofs.Common.{◌≡◌, ◌∙◌, ◌+◌, false, sym, ap, sub
 use Rattle.station.specs.History.{Through}
 use Rattle.station.specs.Blocks.{CrashLeaves}
 use Rattle.station.proofs.Spans.{stays}
-use Rattle.records.specs.Files.{Files, AreFiles}
+use Rattle.records.specs.Files.{Files}
 use Rattle.records.specs.Stores.{is_change, Either}
 use Rattle.file_bytes.specs.Stored.{files_of}
-use Rattle.half_store.specs.Half.{Holds, Rests, AreEarly}
+use Rattle.half_store.specs.Half.{Holds, Rests, AreHalfFiles}
 use Rattle.half_store.specs.declared.store.HalfStore.{HalfStore}
 use Rattle.half_store.proofs.Written.{at_rest}
 use Rattle.half_store.proofs.store.HalfStore.commit_files.Goals as goal
 
 pub returns-then-not-is_done-clause-settles : goal.returns-then-not-is_done-clause-settles
-returns-then-not-is_done-clause-settles g c = λ before after honest rests memory are early idle.
+returns-then-not-is_done-clause-settles g c = λ before after honest rests memory are idle.
     let old = g.D.Device.state c.args.device.now in
     let none : is_change c.args.outcome ≡ false = search rules in
     record {
@@ -25,10 +25,9 @@ returns-then-not-is_done-clause-settles g c = λ before after honest rests memor
     }
 
 pub returns-clause-settles : goal.returns-clause-settles
-returns-clause-settles g c = λ before after honest rests memory are early idle.
-    let are' = subst AreFiles (sym memory) are in
-    let early' = subst (AreEarly (c.args.self.now.generation + 1)) (sym memory) early in
-    let there = c.in_ok-write.ensures.rests honest before rests are' early' in
+returns-clause-settles g c = λ before after honest rests memory are idle.
+    let are' = subst (AreHalfFiles (c.args.self.now.generation + 1)) (sym memory) are in
+    let there = c.in_ok-write.ensures.rests honest before rests are' in
     record {
       stands = record {
         rests = subst (Rests c.write.new.self.sectors c.write.new.self.generation
@@ -38,6 +37,6 @@ returns-clause-settles g c = λ before after honest rests memory are early idle.
       moments = subst (λ (l : Files). Through (g.D.Device.history c.args.device.now)
           (g.D.Device.history c.write.new.device) (g.D.Device.state c.write.new.device)
           (CrashLeaves (g.D.Device.state c.args.device.now).events (Either Holds before l))) memory
-          (c.write.ensures.moments honest before rests are' early');
+          (c.write.ensures.moments honest before rests are');
       full = λ e. absurd {0} cc;
     }

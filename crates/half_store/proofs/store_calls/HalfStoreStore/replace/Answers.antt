@@ -6,13 +6,14 @@ use Rattle.records.specs.Spec.{Spec}
 use Rattle.records.specs.Changes.{replacement}
 use Rattle.records.specs.Stores.{Has, files_after, is_change}
 use Rattle.records.proofs.Changed.{replaced_are_files}
+use Rattle.records.proofs.Short.{replaced_short}
 use Rattle.file_bytes.specs.Stored.{files_of}
-use Rattle.half_store.specs.Half.{AreEarly}
+use Rattle.half_store.specs.Half.{AreEarly, AreHalfFiles}
 use Rattle.half_store.proofs.Written.{at_rest}
 use Rattle.half_store.proofs.Placed.{early_held, early_after, no_change}
 use Rattle.half_store.proofs.Rooms.{lacks_room}
 use Rattle.file_bytes.proofs.Checked.{all_bytes}
-use Rattle.half_store.proofs.Turned.{replaced_next, cause_sound}
+use Rattle.half_store.proofs.Turned.{replaced_next, cause_sound, cause_takes, memory_takes}
 use Rattle.half_store.proofs.store_calls.HalfStoreStore.replace.Goals as goal
 
 pub returns-then-self-clause-turns : goal.returns-then-self-clause-turns
@@ -25,6 +26,7 @@ returns-then-self-clause-turns g c = λ files held stands has.
           files (replacement c.args.number c.args.bytes.now held)) old stands.there.rests);
       sound = λ e. absurd cc;
       room = λ e. absurd cc;
+      mark = λ e. absurd cc;
     }
 
 pub returns-in_err-outcome-clause-turns : goal.returns-in_err-outcome-clause-turns
@@ -35,6 +37,7 @@ returns-in_err-outcome-clause-turns g c = λ files held stands has.
     let becomes = c.in_err-outcome.ensures.becomes held has' are' in
     let sound = becomes.sound in
     let full = becomes.full in
+    let takes = memory_takes c.replace_in.result c.replace_in.ensures.cause in
     record {
       there = search rules;
       moments = stays (g.D.Device.history c.args.device.now) old _
@@ -51,6 +54,7 @@ returns-in_err-outcome-clause-turns g c = λ files held stands has.
             early_held c.args.self.now.generation c.args.file.now.name.items files held stands.there.rests.holds.early
                 has.there,
           ))));
+      mark = search rules;
     }
 
 pub returns-clause-turns : goal.returns-clause-turns
@@ -75,7 +79,10 @@ returns-clause-turns g c = λ files held stands has.
     )) stands.there.rests.holds.early in
     let idle : is_change c.in_ok-outcome.outcome ≡ false → after ≡ files =
     λ none. no_change name files changed (sym (ap is_change becomes.outcome) ∙ none) in
-    let settles = c.commit_files.ensures.settles files after stands.honest stands.there.rests memory are early idle in
+    let short = replaced_short name held files c.args.number c.args.bytes.now
+    stands.there.rests.holds.short has.there in
+    let good : AreHalfFiles (generation + 1) after = record { sound = are; early = early; short = short } in
+    let settles = c.commit_files.ensures.settles files after stands.honest stands.there.rests memory good idle in
     record {
       there = on_ok c.commit_files.result (λ there.
           record { honest = c.commit_files.ensures.only.honest.0 stands.honest; there = there }) settles.stands;
@@ -83,6 +90,7 @@ returns-clause-turns g c = λ files held stands has.
       sound = cause_sound c.commit_files.result c.commit_files.ensures.cause;
       room = λ e. lacks_room c.args.self.now.sectors generation (g.D.Device.state c.args.device.now).disk files after
           stands.there.rests (settles.full e);
+      mark = λ e. absurd (cause_takes c.commit_files.result c.commit_files.ensures.cause e);
     }
 
 pub returns-in_err-outcome-clause-full : goal.returns-in_err-outcome-clause-full

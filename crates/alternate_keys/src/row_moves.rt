@@ -1,0 +1,65 @@
+//! The trees of a file after a change of a row.
+ghost use Rattle.std.specs.Prelude.{◌≡◌, ◌≤◌, ◌<◌, ◌+◌, ◌*◌, true, Err, length, OnOk, IfOk, IfErr};
+ghost use Rattle.pages.specs.Pages.{is_spent, committed_of, sectors_of, changed_pages_of, IsOpen};
+ghost use Rattle.pages.specs.Use.{free_count};
+ghost use Rattle.btree.specs.Calls.{pages_on};
+ghost use Rattle.btree.specs.Results.{FewChanged};
+ghost use Rattle.records.specs.Stores.{spec_of};
+ghost use Rattle.row_trees.specs.Calls.{EditsPages};
+ghost use Rattle.alternate_keys.specs.Faults.{IsWriteFault};
+ghost use Rattle.alternate_keys.specs.Moved.{HasValues, OnMoving, PairsMayMove};
+ghost use Rattle.alternate_keys.specs.Placed.{HasFileTrees};
+
+use crate::move_pairs::move_pairs;
+use crate::row_verb::RowVerb;
+use pages::PageMap;
+use records::{FileSpec, StoreFault};
+use station::Device;
+use std::alloc::Global;
+use volume_format::spell_listing;
+
+/// Moves the pairs of a row, after the tree of rows has changed. The answer is what the catalog is to say of the file then.
+pub(crate) fn move_row<D: Device>(
+    alloc: Global,
+    pages: &mut PageMap,
+    device: &mut D,
+    file: &FileSpec,
+    listing: &[u8],
+    verb: RowVerb,
+    old: &[u8],
+    arrival: u64,
+    bytes: &[u8],
+    root: u32,
+    next: u64,
+) -> Result<Vec<u8>, StoreFault>
+    requires open { IsOpen pages.old }
+    requires sectors { sectors_of pages.old ≤ D.sectors device.old }
+    requires listing { length listing.now ≡ 83 }
+    requires values { HasValues verb (spec_of file.now) old.now bytes.now }
+    ensures edits { EditsPages D.Device (result ≡ Err StoreFault.Device) pages.old device.old
+        pages.new device.new }
+    ensures placed { OnMoving D.Device verb (spec_of file.now) pages.old device.old listing.now root
+        old.now bytes.now arrival next (λ held after generation left right.
+        IfOk result (λ new. HasFileTrees after (generation + 1)
+        (pages_on D.Device pages.new device.old) left right new.items)) }
+    ensures few { OnMoving D.Device verb (spec_of file.now) pages.old device.old listing.now root
+        old.now bytes.now arrival next (λ held after generation left right.
+        OnOk result (FewChanged (84 * length file.now.alternates.items) pages.old pages.new)) }
+    ensures room { OnMoving D.Device verb (spec_of file.now) pages.old device.old listing.now root
+        old.now bytes.now arrival next (λ held after generation left right.
+        result ≡ Err StoreFault.Full → free_count (committed_of pages.old) < length
+        (changed_pages_of pages.old) + 84 * length file.now.alternates.items) }
+    ensures damaged { OnMoving D.Device verb (spec_of file.now) pages.old device.old listing.now
+        root old.now bytes.now arrival next (λ held after generation left right.
+        PairsMayMove verb held.file old.now bytes.now arrival → result ≡ Err StoreFault.Damaged
+        → ⊥) }
+    ensures long { IfOk result (λ new. length new.items ≡ 83) }
+    ensures spent { result ≡ Err StoreFault.Spent → is_spent pages.old ≡ true }
+    ensures cause { IfErr result IsWriteFault }
+{
+    let roots = move_pairs(
+        alloc, pages, device, file, listing, verb, old, arrival, bytes,
+    )?;
+    let new = spell_listing(alloc, file, root, &roots, next)?;
+    Ok(new)
+}

@@ -1,0 +1,89 @@
+use Rattle.std.proofs.Common.{◌≡◌, inr, List, Err, sym, ap, subst, ◌∙◌, arith}
+use Rattle.std.specs.Prelude.{Option}
+use Rattle.station.specs.Disk.{Sector}
+use Rattle.btree.specs.Calls.{pages_on}
+use Rattle.chains.specs.Chain.{pages_for}
+use Rattle.records.specs.declared.fault.StoreFault.TheVariants.{Device, Damaged}
+use Rattle.volume_format.proofs.Looks.{looks_nowhere, looks_blamed, looks_then}
+use Rattle.file_recovery.specs.Chained.{MarksLink, NoMarkedLink}
+use Rattle.file_recovery.proofs.Calling.{pages_kept}
+use Rattle.file_recovery.proofs.Following.{marked_start, marked_next, marked_all, no_more, no_end}
+use Rattle.file_recovery.proofs.chained.check_chain.Goals as goal
+
+pub loop-place-init : goal.loop-place-init
+loop-place-init g c = record {
+  looks = looks_nowhere g.D.Device c.args.pages.now c.args.device.now c.requires.open;
+  marked = λ honest agrees.
+      marked_start (pages_on g.D.Device c.args.pages.now c.args.device.now) c.args.first c.args.seen.now;
+}
+
+pub loop-place-preserved : goal.loop-place-preserved
+loop-place-preserved g c =
+    let loop = c.loop-place in
+    let looks = loop.invariant.looks in
+    record {
+      looks = looks_then g.D.Device ⊥ (c.mark_link.result ≡ Err Device) ⊥ c.args.pages.now loop.pages
+          c.mark_link.new.pages c.args.device.now loop.device c.mark_link.new.device (λ is. absurd is) looks
+          c.mark_link.ensures.looks;
+      marked = λ honest agrees.
+          let same = pages_kept g.D.Device ⊥ c.args.pages.now loop.pages c.args.device.now loop.device looks honest in
+          marked_next (pages_on g.D.Device c.args.pages.now c.args.device.now) loop.place c.args.first loop.page
+          c.in_ok-next.next c.args.seen.now loop.seen c.mark_link.new.seen (loop.invariant.marked honest agrees)
+          (subst (λ (p : List (Option Sector)).
+          MarksLink p loop.page loop.seen c.mark_link.new.seen c.in_ok-next.next) same
+          (c.in_ok-next.ensures.link (looks.only.honest.0 honest) (looks.agrees honest agrees)));
+    }
+
+pub returns-in_err-next-clause-looks : goal.returns-in_err-next-clause-looks
+returns-in_err-next-clause-looks g c =
+    let loop = c.loop-place in
+    looks_then g.D.Device ⊥ (c.mark_link.result ≡ Err Device) _ c.args.pages.now loop.pages
+    c.mark_link.new.pages c.args.device.now loop.device c.mark_link.new.device
+    (λ is. let from = rw is at c.from_residual.ensures.1 in let fault : c.in_err-next.field-0.0 ≡ Device =
+    sym from in let told : c.mark_link.result ≡ Err Device = c.in_err-next.was ∙ ap Err fault in inr told)
+    loop.invariant.looks c.mark_link.ensures.looks
+
+pub returns-in_err-next-clause-damaged : goal.returns-in_err-next-clause-damaged
+returns-in_err-next-clause-damaged g c = λ honest agrees refused stands can.
+    let from = rw refused at c.from_residual.ensures.1 in
+    let fault : c.in_err-next.field-0.0 ≡ Damaged = sym from in
+    let told : c.mark_link.result ≡ Err Damaged = c.in_err-next.was ∙ ap Err fault in
+    let loop = c.loop-place in
+    let looks = loop.invariant.looks in
+    let same = pages_kept g.D.Device ⊥ c.args.pages.now loop.pages c.args.device.now loop.device looks honest in
+    let test = c.loop-place-test.true in
+    let count = c.page_count-count.ensures in
+    no_more (pages_on g.D.Device c.args.pages.now c.args.device.now) (pages_for c.args.size) loop.place c.args.first
+    loop.page c.args.seen.now loop.seen (omega arith) (loop.invariant.marked honest agrees)
+    (subst (λ (p : List (Option Sector)). NoMarkedLink p loop.page loop.seen) same
+    (c.mark_link.ensures.damaged (looks.only.honest.0 honest) (looks.agrees honest agrees) told)) stands can
+
+pub returns-then-page-ne0-clause-damaged : goal.returns-then-page-ne0-clause-damaged
+returns-then-page-ne0-clause-damaged g c = λ honest agrees told stands can.
+    let loop = c.loop-place in
+    let test = c.loop-place-test.false in
+    let bound = loop.auto.place-end in
+    let count = c.page_count-count.ensures in
+    no_end (pages_on g.D.Device c.args.pages.now c.args.device.now) (pages_for c.args.size) loop.place c.args.first
+    loop.page c.args.seen.now loop.seen (omega arith) (loop.invariant.marked honest agrees) c.if-page-ne0.true stands
+    can
+
+pub returns-then-page-ne0-clause-looks : goal.returns-then-page-ne0-clause-looks
+returns-then-page-ne0-clause-looks g c =
+    looks_blamed g.D.Device ⊥ _ c.args.pages.now c.loop-place.pages c.args.device.now c.loop-place.device
+    (λ is. let never : ⊥ = cc in absurd never) c.loop-place.invariant.looks
+
+pub returns-clause-looks : goal.returns-clause-looks
+returns-clause-looks g c =
+    looks_blamed g.D.Device ⊥ _ c.args.pages.now c.loop-place.pages c.args.device.now c.loop-place.device
+    (λ is. let never : ⊥ = cc in absurd never) c.loop-place.invariant.looks
+
+pub returns-clause-chain : goal.returns-clause-chain
+returns-clause-chain g c = λ honest agrees.
+    let loop = c.loop-place in
+    let test = c.loop-place-test.false in
+    let bound = loop.auto.place-end in
+    let count = c.page_count-count.ensures in
+    marked_all (pages_on g.D.Device c.args.pages.now c.args.device.now) (pages_for c.args.size) loop.place c.args.first
+    loop.page c.args.seen.now loop.seen (omega arith) (omega (arith, c.if-page-ne0.false))
+    (loop.invariant.marked honest agrees)

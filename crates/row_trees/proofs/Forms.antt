@@ -1,0 +1,116 @@
+-- The form of a tree whose records are in chains, and that of one which has its records itself.
+use Rattle.std.proofs.Common.{◌≡◌, ◌≢◌, ◌<◌, ◌≤◌, ◌+◌, ◌-◌, ◌^◌, ◌++◌, ℕ, zero, suc, List, [], ◌∷◌, length, take, drop}
+use Rattle.std.proofs.Common.{refl, sym, ap, subst, ◌∙◌}
+use Rattle.std.specs.Prelude.{Option}
+use Rattle.std.proofs.lemmas.List.{length-drop}
+use Rattle.byteorder.specs.Endian.{big_bytes, big_number}
+use Rattle.byteorder.specs.Numbers.{big_number-reads_back}
+use Rattle.station.specs.Disk.{Sector}
+use Rattle.btree.specs.Entries.{Entry}
+use Rattle.chains.specs.Chain.{chain_bytes, pages_for, with_zeros}
+use Rattle.chains.specs.Rows.{HasChain, chain_of, chains_of, unrolled_entry}
+use Rattle.volume_format.specs.Chained.{form_of}
+use Rattle.btree_pages.specs.declared.row_layout.RowLayout.{RowLayout}
+use Rattle.row_trees.specs.RowTree.{whole_length, FitsForm}
+
+-- the entry of a key and a value
+abbrev pub pair : List ℕ → List ℕ → Entry
+pair key value = record { key = key; value = value }
+
+-- an entry with a record in the place of its first page
+abbrev pub with_record : ℕ → List (Option Sector) → Entry → Entry
+with_record n pages entry = pair entry.key
+    (take n (chain_bytes pages (pages_for n) (big_number 4 entry.value)) ++ drop 4 entry.value)
+
+-- In a tree with chains.
+pub unrolled_long : (n : ℕ) (pages : List (Option Sector)) (entry : Entry) → n ≢ 0
+    → unrolled_entry (form_of n) pages entry ≡ with_record n pages entry
+unrolled_long zero pages entry long = absurd (long refl)
+unrolled_long (suc more) pages entry long = refl
+
+-- what is asked of the chain of an entry
+pub of_chain : (n : ℕ) (entry : Entry) (P : ℕ → ℕ → Type 0) → n ≢ 0
+    → P (form_of n).count ((form_of n).first entry) → P (pages_for n) (big_number 4 entry.value)
+of_chain zero entry P long is = absurd (long refl)
+of_chain (suc more) entry P long is = is
+
+pub as_chain : (n : ℕ) (entry : Entry) (P : ℕ → ℕ → Type 0) → n ≢ 0
+    → P (pages_for n) (big_number 4 entry.value) → P (form_of n).count ((form_of n).first entry)
+as_chain zero entry P long is = absurd (long refl)
+as_chain (suc more) entry P long is = is
+
+-- a value with the first page of a chain tells that page
+pub first_told : (first : ℕ) (rest : List ℕ) → first < 2 ^ 32 → big_number 4 (big_bytes 4 first ++ rest) ≡ first
+first_told first rest small = big_number-reads_back 4 first rest small
+
+take_whole : (bytes rest : List ℕ) → take (length bytes) (bytes ++ rest) ≡ bytes
+take_whole [] rest = refl
+take_whole (x ∷ bytes) rest = ap (λ (l : List ℕ). x ∷ l) (take_whole bytes rest)
+
+pub take_all : (n : ℕ) (bytes : List ℕ) → n ≡ length bytes → take n bytes ≡ bytes
+take_all n bytes is = ap (λ (k : ℕ). take k bytes) is ∙ whole bytes
+  where
+    whole : (bytes : List ℕ) → take (length bytes) bytes ≡ bytes
+    whole [] = refl
+    whole (x ∷ bytes) = ap (λ (l : List ℕ). x ∷ l) (whole bytes)
+
+pub record_back : (n : ℕ) (bytes rest : List ℕ) → length bytes ≡ n → take n (bytes ++ rest) ≡ bytes
+record_back n bytes rest is = ap (λ (k : ℕ). take k (bytes ++ rest)) (sym is) ∙ take_whole bytes rest
+
+-- an entry whose chain holds a record is seen with that record
+pub seen_with : (n : ℕ) (pages : List (Option Sector)) (entry : Entry) (bytes : List ℕ) → n ≢ 0 → length bytes ≡ n
+    → chain_bytes pages (pages_for (length bytes)) (big_number 4 entry.value) ≡ with_zeros bytes
+    → unrolled_entry (form_of n) pages entry ≡ pair entry.key (bytes ++ drop 4 entry.value)
+seen_with n pages entry bytes long is holds =
+    let first = big_number 4 entry.value in
+    unrolled_long n pages entry long
+    ∙ ap (λ (k : ℕ). pair entry.key (take n (chain_bytes pages (pages_for k) first) ++ drop 4 entry.value)) (sym is)
+    ∙ ap (λ (l : List ℕ). pair entry.key (take n l ++ drop 4 entry.value)) holds
+    ∙ ap (λ (l : List ℕ). pair entry.key (l ++ drop 4 entry.value)) (record_back n bytes _ is)
+
+-- In a tree without chains.
+pub unrolled_short : (n : ℕ) (pages : List (Option Sector)) (entry : Entry) → n ≡ 0
+    → unrolled_entry (form_of n) pages entry ≡ entry
+unrolled_short n pages entry short = ap (λ (k : ℕ). unrolled_entry (form_of k) pages entry) short
+
+pub short_chain : (n : ℕ) (pages : List (Option Sector)) (entry : Entry) → n ≡ 0 → HasChain (form_of n) pages entry
+short_chain n pages entry short = subst (λ (k : ℕ). HasChain (form_of k) pages entry) (sym short) refl
+
+pub no_chain : (n : ℕ) (pages : List (Option Sector)) (entry : Entry) → n ≡ 0 → chain_of (form_of n) pages entry ≡ []
+no_chain n pages entry short = ap (λ (k : ℕ). chain_of (form_of k) pages entry) short
+
+none_chained : (pages : List (Option Sector)) (entries : List Entry) → chains_of (form_of 0) pages entries ≡ []
+none_chained pages [] = refl
+none_chained pages (entry ∷ more) = none_chained pages more
+
+pub no_chains : (n : ℕ) (pages : List (Option Sector)) (entries : List Entry) → n ≡ 0
+    → chains_of (form_of n) pages entries ≡ []
+no_chains n pages entries short =
+    ap (λ (k : ℕ). chains_of (form_of k) pages entries) short ∙ none_chained pages entries
+
+-- The lengths of values.
+pub whole_short : (n stored size : ℕ) → n ≡ 0 → size ≡ whole_length n stored → size ≡ stored
+whole_short n stored size short is = is ∙ ap (λ (k : ℕ). whole_length k stored) short
+
+pub whole_long : (n stored : ℕ) → n ≢ 0 → whole_length n stored ≡ n + (stored - 4)
+whole_long zero stored long = absurd (long refl)
+whole_long (suc more) stored long = refl
+
+pub fits_long : (n : ℕ) (layout : RowLayout) → n ≢ 0 → FitsForm n layout
+    → (4 ≤ layout.value_length) × (layout.value_length ≤ 64)
+fits_long zero layout long fits = absurd (long refl)
+fits_long (suc more) layout long fits = fits
+
+-- A value that was put together of a record and the rest of another value.
+pub value_made : (n : ℕ) (bytes old two value made : List ℕ)
+    → made ≡ take n (bytes ++ drop (length bytes) old) ++ take (length two - 4) (drop 4 two) → n ≡ length bytes
+    → two ≡ value → made ≡ bytes ++ drop 4 value
+value_made n bytes old two value made is many same =
+    is ∙ ap (λ (l : List ℕ). l ++ take (length two - 4) (drop 4 two)) (record_back n bytes _ (sym many))
+    ∙ ap (λ (l : List ℕ). bytes ++ l) (take_all (length two - 4) (drop 4 two) (sym (length-drop 4 two)))
+    ∙ ap (λ (l : List ℕ). bytes ++ drop 4 l) same
+
+pub rest_is : (two value rest : List ℕ) → take (length two - 4) (drop 4 two) ≡ rest → two ≡ value
+    → drop 4 value ≡ rest
+rest_is two value rest is same =
+    ap (drop 4) (sym same) ∙ sym (take_all (length two - 4) (drop 4 two) (sym (length-drop 4 two))) ∙ is

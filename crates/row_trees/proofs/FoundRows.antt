@@ -1,0 +1,107 @@
+-- What a search of a tree of rows answers.
+use Rattle.std.proofs.Common.{◌≡◌, ◌≢◌, ◌++◌, ℕ, List, length, sym, ap, subst, ◌∙◌}
+use Rattle.std.specs.Prelude.{Option, Some, None, option_map, take, drop}
+use Rattle.station.specs.Disk.{Sector}
+use Rattle.station.specs.declared.device.Device.{Ghosts as Devices}
+use Rattle.byteorder.specs.Endian.{big_number}
+use Rattle.pages.specs.Pages.{Agrees}
+use Rattle.pages.specs.declared.page_map.PageMap.{PageMap}
+use Rattle.btree.specs.Calls.{OnPages, pages_on}
+use Rattle.btree.specs.Entries.{Entry, entry_with}
+use Rattle.btree.specs.Tree.{TreeNode, IsTreeOrEmpty}
+use Rattle.chains.specs.Chain.{pages_for}
+use Rattle.chains.specs.Chain as chain
+use Rattle.chains.specs.Calls.{OnNoChain}
+use Rattle.chains.specs.Changes.{IsRecordOf}
+use Rattle.chains.specs.Rows.{unrolled_entry}
+use Rattle.volume_format.specs.Calls.{LooksAt}
+use Rattle.volume_format.specs.Chained.{form_of}
+use Rattle.volume_format.specs.Forest.{TreeLevels}
+use Rattle.row_trees.specs.RowTree.{ChainedTree, IsRowTree}
+use Rattle.row_trees.proofs.Calling.{pages_told, same_on}
+use Rattle.row_trees.proofs.Among.{stored_in, stands_alone, seen_alone}
+use Rattle.row_trees.proofs.Forms.{pair, unrolled_long, unrolled_short}
+use Rattle.row_trees.proofs.Long.{found_chain}
+use Rattle.row_trees.proofs.Short.{found_seen}
+
+-- what a search of the tree itself says
+abbrev pub Says : List (Option Sector) → ChainedTree → List ℕ → Option Entry → Type 0
+Says pages rows key told = (levels : List (List TreeNode)) → IsTreeOrEmpty rows.tree.layout pages rows.tree.root levels
+    → told ≡ entry_with (stored_in rows levels) key
+
+pub got_seen : (pages : List (Option Sector)) (rows : ChainedTree) (planted : TreeLevels) (key : List ℕ)
+    (told : Option Entry) → IsRowTree pages rows planted → Says pages rows key told
+    → option_map (unrolled_entry (form_of rows.record_bytes) pages) told ≡ entry_with planted.entries key
+got_seen pages rows planted key told is says =
+    ap (option_map (unrolled_entry (form_of rows.record_bytes) pages))
+    (says planted.levels (stands_alone pages rows planted is).tree)
+    ∙ sym (found_seen pages rows planted.levels planted.entries key (seen_alone pages rows planted is))
+
+pub none_got : (pages : List (Option Sector)) (rows : ChainedTree) (planted : TreeLevels) (key : List ℕ)
+    (told : Option Entry) → IsRowTree pages rows planted → Says pages rows key told → told ≡ None
+    → None ≡ entry_with planted.entries key
+none_got pages rows planted key told is says none =
+    sym (ap (option_map (unrolled_entry (form_of rows.record_bytes) pages)) none)
+    ∙ got_seen pages rows planted key told is says
+
+pub short_got : (pages : List (Option Sector)) (rows : ChainedTree) (planted : TreeLevels) (key : List ℕ)
+    (told : Option Entry) (entry : Entry) → IsRowTree pages rows planted → Says pages rows key told
+    → told ≡ Some entry → rows.record_bytes ≡ 0 → Some entry ≡ entry_with planted.entries key
+short_got pages rows planted key told entry is says some short =
+    ap Some (sym (unrolled_short rows.record_bytes pages entry short))
+    ∙ sym (ap (option_map (unrolled_entry (form_of rows.record_bytes) pages)) some)
+    ∙ got_seen pages rows planted key told is says
+
+-- the entry's chain stands
+pub got_chain : (pages : List (Option Sector)) (rows : ChainedTree) (planted : TreeLevels) (key : List ℕ)
+    (told : Option Entry) (entry : Entry) → IsRowTree pages rows planted → Says pages rows key told
+    → told ≡ Some entry → rows.record_bytes ≢ 0
+    → chain.Stands pages (pages_for rows.record_bytes) (big_number 4 entry.value)
+got_chain pages rows planted key told entry is says some long =
+    let stands = stands_alone pages rows planted is in
+    found_chain pages rows planted.levels key entry long stands (sym (says planted.levels stands.tree) ∙ some)
+
+-- and its bytes are the record
+pub record_seen : (n : ℕ) (pages : List (Option Sector)) (entry : Entry) (bytes : List ℕ) (first : ℕ) → n ≢ 0
+    → length bytes ≡ n → first ≡ big_number 4 entry.value → IsRecordOf pages first bytes
+    → pair entry.key (bytes ++ drop 4 entry.value) ≡ unrolled_entry (form_of n) pages entry
+record_seen n pages entry bytes first long many is read =
+    ap (λ (l : List ℕ). pair entry.key (l ++ drop 4 entry.value)) (read.bytes_are
+    ∙ ap (λ (k : ℕ). take k (chain.chain_bytes pages (pages_for k) first)) many
+    ∙ ap (λ (page : ℕ). take n (chain.chain_bytes pages (pages_for n) page)) is)
+    ∙ sym (unrolled_long n pages entry long)
+
+pub long_got : (pages : List (Option Sector)) (rows : ChainedTree) (planted : TreeLevels) (key : List ℕ)
+    (told : Option Entry) (entry : Entry) (bytes value : List ℕ) (first : ℕ) → IsRowTree pages rows planted
+    → Says pages rows key told → told ≡ Some entry → rows.record_bytes ≢ 0 → length bytes ≡ rows.record_bytes
+    → first ≡ big_number 4 entry.value → value ≡ bytes ++ drop 4 entry.value → IsRecordOf pages first bytes
+    → Some (pair entry.key value) ≡ entry_with planted.entries key
+long_got pages rows planted key told entry bytes value first is says some long many first_is whole read =
+    ap (λ (l : List ℕ). Some (pair entry.key l)) whole
+    ∙ ap Some (record_seen rows.record_bytes pages entry bytes first long many first_is read)
+    ∙ sym (ap (option_map (unrolled_entry (form_of rows.record_bytes) pages)) some)
+    ∙ got_seen pages rows planted key told is says
+
+module _ {D : Type 0} (d : Devices D) where
+  -- so a read of it isn't refused as damaged
+  pub read_whole : (A : Type 0) (p q : PageMap) (a b : D) (rows : ChainedTree) (planted : TreeLevels) (key : List ℕ)
+      (told : Option Entry) (entry : Entry) (size first : ℕ) (refused : Type 0) → LooksAt d A p a q b
+      → OnNoChain d (pages_for size) first q b refused → size ≡ rows.record_bytes → first ≡ big_number 4 entry.value
+      → rows.record_bytes ≢ 0 → told ≡ Some entry → d.is_honest a → Agrees p (d.state a).disk
+      → IsRowTree (pages_on d p a) rows planted → Says (pages_on d p a) rows key told → refused → ⊥
+  read_whole A p q a b rows planted key told entry size first refused looks never many first_is long some honest agrees
+      is says damaged =
+      let S : ℕ → ℕ → Type 0 = λ count page. chain.Stands (pages_on d p a) (pages_for count) page in
+      let stands = got_chain (pages_on d p a) rows planted key told entry is says some long in
+      let claim : List (Option Sector) → Type 0 = λ l. refused → chain.Stands l (pages_for size) first → ⊥ in
+      subst claim (same_on d p q a looks.unchanged)
+      (pages_told d A q a b claim honest looks.only (looks.agrees honest agrees) never) damaged
+      (subst (λ (k : ℕ). S k first) (sym many) (subst (S rows.record_bytes) (sym first_is) stands))
+
+  pub read_on : (A : Type 0) (p q : PageMap) (a b : D) (bytes : List ℕ) (first : ℕ) → LooksAt d A p a q b
+      → OnPages d q b (λ before. IsRecordOf before first bytes) → d.is_honest a → Agrees p (d.state a).disk
+      → IsRecordOf (pages_on d p a) first bytes
+  read_on A p q a b bytes first looks read honest agrees =
+      let claim : List (Option Sector) → Type 0 = λ l. IsRecordOf l first bytes in
+      subst claim (same_on d p q a looks.unchanged)
+      (pages_told d A q a b claim honest looks.only (looks.agrees honest agrees) read)

@@ -1,0 +1,14 @@
+pub mod Passing
+pub mod Calling
+pub mod Among
+pub mod Forms
+pub mod Changes
+pub mod Releasing
+pub mod Short
+pub mod Long
+pub mod LaidRows
+pub mod TakenRows
+pub mod RewrittenRows
+pub mod FoundRows
+pub mod ReleasedRows
+pub mod ReadRows

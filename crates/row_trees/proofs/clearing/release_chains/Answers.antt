@@ -1,0 +1,313 @@
+use Rattle.std.proofs.Common.{◌≡◌, inr, Err, List, [], ℕ, length, sym, ap, subst, ◌∙◌, arith}
+use Rattle.std.specs.Prelude.{Option, Some, None, IfErr, IfSome}
+use Rattle.station.specs.Disk.{Sector}
+use Rattle.byteorder.specs.Endian.{big_number}
+use Rattle.pages.specs.declared.error.PagesError.TheVariants.{Device}
+use Rattle.btree.specs.Changes.{pages_of_map}
+use Rattle.btree.specs.Entries.{Entry, HasLengths, first_entry_after}
+use Rattle.btree.specs.Moves.{Moves}
+use Rattle.btree.specs.Refusals.{IsChangeRefusal}
+use Rattle.btree.proofs.Passing.{passed, never_ok, still_error, search_is_change, sectors_on, damaged_not_device}
+use Rattle.btree.specs.Tree.{TreeNode, IsTreeOrEmpty}
+use Rattle.chains.specs.Chain.{pages_for}
+use Rattle.chains.specs.Chain as chain
+use Rattle.volume_format.proofs.Looks.{looks_then}
+use Rattle.row_trees.specs.Calls.{EditsPages}
+use Rattle.row_trees.proofs.Among.{chained, chains_alone, stands_alone, stored_in}
+use Rattle.row_trees.proofs.Calling.{looks_by, looks_edits, edits_by, edits_where, edits_last, refused_by_call}
+use Rattle.row_trees.proofs.Calling.{pages_told}
+use Rattle.row_trees.proofs.Forms.{fits_long}
+use Rattle.row_trees.proofs.Releasing.{Releasing, releases_some, releases_end}
+use Rattle.row_trees.proofs.ReleasedRows.{releases_first, chain_next, chain_gone, tree_next, releases_next}
+use Rattle.row_trees.proofs.TakenRows.{read_tells}
+use Rattle.row_trees.proofs.clearing.release_chains.Goals as goal
+
+pub loop-place-init : goal.loop-place-init
+loop-place-init g c =
+    let one = c.count.ensures in
+    let two = c.first.ensures in
+    let counted = looks_by g.D.Device _ _ _ _ _ one.only one.unchanged one.agrees one.open in
+    let looked = looks_by g.D.Device _ _ _ _ _ two.only two.unchanged two.agrees two.open in
+    record {
+      edits = looks_edits g.D.Device ⊥ _ _ _ _
+          (looks_then g.D.Device _ _ ⊥ _ _ _ _ _ _ (λ never. absurd never) counted looked);
+      filled = let a = one.unchanged.filled in let b = two.unchanged.filled in omega (arith, a, b);
+      lengths = c.in_ok-next.ensures.lengths;
+      rest = λ honest agrees planted is.
+          let image = (g.D.Device.state c.args.device.now).disk.present in
+          let rows = chained c.args.tree.now c.args.record_bytes in
+          releases_first g.D.Device _ _ c.args.pages.now c.count.new.pages c.first.new.pages c.args.device.now
+          c.count.new.device c.first.new.device rows planted.levels c.in_ok-next.next counted looked
+          c.in_ok-next.ensures.entry honest agrees
+          (stands_alone (pages_of_map c.args.pages.now image) rows planted is);
+    }
+
+pub loop-place-preserved : goal.loop-place-preserved
+loop-place-preserved g c =
+    let loop = c.loop-place in
+    let invariant = loop.invariant in
+    let rel = c.release.ensures in
+    let nxt = c.next.ensures in
+    record {
+      edits = edits_last g.D.Device _ _ ⊥ _ _ _ _ _ _ (λ never. absurd never)
+          (edits_last g.D.Device ⊥ _ ⊥ _ _ _ _ _ _ (λ never. absurd never) invariant.edits
+          (edits_by g.D.Device _ _ _ _ _ rel.only rel.committed rel.catalog rel.agrees rel.open))
+          (looks_edits g.D.Device _ _ _ _ _
+          (looks_by g.D.Device _ _ _ _ _ nxt.only nxt.unchanged nxt.agrees nxt.open));
+      filled = let a = invariant.filled in let b = rel.filled in let e = nxt.unchanged.filled in omega (arith, a, b, e);
+      lengths = c.in_ok-next-2.ensures.lengths;
+      rest = λ honest agrees planted is.
+          let image = (g.D.Device.state c.args.device.now).disk.present in
+          let before = pages_of_map c.args.pages.now image in
+          let rows = chained c.args.tree.now c.args.record_bytes in
+          let levels = planted.levels in
+          let state : Releasing before rows levels (pages_of_map loop.pages image) loop.place (Some c.in-Some.entry) =
+          subst (Releasing before rows levels (pages_of_map loop.pages image) loop.place) c.in-Some.is
+          (invariant.rest honest agrees planted is) in
+          let first_is = c.first_page.ensures ∙ ap (big_number 4) c.value.ensures in
+          let rel = c.release.ensures in
+          let edits = edits_last g.D.Device ⊥ _ ⊥ _ _ _ _ _ _ (λ never. absurd never) invariant.edits
+          (edits_by g.D.Device _ _ _ _ _ rel.only rel.committed rel.catalog rel.agrees rel.open) in
+          let gone =
+          chain_gone g.D.Device ⊥ before loop.pages c.release.new.pages c.args.device.now loop.device rows levels
+          loop.place c.in-Some.entry c.first_page.result invariant.edits.only c.in_ok-release.ensures.released
+          c.requires.chains first_is honest (invariant.edits.agrees honest agrees) state in
+          releases_next g.D.Device ⊥ before loop.pages c.release.new.pages c.next.new.pages c.args.device.now
+          c.release.new.device rows levels loop.place c.in-Some.entry _ edits.only (λ h a levels tree.
+          c.in_ok-next-2.ensures.entry h a levels tree ∙ ap (first_entry_after (stored_in rows levels)) c.key.ensures)
+          nxt.unchanged c.requires.chains honest (edits.agrees honest agrees) state gone;
+    }
+
+-- What the calls require.
+pub first_page-requires : goal.first_page-requires
+first_page-requires g c =
+    let lengths : HasLengths c.args.tree.now.layout c.in-Some.entry =
+    subst (λ (o : Option Entry). IfSome o (HasLengths c.args.tree.now.layout)) c.in-Some.is
+    c.loop-place.invariant.lengths in
+    let fits = (fits_long c.args.record_bytes c.args.tree.now.layout c.requires.chains c.requires.form).0 in
+    let long = lengths.1 in
+    let same = ap (λ (l : List ℕ). length l) c.value.ensures in
+    omega (arith, fits, long, same)
+
+pub release-requires-clause-sectors : goal.release-requires-clause-sectors
+release-requires-clause-sectors g c =
+    sectors_on c.args.pages.now c.loop-place.pages _ _
+    c.loop-place.invariant.edits.committed.volume c.loop-place.invariant.edits.only.sectors c.requires.sectors
+
+pub next-requires-clause-sectors : goal.next-requires-clause-sectors
+next-requires-clause-sectors g c =
+    let edits = c.loop-place.invariant.edits in
+    sectors_on c.loop-place.pages c.release.new.pages _ _ c.release.ensures.committed.volume
+    c.release.ensures.only.sectors (sectors_on c.args.pages.now c.loop-place.pages _ _ edits.committed.volume
+    edits.only.sectors c.requires.sectors)
+
+-- The entries are not counted, or the first one is not found.
+pub returns-in_err-count-clause-edits : goal.returns-in_err-count-clause-edits
+returns-in_err-count-clause-edits g c =
+    let one = c.in_err-count.ensures in
+    passed c.from_residual.result c.in_err-count.field-0.0 c.from_residual.ensures.1
+    (λ r. EditsPages g.D.Device (r ≡ Err Device) c.args.pages.now c.args.device.now c.count.new.pages
+    c.count.new.device)
+    (edits_where g.D.Device _ _ _ _ _ _ (λ is. still_error is)
+    (looks_edits g.D.Device _ _ _ _ _ (looks_by g.D.Device _ _ _ _ _ one.only one.unchanged one.agrees one.open)))
+
+pub returns-in_err-count-clause-damaged : goal.returns-in_err-count-clause-damaged
+returns-in_err-count-clause-damaged g c = λ honest agrees planted is told.
+    let image = (g.D.Device.state c.args.device.now).disk.present in
+    let before = pages_of_map c.args.pages.now image in
+    let rows = chained c.args.tree.now c.args.record_bytes in
+    let levels = planted.levels in
+    c.count.ensures.damaged honest agrees (refused_by_call c.in_err-count.was c.from_residual.ensures.1 told) levels
+    (stands_alone before rows planted is).tree
+
+pub returns-in_err-count-clause-filled : goal.returns-in_err-count-clause-filled
+returns-in_err-count-clause-filled g c =
+    let a = c.count.ensures.unchanged.filled in omega (arith, a)
+
+pub returns-in_err-next-clause-edits : goal.returns-in_err-next-clause-edits
+returns-in_err-next-clause-edits g c =
+    let one = c.count.ensures in
+    let two = c.in_err-next.ensures in
+    let counted = looks_by g.D.Device _ _ _ _ _ one.only one.unchanged one.agrees one.open in
+    passed c.from_residual-in_err-next.result c.in_err-next.field-0.0 c.from_residual-in_err-next.ensures.1
+    (λ r. EditsPages g.D.Device (r ≡ Err Device) c.args.pages.now c.args.device.now c.first.new.pages
+    c.first.new.device)
+    (looks_edits g.D.Device _ _ _ _ _ (looks_then g.D.Device _ _ _ _ _ _ _ _ _ (λ is. inr (still_error is)) counted
+    (looks_by g.D.Device _ _ _ _ _ two.only two.unchanged two.agrees two.open)))
+
+pub returns-in_err-next-clause-damaged : goal.returns-in_err-next-clause-damaged
+returns-in_err-next-clause-damaged g c = λ honest agrees planted is told.
+    let image = (g.D.Device.state c.args.device.now).disk.present in
+    let before = pages_of_map c.args.pages.now image in
+    let rows = chained c.args.tree.now c.args.record_bytes in
+    let levels = planted.levels in
+    let one = c.count.ensures in
+    let counted = looks_by g.D.Device _ _ _ _ _ one.only one.unchanged one.agrees one.open in
+    let damaged = refused_by_call c.in_err-next.was c.from_residual-in_err-next.ensures.1 told in
+    read_tells g.D.Device _ c.args.pages.now c.count.new.pages c.args.device.now c.count.new.device rows levels
+    (λ levels. ⊥) counted honest agrees (stands_alone before rows planted is)
+    (λ h a levels tree. c.first.ensures.damaged h a damaged levels tree)
+
+pub returns-in_err-next-clause-filled : goal.returns-in_err-next-clause-filled
+returns-in_err-next-clause-filled g c =
+    let a = c.count.ensures.unchanged.filled in
+    let b = c.first.ensures.unchanged.filled in
+    omega (arith, a, b)
+
+pub returns-in_err-next-clause-spent : goal.returns-in_err-next-clause-spent
+returns-in_err-next-clause-spent g c = λ is.
+    sym c.count.ensures.unchanged.committed.spent
+    ∙ (c.first.ensures.spent.0 (refused_by_call c.in_err-next.was c.from_residual-in_err-next.ensures.1 is)).0
+
+pub returns-in_err-next-clause-cause : goal.returns-in_err-next-clause-cause
+returns-in_err-next-clause-cause g c =
+    passed c.from_residual-in_err-next.result c.in_err-next.field-0.0
+    c.from_residual-in_err-next.ensures.1 (λ r. IfErr r IsChangeRefusal)
+    (search_is_change c.args.tree.now.layout c.in_err-next.field-0.0 c.in_err-next.ensures.cause)
+
+-- There is no next entry.
+pub returns-in-None-clause-edits : goal.returns-in-None-clause-edits
+returns-in-None-clause-edits g c =
+    edits_where g.D.Device _ _ _ _ _ _ (λ is. damaged_not_device is) c.loop-place.invariant.edits
+
+pub returns-in-None-clause-damaged : goal.returns-in-None-clause-damaged
+returns-in-None-clause-damaged g c = λ honest agrees planted is told.
+    let image = (g.D.Device.state c.args.device.now).disk.present in
+    let before = pages_of_map c.args.pages.now image in
+    let rows = chained c.args.tree.now c.args.record_bytes in
+    let levels = planted.levels in
+    let loop = c.loop-place in
+    let invariant = loop.invariant in
+    let state : Releasing before rows levels (pages_of_map loop.pages image) loop.place None =
+    subst (Releasing before rows levels (pages_of_map loop.pages image) loop.place) c.in-None.is
+    (invariant.rest honest agrees planted is) in
+    let counted = c.in_ok-count.ensures.count honest agrees levels (stands_alone before rows planted is).tree in
+    let low = c.loop-place-test.true in
+    releases_some before rows levels (pages_of_map loop.pages image) loop.place state (omega (arith, low, counted))
+
+pub returns-in-None-clause-filled : goal.returns-in-None-clause-filled
+returns-in-None-clause-filled g c =
+    c.loop-place.invariant.filled
+
+-- A chain is not released.
+pub returns-in_err-release-clause-edits : goal.returns-in_err-release-clause-edits
+returns-in_err-release-clause-edits g c =
+    let rel = c.in_err-release.ensures in
+    passed c.from_residual-in_err-release.result c.in_err-release.field-0.0 c.from_residual-in_err-release.ensures.1
+    (λ r. EditsPages g.D.Device (r ≡ Err Device) c.args.pages.now c.args.device.now c.release.new.pages
+    c.release.new.device)
+    (edits_last g.D.Device ⊥ _ _ _ _ _ _ _ _ (λ is. still_error is) c.loop-place.invariant.edits
+    (edits_by g.D.Device _ _ _ _ _ rel.only rel.committed rel.catalog rel.agrees rel.open))
+
+pub returns-in_err-release-clause-damaged : goal.returns-in_err-release-clause-damaged
+returns-in_err-release-clause-damaged g c = λ honest agrees planted is told.
+    let image = (g.D.Device.state c.args.device.now).disk.present in
+    let before = pages_of_map c.args.pages.now image in
+    let rows = chained c.args.tree.now c.args.record_bytes in
+    let levels = planted.levels in
+    let loop = c.loop-place in
+    let invariant = loop.invariant in
+    let state : Releasing before rows levels (pages_of_map loop.pages image) loop.place (Some c.in-Some.entry) =
+    subst (Releasing before rows levels (pages_of_map loop.pages image) loop.place) c.in-Some.is
+    (invariant.rest honest agrees planted is) in
+    let first_is = c.first_page.ensures ∙ ap (big_number 4) c.value.ensures in
+    let damaged = refused_by_call c.in_err-release.was c.from_residual-in_err-release.ensures.1 told in
+    let claim : List (Option Sector) → Type 0 = λ l.
+    chain.Stands l (pages_for c.args.record_bytes) c.first_page.result → ⊥ in
+    pages_told g.D.Device ⊥ loop.pages c.args.device.now loop.device claim honest invariant.edits.only
+    (invariant.edits.agrees honest agrees) (λ h a. c.release.ensures.damaged h a damaged)
+    (chain_next g.D.Device before loop.pages c.args.device.now rows levels loop.place c.in-Some.entry
+    c.first_page.result c.requires.chains first_is state)
+
+pub returns-in_err-release-clause-filled : goal.returns-in_err-release-clause-filled
+returns-in_err-release-clause-filled g c =
+    let a = c.loop-place.invariant.filled in
+    let b = c.release.ensures.filled in
+    omega (arith, a, b)
+
+pub returns-in_err-release-clause-spent : goal.returns-in_err-release-clause-spent
+returns-in_err-release-clause-spent g c = λ is.
+    sym c.loop-place.invariant.edits.committed.spent
+    ∙ (c.release.ensures.spent.0 (refused_by_call c.in_err-release.was c.from_residual-in_err-release.ensures.1 is)).0
+
+-- The next entry is not found.
+pub returns-in_err-next-2-clause-edits : goal.returns-in_err-next-2-clause-edits
+returns-in_err-next-2-clause-edits g c =
+    let invariant = c.loop-place.invariant in
+    let rel = c.release.ensures in
+    let nxt = c.in_err-next-2.ensures in
+    passed c.from_residual-in_err-next-2.result c.in_err-next-2.field-0.0 c.from_residual-in_err-next-2.ensures.1
+    (λ r. EditsPages g.D.Device (r ≡ Err Device) c.args.pages.now c.args.device.now c.next.new.pages c.next.new.device)
+    (edits_last g.D.Device _ _ _ _ _ _ _ _ _ (λ is. still_error is)
+    (edits_last g.D.Device ⊥ _ ⊥ _ _ _ _ _ _ (λ never. absurd never) invariant.edits
+    (edits_by g.D.Device _ _ _ _ _ rel.only rel.committed rel.catalog rel.agrees rel.open))
+    (looks_edits g.D.Device _ _ _ _ _ (looks_by g.D.Device _ _ _ _ _ nxt.only nxt.unchanged nxt.agrees nxt.open)))
+
+pub returns-in_err-next-2-clause-damaged : goal.returns-in_err-next-2-clause-damaged
+returns-in_err-next-2-clause-damaged g c = λ honest agrees planted is told.
+    let image = (g.D.Device.state c.args.device.now).disk.present in
+    let before = pages_of_map c.args.pages.now image in
+    let rows = chained c.args.tree.now c.args.record_bytes in
+    let levels = planted.levels in
+    let loop = c.loop-place in
+    let invariant = loop.invariant in
+    let state : Releasing before rows levels (pages_of_map loop.pages image) loop.place (Some c.in-Some.entry) =
+    subst (Releasing before rows levels (pages_of_map loop.pages image) loop.place) c.in-Some.is
+    (invariant.rest honest agrees planted is) in
+    let first_is = c.first_page.ensures ∙ ap (big_number 4) c.value.ensures in
+    let rel = c.release.ensures in
+    let edits = edits_last g.D.Device ⊥ _ ⊥ _ _ _ _ _ _ (λ never. absurd never) invariant.edits
+    (edits_by g.D.Device _ _ _ _ _ rel.only rel.committed rel.catalog rel.agrees rel.open) in
+    let gone = chain_gone g.D.Device ⊥ before loop.pages c.release.new.pages c.args.device.now loop.device rows levels
+    loop.place c.in-Some.entry c.first_page.result invariant.edits.only c.in_ok-release.ensures.released
+    c.requires.chains first_is honest (invariant.edits.agrees honest agrees) state in
+    let damaged = refused_by_call c.in_err-next-2.was c.from_residual-in_err-next-2.ensures.1 told in
+    let claim : List (Option Sector) → Type 0 = λ l. (levels : List (List TreeNode))
+    → IsTreeOrEmpty rows.tree.layout l rows.tree.root levels → ⊥ in
+    pages_told g.D.Device ⊥ c.release.new.pages c.args.device.now c.release.new.device claim honest edits.only
+    (edits.agrees honest agrees) (λ h a levels tree. c.next.ensures.damaged h a damaged levels tree) levels
+    (tree_next g.D.Device before loop.pages c.release.new.pages c.args.device.now rows levels loop.place
+    c.in-Some.entry c.requires.chains state gone)
+
+pub returns-in_err-next-2-clause-filled : goal.returns-in_err-next-2-clause-filled
+returns-in_err-next-2-clause-filled g c =
+    let a = c.loop-place.invariant.filled in
+    let b = c.release.ensures.filled in
+    let e = c.next.ensures.unchanged.filled in
+    omega (arith, a, b, e)
+
+pub returns-in_err-next-2-clause-spent : goal.returns-in_err-next-2-clause-spent
+returns-in_err-next-2-clause-spent g c = λ is.
+    sym c.loop-place.invariant.edits.committed.spent ∙ sym c.release.ensures.committed.spent
+    ∙ (c.next.ensures.spent.0 (refused_by_call c.in_err-next-2.was c.from_residual-in_err-next-2.ensures.1 is)).0
+
+pub returns-in_err-next-2-clause-cause : goal.returns-in_err-next-2-clause-cause
+returns-in_err-next-2-clause-cause g c =
+    passed c.from_residual-in_err-next-2.result c.in_err-next-2.field-0.0
+    c.from_residual-in_err-next-2.ensures.1 (λ r. IfErr r IsChangeRefusal)
+    (search_is_change c.args.tree.now.layout c.in_err-next-2.field-0.0 c.in_err-next-2.ensures.cause)
+
+-- The end.
+pub returns-clause-edits : goal.returns-clause-edits
+returns-clause-edits g c =
+    edits_where g.D.Device _ _ _ _ _ _ (λ is. never_ok is) c.loop-place.invariant.edits
+
+pub returns-clause-released : goal.returns-clause-released
+returns-clause-released g c = λ honest agrees planted is.
+    let image = (g.D.Device.state c.args.device.now).disk.present in
+    let before = pages_of_map c.args.pages.now image in
+    let rows = chained c.args.tree.now c.args.record_bytes in
+    let levels = planted.levels in
+    let loop = c.loop-place in
+    let invariant = loop.invariant in
+    let counted = c.in_ok-count.ensures.count honest agrees levels (stands_alone before rows planted is).tree in
+    let test = c.loop-place-test.false in
+    let bound = c.loop-place.auto.place-end in
+    subst (λ (l : List ℕ). Moves before l (pages_of_map loop.pages image) [])
+    (sym (chains_alone before rows planted is))
+    (releases_end before rows levels (pages_of_map loop.pages image) loop.place loop.next
+    (invariant.rest honest agrees planted is) (omega (arith, counted, test, bound)))
+
+pub returns-clause-filled : goal.returns-clause-filled
+returns-clause-filled g c =
+    c.loop-place.invariant.filled

@@ -1,0 +1,127 @@
+use Rattle.std.proofs.Common.{◌≡◌, Err, List, ℕ, [], sym, subst, ◌∙◌, arith}
+use Rattle.std.specs.Prelude.{Option, OnOk}
+use Rattle.station.specs.Disk.{Sector}
+use Rattle.pages.specs.declared.error.PagesError.TheVariants.{Device}
+use Rattle.btree.specs.Changes.{pages_of_map}
+use Rattle.btree.specs.Moves.{Moves}
+use Rattle.btree.specs.Tree.{TreeNode, IsTreeOrEmpty, pages_of}
+use Rattle.btree.proofs.Clearing.{moves_none}
+use Rattle.btree.proofs.Passing.{passed, still_error}
+use Rattle.row_trees.specs.Calls.{EditsPages}
+use Rattle.row_trees.proofs.Among.{alone, chained, chains_alone, viewed, same_chained, stands_among, stored_in}
+use Rattle.row_trees.proofs.Calling.{edits_by, edits_where, edits_last, refused_by_call, pages_told, change_told}
+use Rattle.row_trees.proofs.Forms.{no_chains}
+use Rattle.row_trees.proofs.Passing.{on_ok, on_err}
+use Rattle.row_trees.proofs.Releasing.{chains_gone, all_gone}
+use Rattle.row_trees.proofs.row_tree.RowTree.clear.Goals as goal
+
+-- The tree has its records itself.
+pub returns-then-self-eq0-clause-cleared : goal.returns-then-self-eq0-clause-cleared
+returns-then-self-eq0-clause-cleared g c = λ honest agrees left right entries is.
+    let image = (g.D.Device.state c.args.device.now).disk.present in
+    let before = pages_of_map c.args.pages.now image in
+    let view = chained c.self.inside.tree c.self.inside.record_bytes in
+    let own = viewed before left right view _ entries c.self.view_is is in
+    let stands = stands_among before left right view entries own in
+    on_ok c.clear.result _ _ (all_gone before before (pages_of_map c.clear.new.pages image) left right view entries own
+    (subst (λ (l : List ℕ). Moves before l before [])
+    (sym (no_chains view.record_bytes before (stored_in view own.planted.levels) c.if-self-eq0.true))
+    (moves_none before))) (c.clear.ensures.cleared honest agrees own.planted.levels stands.tree)
+
+pub returns-then-self-eq0-clause-damaged : goal.returns-then-self-eq0-clause-damaged
+returns-then-self-eq0-clause-damaged g c = λ honest agrees left right entries is told.
+    let image = (g.D.Device.state c.args.device.now).disk.present in
+    let before = pages_of_map c.args.pages.now image in
+    let view = chained c.self.inside.tree c.self.inside.record_bytes in
+    let own = viewed before left right view _ entries c.self.view_is is in
+    let stands = stands_among before left right view entries own in
+    c.clear.ensures.damaged honest agrees told own.planted.levels stands.tree
+
+pub returns-then-self-eq0-clause-same : goal.returns-then-self-eq0-clause-same
+returns-then-self-eq0-clause-same g c =
+    on_err c.clear.result _ _ (λ same. same_chained _ _ c.self.inside.record_bytes _ same c.self.view_is)
+    c.clear.ensures.same
+
+-- A chain was not released.
+pub returns-in_err-release_chains-clause-edits : goal.returns-in_err-release_chains-clause-edits
+returns-in_err-release_chains-clause-edits g c =
+    passed c.from_residual.result c.in_err-release_chains.field-0.0 c.from_residual.ensures.1
+    (λ r. EditsPages g.D.Device (r ≡ Err Device) c.args.pages.now c.args.device.now c.release_chains.new.pages
+    c.release_chains.new.device)
+    (edits_where g.D.Device _ _ _ _ _ _ (λ is. still_error is) c.in_err-release_chains.ensures.edits)
+
+pub returns-in_err-release_chains-clause-damaged : goal.returns-in_err-release_chains-clause-damaged
+returns-in_err-release_chains-clause-damaged g c = λ honest agrees left right entries is told.
+    let image = (g.D.Device.state c.args.device.now).disk.present in
+    let before = pages_of_map c.args.pages.now image in
+    let view = chained c.self.inside.tree c.self.inside.record_bytes in
+    let own = viewed before left right view _ entries c.self.view_is is in
+    let stands = stands_among before left right view entries own in
+    c.release_chains.ensures.damaged honest agrees own.planted (alone before left right view entries own)
+    (refused_by_call c.in_err-release_chains.was c.from_residual.ensures.1 told)
+
+-- All chains were.
+pub returns-clause-edits : goal.returns-clause-edits
+returns-clause-edits g c =
+    let one = c.release_chains.ensures.edits in
+    let two = c.clear-2.ensures in
+    edits_last g.D.Device _ _ _ _ _ _ _ _ _ (λ is. is) one
+    (edits_by g.D.Device _ _ _ _ _ two.only two.committed two.catalog two.agrees two.open)
+
+pub returns-clause-cleared : goal.returns-clause-cleared
+returns-clause-cleared g c = λ honest agrees left right entries is.
+    let image = (g.D.Device.state c.args.device.now).disk.present in
+    let before = pages_of_map c.args.pages.now image in
+    let view = chained c.self.inside.tree c.self.inside.record_bytes in
+    let own = viewed before left right view _ entries c.self.view_is is in
+    let stands = stands_among before left right view entries own in
+    let levels = own.planted.levels in
+    let mid = pages_of_map c.release_chains.new.pages image in
+    let edits = c.release_chains.ensures.edits in
+    let whole = alone before left right view entries own in
+    let gone = subst (λ (l : List ℕ). Moves before l mid []) (chains_alone before view own.planted whole)
+    (c.in_ok-release_chains.ensures.released honest agrees own.planted whole) in
+    let tree = chains_gone before mid view levels stands gone in
+    let after = pages_of_map c.clear-2.new.pages image in
+    let claim : List (Option Sector) → List (Option Sector) → Type 0 = λ one two. (levels : List (List TreeNode))
+    → IsTreeOrEmpty view.tree.layout one view.tree.root levels
+    → OnOk c.clear-2.result (Moves one (pages_of levels) two []) in
+    on_ok c.clear-2.result _ _ (all_gone before mid after left right view entries own gone)
+    (change_told g.D.Device _ c.release_chains.new.pages c.clear-2.new.pages c.args.device.now
+    c.release_chains.new.device claim honest edits.only (edits.agrees honest agrees) c.clear-2.ensures.cleared levels
+    tree)
+
+pub returns-clause-damaged : goal.returns-clause-damaged
+returns-clause-damaged g c = λ honest agrees left right entries is told.
+    let image = (g.D.Device.state c.args.device.now).disk.present in
+    let before = pages_of_map c.args.pages.now image in
+    let view = chained c.self.inside.tree c.self.inside.record_bytes in
+    let own = viewed before left right view _ entries c.self.view_is is in
+    let stands = stands_among before left right view entries own in
+    let levels = own.planted.levels in
+    let mid = pages_of_map c.release_chains.new.pages image in
+    let edits = c.release_chains.ensures.edits in
+    let whole = alone before left right view entries own in
+    let gone = subst (λ (l : List ℕ). Moves before l mid []) (chains_alone before view own.planted whole)
+    (c.in_ok-release_chains.ensures.released honest agrees own.planted whole) in
+    let tree = chains_gone before mid view levels stands gone in
+    let claim : List (Option Sector) → Type 0 = λ one. (levels : List (List TreeNode))
+    → IsTreeOrEmpty view.tree.layout one view.tree.root levels → ⊥ in
+    pages_told g.D.Device _ c.release_chains.new.pages c.args.device.now c.release_chains.new.device claim honest
+    edits.only (edits.agrees honest agrees) (λ h a levels tree. c.clear-2.ensures.damaged h a told levels tree) levels
+    tree
+
+pub returns-clause-filled : goal.returns-clause-filled
+returns-clause-filled g c =
+    let one = c.release_chains.ensures.filled in
+    let two = c.clear-2.ensures.filled in
+    omega (arith, one, two)
+
+pub returns-clause-same : goal.returns-clause-same
+returns-clause-same g c =
+    on_err c.clear-2.result _ _ (λ same. same_chained _ _ c.self.inside.record_bytes _ same c.self.view_is)
+    c.clear-2.ensures.same
+
+pub returns-clause-spent : goal.returns-clause-spent
+returns-clause-spent g c = λ is.
+    sym c.release_chains.ensures.edits.committed.spent ∙ (c.clear-2.ensures.spent is).0

@@ -1,0 +1,353 @@
+use Rattle.std.proofs.Common.{◌≡◌, ◌<◌, ◌+◌, true, false, Ok, Err, length, refl, sym, ap, subst, ◌∙◌, arith}
+use Rattle.std.specs.Prelude.{Some, IsSome, OnErr, IfErr}
+use Rattle.pages.specs.Pages.{changed_pages_of}
+use Rattle.pages.specs.declared.error.PagesError.TheVariants.{Device}
+use Rattle.btree.specs.Changes.{pages_of_map}
+use Rattle.btree.specs.Refusals.{IsInsertRefusal}
+use Rattle.btree.proofs.Passing.{passed, never_ok, still_error, few_weaker, few_equal, write_not_device}
+use Rattle.btree.proofs.Passing.{search_is_insert, write_is_insert, damaged_not_device}
+use Rattle.row_trees.specs.Calls.{EditsPages}
+use Rattle.row_trees.specs.RowTree.{ChainedTree}
+use Rattle.row_trees.proofs.Among.{chained, viewed, same_chained, stands_among, stored_in}
+use Rattle.row_trees.proofs.Calling.{looks_by, looks_edits, edits_by, edits_where, edits_last, edits_kept}
+use Rattle.row_trees.proofs.Calling.{refused_by_call}
+use Rattle.row_trees.proofs.Passing.{search_not_full, write_not_damaged, on_err, full_unspent, few_laid, few_first}
+use Rattle.row_trees.proofs.Passing.{few_added, room_weaker}
+use Rattle.row_trees.proofs.Passing.{none_or_some}
+use Rattle.row_trees.proofs.LaidRows.{laid_tells, inserted_on, room_laid, room_later}
+use Rattle.btree.specs.Results.{FewChanged}
+use Rattle.btree.specs.Changes.{Inserts}
+use Rattle.btree.specs.Entries.{entry_with}
+use Rattle.pages.specs.Pages.{committed_of}
+use Rattle.pages.specs.Use.{free_count}
+use Rattle.btree.proofs.Passing.{committed_on}
+use Rattle.row_trees.proofs.Short.{inserted_short, some_seen}
+use Rattle.row_trees.proofs.row_tree.RowTree.insert.Goals as goal
+
+-- The tree has its records itself.
+pub returns-then-self-eq0-clause-inserted : goal.returns-then-self-eq0-clause-inserted
+returns-then-self-eq0-clause-inserted g c = λ honest agrees left right entries is ok.
+    let image = (g.D.Device.state c.args.device.now).disk.present in
+    let before = pages_of_map c.args.pages.now image in
+    let view = chained c.self.inside.tree c.self.inside.record_bytes in
+    let own = viewed before left right view _ entries c.self.view_is is in
+    inserted_short before (pages_of_map c.insert.new.pages image) left right view _ entries own c.args.key.now
+    c.args.value.now c.if-self-eq0.true c.insert.ensures.layout refl (c.insert.ensures.inserted honest agrees
+    own.planted.levels (stands_among before left right view entries own).tree ok)
+
+pub returns-then-self-eq0-clause-there : goal.returns-then-self-eq0-clause-there
+returns-then-self-eq0-clause-there g c = λ honest agrees left right entries is no.
+    let before = pages_of_map c.args.pages.now (g.D.Device.state c.args.device.now).disk.present in
+    let view = chained c.self.inside.tree c.self.inside.record_bytes in
+    let own = viewed before left right view _ entries c.self.view_is is in
+    some_seen before left right view entries own c.args.key.now (c.insert.ensures.there honest agrees
+    own.planted.levels (stands_among before left right view entries own).tree no)
+
+pub returns-then-self-eq0-clause-damaged : goal.returns-then-self-eq0-clause-damaged
+returns-then-self-eq0-clause-damaged g c = λ honest agrees left right entries is told.
+    let before = pages_of_map c.args.pages.now (g.D.Device.state c.args.device.now).disk.present in
+    let view = chained c.self.inside.tree c.self.inside.record_bytes in
+    let own = viewed before left right view _ entries c.self.view_is is in
+    c.insert.ensures.damaged honest agrees told own.planted.levels
+    (stands_among before left right view entries own).tree
+
+pub returns-then-self-eq0-clause-changed_pages : goal.returns-then-self-eq0-clause-changed_pages
+returns-then-self-eq0-clause-changed_pages g c = λ honest agrees left right entries is.
+    let before = pages_of_map c.args.pages.now (g.D.Device.state c.args.device.now).disk.present in
+    let view = chained c.self.inside.tree c.self.inside.record_bytes in
+    let own = viewed before left right view _ entries c.self.view_is is in
+    few_weaker _ _ 42 _ (c.insert.ensures.changed_pages honest agrees own.planted.levels
+    (stands_among before left right view entries own).tree)
+
+pub returns-then-self-eq0-clause-room : goal.returns-then-self-eq0-clause-room
+returns-then-self-eq0-clause-room g c = λ honest agrees left right entries is full.
+    let before = pages_of_map c.args.pages.now (g.D.Device.state c.args.device.now).disk.present in
+    let view = chained c.self.inside.tree c.self.inside.record_bytes in
+    let own = viewed before left right view _ entries c.self.view_is is in
+    room_weaker _ _ 42 _ (c.insert.ensures.room honest agrees own.planted.levels
+    (stands_among before left right view entries own).tree full)
+
+pub returns-then-self-eq0-clause-same : goal.returns-then-self-eq0-clause-same
+returns-then-self-eq0-clause-same g c = λ no. (
+  (c.insert.ensures.same no).0,
+  same_chained _ _ c.self.inside.record_bytes _ (c.insert.ensures.same no).1 c.self.view_is,
+)
+
+pub returns-then-self-eq0-clause-refused : goal.returns-then-self-eq0-clause-refused
+returns-then-self-eq0-clause-refused g c =
+    on_err c.insert.result _ _ (λ same. same_chained _ _ c.self.inside.record_bytes _ same c.self.view_is)
+    c.insert.ensures.refused
+
+-- No search succeeded.
+pub returns-in_err-held-clause-edits : goal.returns-in_err-held-clause-edits
+returns-in_err-held-clause-edits g c =
+    let got = c.in_err-held.ensures in
+    passed c.from_residual.result c.in_err-held.field-0.0 c.from_residual.ensures.1
+    (λ r. EditsPages g.D.Device (r ≡ Err Device) c.args.pages.now c.args.device.now c.get.new.pages c.get.new.device)
+    (edits_where g.D.Device _ _ _ _ _ _ (λ is. still_error is)
+    (looks_edits g.D.Device _ _ _ _ _ (looks_by g.D.Device _ _ _ _ _ got.only got.unchanged got.agrees got.open)))
+
+pub returns-in_err-held-clause-damaged : goal.returns-in_err-held-clause-damaged
+returns-in_err-held-clause-damaged g c = λ honest agrees left right entries is told.
+    let before = pages_of_map c.args.pages.now (g.D.Device.state c.args.device.now).disk.present in
+    let view = chained c.self.inside.tree c.self.inside.record_bytes in
+    let own = viewed before left right view _ entries c.self.view_is is in
+    c.get.ensures.damaged honest agrees (refused_by_call c.in_err-held.was c.from_residual.ensures.1 told)
+    own.planted.levels (stands_among before left right view entries own).tree
+
+pub returns-in_err-held-clause-changed_pages : goal.returns-in_err-held-clause-changed_pages
+returns-in_err-held-clause-changed_pages g c = λ honest agrees left right entries is.
+    few_equal (changed_pages_of c.args.pages.now) (changed_pages_of c.get.new.pages) _
+    c.get.ensures.unchanged.changed_pages
+
+pub returns-in_err-held-clause-room : goal.returns-in_err-held-clause-room
+returns-in_err-held-clause-room g c = λ honest agrees left right entries is full.
+    search_not_full c.self.inside.tree.layout _ _ c.from_residual.ensures.1 c.in_err-held.ensures.cause full
+
+pub returns-in_err-held-clause-cause : goal.returns-in_err-held-clause-cause
+returns-in_err-held-clause-cause g c = passed c.from_residual.result c.in_err-held.field-0.0 c.from_residual.ensures.1
+    (λ r. IfErr r IsInsertRefusal)
+    (search_is_insert c.self.inside.tree.layout c.in_err-held.field-0.0 c.in_err-held.ensures.cause)
+
+-- The key is there.
+pub returns-then-is_some-clause-edits : goal.returns-then-is_some-clause-edits
+returns-then-is_some-clause-edits g c =
+    let got = c.get.ensures in
+    edits_where g.D.Device _ _ _ _ _ _ (λ is. never_ok is)
+    (looks_edits g.D.Device _ _ _ _ _ (looks_by g.D.Device _ _ _ _ _ got.only got.unchanged got.agrees got.open))
+
+pub returns-then-is_some-clause-there : goal.returns-then-is_some-clause-there
+returns-then-is_some-clause-there g c = λ honest agrees left right entries is no.
+    let before = pages_of_map c.args.pages.now (g.D.Device.state c.args.device.now).disk.present in
+    let view = chained c.self.inside.tree c.self.inside.record_bytes in
+    let own = viewed before left right view _ entries c.self.view_is is in
+    some_seen before left right view entries own c.args.key.now (subst IsSome (c.in_ok-held.ensures.entry honest agrees
+    own.planted.levels (stands_among before left right view entries own).tree)
+    (sym c.is_some.ensures ∙ c.if-is_some.true))
+
+pub returns-then-is_some-clause-changed_pages : goal.returns-then-is_some-clause-changed_pages
+returns-then-is_some-clause-changed_pages g c = λ honest agrees left right entries is.
+    few_equal (changed_pages_of c.args.pages.now) (changed_pages_of c.get.new.pages) _
+    c.get.ensures.unchanged.changed_pages
+
+pub returns-then-is_some-clause-same : goal.returns-then-is_some-clause-same
+returns-then-is_some-clause-same g c = λ no. (c.get.ensures.unchanged, refl)
+
+-- No chain was laid.
+pub returns-in_err-first-clause-edits : goal.returns-in_err-first-clause-edits
+returns-in_err-first-clause-edits g c =
+    let got = c.get.ensures in
+    let x = c.in_err-first.field-0.0 in
+    passed c.from_residual-in_err-first.result x c.from_residual-in_err-first.ensures.1
+    (λ r. EditsPages g.D.Device (r ≡ Err Device) c.args.pages.now c.args.device.now c.lay.new.pages c.get.new.device)
+    (edits_kept g.D.Device _ _ _ _ _ _ _ (λ is. write_not_device x c.in_err-first.ensures.cause is)
+    (looks_edits g.D.Device _ _ _ _ _ (looks_by g.D.Device _ _ _ _ _ got.only got.unchanged got.agrees got.open))
+    c.lay.ensures.keeps)
+
+pub returns-in_err-first-clause-damaged : goal.returns-in_err-first-clause-damaged
+returns-in_err-first-clause-damaged g c = λ honest agrees left right entries is told.
+    write_not_damaged _ _ c.from_residual-in_err-first.ensures.1 c.in_err-first.ensures.cause told
+
+pub returns-in_err-first-clause-changed_pages : goal.returns-in_err-first-clause-changed_pages
+returns-in_err-first-clause-changed_pages g c = λ honest agrees left right entries is.
+    few_laid (changed_pages_of c.args.pages.now) (changed_pages_of c.get.new.pages) (changed_pages_of c.lay.new.pages)
+    _ _ 42 c.get.ensures.unchanged.changed_pages c.lay.ensures.changed_pages
+    (c.split_at.ensures.front_len ∙ ap (λ (t : ChainedTree). t.record_bytes) c.self.view_is)
+
+pub returns-in_err-first-clause-room : goal.returns-in_err-first-clause-room
+returns-in_err-first-clause-room g c = λ honest agrees left right entries is full.
+    let got = c.get.ensures in
+    let told = refused_by_call c.in_err-first.was c.from_residual-in_err-first.ensures.1 full in
+    let same = committed_on _ _ _ got.unchanged.committed c.lay.ensures.keeps.committed in
+    let size = c.split_at.ensures.front_len ∙ ap (λ (t : ChainedTree). t.record_bytes) c.self.view_is in
+    room_laid c.args.pages.now c.lay.new.pages _ 42 c.few_free.ensures (c.lay.ensures.keeps.is_open got.open) same
+    (full_unspent c.lay.result (length c.split_at.result.0.now) c.args.pages.now c.get.new.pages
+    got.unchanged.committed c.lay.ensures.spent (λ none. c.if-self-eq0.false (sym c.split_at.ensures.front_len ∙ none))
+    told) (c.lay.ensures.full told)
+    (few_first (changed_pages_of c.args.pages.now) (changed_pages_of c.get.new.pages)
+    (changed_pages_of c.lay.new.pages) _ _ got.unchanged.changed_pages c.lay.ensures.changed_pages size)
+
+pub returns-in_err-first-clause-spent : goal.returns-in_err-first-clause-spent
+returns-in_err-first-clause-spent g c = λ is.
+    sym c.get.ensures.unchanged.committed.spent
+    ∙ (c.lay.ensures.spent.0 (refused_by_call c.in_err-first.was c.from_residual-in_err-first.ensures.1 is)).0
+
+pub returns-in_err-first-clause-cause : goal.returns-in_err-first-clause-cause
+returns-in_err-first-clause-cause g c = passed c.from_residual-in_err-first.result c.in_err-first.field-0.0
+    c.from_residual-in_err-first.ensures.1 (λ r. IfErr r IsInsertRefusal)
+    (write_is_insert c.in_err-first.field-0.0 c.in_err-first.ensures.cause)
+
+-- A chain was laid, and its entry did not come into the tree.
+
+pub returns-in_err-added-clause-edits : goal.returns-in_err-added-clause-edits
+returns-in_err-added-clause-edits g c =
+    let got = c.get.ensures in
+    let ins = c.in_err-added.ensures in
+    passed c.from_residual-in_err-added.result c.in_err-added.field-0.0 c.from_residual-in_err-added.ensures.1
+    (λ r. EditsPages g.D.Device (r ≡ Err Device) c.args.pages.now c.args.device.now c.insert-2.new.pages
+    c.insert-2.new.device)
+    (edits_last g.D.Device _ _ _ _ _ _ _ _ _ (λ is. still_error is)
+    (edits_kept g.D.Device _ ⊥ _ _ _ _ _ (λ never. absurd never)
+    (looks_edits g.D.Device _ _ _ _ _ (looks_by g.D.Device _ _ _ _ _ got.only got.unchanged got.agrees got.open))
+    c.lay.ensures.keeps)
+    (edits_by g.D.Device _ _ _ _ _ ins.only ins.committed ins.catalog ins.agrees ins.open))
+
+pub returns-in_err-added-clause-damaged : goal.returns-in_err-added-clause-damaged
+returns-in_err-added-clause-damaged g c = λ honest agrees left right entries is told.
+    let image = (g.D.Device.state c.args.device.now).disk.present in
+    let before = pages_of_map c.args.pages.now image in
+    let view = chained c.self.inside.tree c.self.inside.record_bytes in
+    let own = viewed before left right view _ entries c.self.view_is is in
+    let got = c.get.ensures in
+    let looks = looks_by g.D.Device _ _ _ _ _ got.only got.unchanged got.agrees got.open in
+    let stands = stands_among before left right view entries own in
+    let damaged = refused_by_call c.in_err-added.was c.from_residual-in_err-added.ensures.1 told in
+    laid_tells g.D.Device _ c.args.pages.now c.get.new.pages c.lay.new.pages c.args.device.now c.get.new.device view
+    own.planted.levels c.split_at.result.0.now c.in_ok-first.first (λ levels. ⊥) looks c.in_ok-first.ensures.laid
+    c.lay.ensures.keeps honest agrees stands (λ h a levels tree. c.insert-2.ensures.damaged h a damaged levels tree)
+
+pub returns-in_err-added-clause-changed_pages : goal.returns-in_err-added-clause-changed_pages
+returns-in_err-added-clause-changed_pages g c = λ honest agrees left right entries is.
+    let image = (g.D.Device.state c.args.device.now).disk.present in
+    let before = pages_of_map c.args.pages.now image in
+    let view = chained c.self.inside.tree c.self.inside.record_bytes in
+    let own = viewed before left right view _ entries c.self.view_is is in
+    let got = c.get.ensures in
+    let looks = looks_by g.D.Device _ _ _ _ _ got.only got.unchanged got.agrees got.open in
+    let stands = stands_among before left right view entries own in
+    few_added (changed_pages_of c.args.pages.now) (changed_pages_of c.get.new.pages) (changed_pages_of c.lay.new.pages)
+    (changed_pages_of c.insert-2.new.pages) _ _ 42 got.unchanged.changed_pages c.lay.ensures.changed_pages
+    (c.split_at.ensures.front_len ∙ ap (λ (t : ChainedTree). t.record_bytes) c.self.view_is)
+    (laid_tells g.D.Device _ c.args.pages.now c.get.new.pages c.lay.new.pages c.args.device.now c.get.new.device view
+    own.planted.levels c.split_at.result.0.now c.in_ok-first.first
+    (λ levels. FewChanged 42 c.lay.new.pages c.insert-2.new.pages) looks c.in_ok-first.ensures.laid
+    c.lay.ensures.keeps honest agrees stands c.insert-2.ensures.changed_pages)
+
+pub returns-in_err-added-clause-room : goal.returns-in_err-added-clause-room
+returns-in_err-added-clause-room g c = λ honest agrees left right entries is full.
+    let image = (g.D.Device.state c.args.device.now).disk.present in
+    let before = pages_of_map c.args.pages.now image in
+    let view = chained c.self.inside.tree c.self.inside.record_bytes in
+    let own = viewed before left right view _ entries c.self.view_is is in
+    let got = c.get.ensures in
+    let looks = looks_by g.D.Device _ _ _ _ _ got.only got.unchanged got.agrees got.open in
+    let stands = stands_among before left right view entries own in
+    let told = refused_by_call c.in_err-added.was c.from_residual-in_err-added.ensures.1 full in
+    let same = committed_on _ _ _ got.unchanged.committed c.lay.ensures.keeps.committed in
+    let size = c.split_at.ensures.front_len ∙ ap (λ (t : ChainedTree). t.record_bytes) c.self.view_is in
+    room_later c.args.pages.now c.lay.new.pages _ 42 same
+    (few_first (changed_pages_of c.args.pages.now) (changed_pages_of c.get.new.pages)
+    (changed_pages_of c.lay.new.pages) _ _ got.unchanged.changed_pages c.lay.ensures.changed_pages size)
+    (laid_tells g.D.Device _ c.args.pages.now c.get.new.pages c.lay.new.pages c.args.device.now c.get.new.device view
+    own.planted.levels c.split_at.result.0.now c.in_ok-first.first (λ levels. free_count (committed_of c.lay.new.pages)
+    < length (changed_pages_of c.lay.new.pages) + 42) looks c.in_ok-first.ensures.laid
+    c.lay.ensures.keeps honest agrees stands (λ h a levels tree. c.insert-2.ensures.room h a levels tree told))
+
+pub returns-in_err-added-clause-refused : goal.returns-in_err-added-clause-refused
+returns-in_err-added-clause-refused g c =
+    passed c.from_residual-in_err-added.result c.in_err-added.field-0.0 c.from_residual-in_err-added.ensures.1
+    (λ r. OnErr r (chained c.insert-2.new.self c.self.inside.record_bytes ≡ c.args.self.now))
+    (same_chained _ _ c.self.inside.record_bytes _ c.in_err-added.ensures.refused c.self.view_is)
+
+pub returns-in_err-added-clause-spent : goal.returns-in_err-added-clause-spent
+returns-in_err-added-clause-spent g c = λ is.
+    sym c.get.ensures.unchanged.committed.spent ∙ sym c.lay.ensures.keeps.committed.spent
+    ∙ c.insert-2.ensures.spent.0 (refused_by_call c.in_err-added.was c.from_residual-in_err-added.ensures.1 is)
+
+pub returns-then-not-added-clause-edits : goal.returns-then-not-added-clause-edits
+returns-then-not-added-clause-edits g c =
+    let got = c.get.ensures in
+    let ins = c.insert-2.ensures in
+    edits_last g.D.Device _ _ _ _ _ _ _ _ _ (λ is. damaged_not_device is)
+    (edits_kept g.D.Device _ ⊥ _ _ _ _ _ (λ never. absurd never)
+    (looks_edits g.D.Device _ _ _ _ _ (looks_by g.D.Device _ _ _ _ _ got.only got.unchanged got.agrees got.open))
+    c.lay.ensures.keeps)
+    (edits_by g.D.Device _ _ _ _ _ ins.only ins.committed ins.catalog ins.agrees ins.open)
+
+pub returns-then-not-added-clause-damaged : goal.returns-then-not-added-clause-damaged
+returns-then-not-added-clause-damaged g c = λ honest agrees left right entries is told.
+    let image = (g.D.Device.state c.args.device.now).disk.present in
+    let before = pages_of_map c.args.pages.now image in
+    let view = chained c.self.inside.tree c.self.inside.record_bytes in
+    let own = viewed before left right view _ entries c.self.view_is is in
+    let got = c.get.ensures in
+    let looks = looks_by g.D.Device _ _ _ _ _ got.only got.unchanged got.agrees got.open in
+    let stands = stands_among before left right view entries own in
+    none_or_some (sym (c.in_ok-held.ensures.entry honest agrees own.planted.levels stands.tree))
+    (sym c.is_some.ensures ∙ c.if-is_some.false)
+    (laid_tells g.D.Device _ c.args.pages.now c.get.new.pages c.lay.new.pages c.args.device.now c.get.new.device view
+    own.planted.levels c.split_at.result.0.now c.in_ok-first.first
+    (λ levels. IsSome (entry_with (stored_in view levels) c.args.key.now)) looks c.in_ok-first.ensures.laid
+    c.lay.ensures.keeps honest agrees stands
+    (λ h a levels tree. c.insert-2.ensures.there h a levels tree (c.in_ok-added.was ∙ ap Ok c.if-not-added.true)))
+
+pub returns-then-not-added-clause-changed_pages : goal.returns-then-not-added-clause-changed_pages
+returns-then-not-added-clause-changed_pages g c = λ honest agrees left right entries is.
+    let image = (g.D.Device.state c.args.device.now).disk.present in
+    let before = pages_of_map c.args.pages.now image in
+    let view = chained c.self.inside.tree c.self.inside.record_bytes in
+    let own = viewed before left right view _ entries c.self.view_is is in
+    let got = c.get.ensures in
+    let looks = looks_by g.D.Device _ _ _ _ _ got.only got.unchanged got.agrees got.open in
+    let stands = stands_among before left right view entries own in
+    few_added (changed_pages_of c.args.pages.now) (changed_pages_of c.get.new.pages) (changed_pages_of c.lay.new.pages)
+    (changed_pages_of c.insert-2.new.pages) _ _ 42 got.unchanged.changed_pages c.lay.ensures.changed_pages
+    (c.split_at.ensures.front_len ∙ ap (λ (t : ChainedTree). t.record_bytes) c.self.view_is)
+    (laid_tells g.D.Device _ c.args.pages.now c.get.new.pages c.lay.new.pages c.args.device.now c.get.new.device view
+    own.planted.levels c.split_at.result.0.now c.in_ok-first.first
+    (λ levels. FewChanged 42 c.lay.new.pages c.insert-2.new.pages) looks c.in_ok-first.ensures.laid
+    c.lay.ensures.keeps honest agrees stands c.insert-2.ensures.changed_pages)
+
+pub returns-then-not-added-clause-refused : goal.returns-then-not-added-clause-refused
+returns-then-not-added-clause-refused g c = same_chained _ _ c.self.inside.record_bytes _
+    (c.insert-2.ensures.same (c.in_ok-added.was ∙ ap Ok c.if-not-added.true)).1 c.self.view_is
+
+-- It did.
+
+pub returns-clause-edits : goal.returns-clause-edits
+returns-clause-edits g c =
+    let got = c.get.ensures in
+    let ins = c.insert-2.ensures in
+    edits_last g.D.Device _ _ _ _ _ _ _ _ _ (λ is. never_ok is)
+    (edits_kept g.D.Device _ ⊥ _ _ _ _ _ (λ never. absurd never)
+    (looks_edits g.D.Device _ _ _ _ _ (looks_by g.D.Device _ _ _ _ _ got.only got.unchanged got.agrees got.open))
+    c.lay.ensures.keeps)
+    (edits_by g.D.Device _ _ _ _ _ ins.only ins.committed ins.catalog ins.agrees ins.open)
+
+pub returns-clause-inserted : goal.returns-clause-inserted
+returns-clause-inserted g c = λ honest agrees left right entries is ok.
+    let image = (g.D.Device.state c.args.device.now).disk.present in
+    let before = pages_of_map c.args.pages.now image in
+    let view = chained c.self.inside.tree c.self.inside.record_bytes in
+    let own = viewed before left right view _ entries c.self.view_is is in
+    let got = c.get.ensures in
+    let looks = looks_by g.D.Device _ _ _ _ _ got.only got.unchanged got.agrees got.open in
+    let stands = stands_among before left right view entries own in
+    let value = c.bytes.ensures ∙ c.new-stored.ensures in
+    let done = c.in_ok-added.was ∙ ap Ok c.if-not-added.false in
+    inserted_on g.D.Device _ c.args.pages.now c.get.new.pages c.lay.new.pages c.insert-2.new.pages c.args.device.now
+    c.get.new.device left right view _ entries c.args.key.now c.split_at.result.0.now c.split_at.result.1.now
+    c.args.value.now c.in_ok-first.first looks c.in_ok-first.ensures.laid c.lay.ensures.keeps
+    (λ h a levels tree. subst (λ v. Inserts c.self.inside.tree.layout
+    (pages_of_map c.lay.new.pages (g.D.Device.state c.get.new.device).disk.present) levels
+    (pages_of_map c.insert-2.new.pages (g.D.Device.state c.get.new.device).disk.present) c.args.key.now v
+    (Some c.insert-2.new.self.root)) value (c.insert-2.ensures.inserted h a levels tree done)) c.if-self-eq0.false
+    (omega arith) c.split_at.ensures.front_len (sym c.split_at.ensures.by_index.0) c.insert-2.ensures.layout refl honest
+    agrees own
+
+pub returns-clause-changed_pages : goal.returns-clause-changed_pages
+returns-clause-changed_pages g c = λ honest agrees left right entries is.
+    let image = (g.D.Device.state c.args.device.now).disk.present in
+    let before = pages_of_map c.args.pages.now image in
+    let view = chained c.self.inside.tree c.self.inside.record_bytes in
+    let own = viewed before left right view _ entries c.self.view_is is in
+    let got = c.get.ensures in
+    let looks = looks_by g.D.Device _ _ _ _ _ got.only got.unchanged got.agrees got.open in
+    let stands = stands_among before left right view entries own in
+    few_added (changed_pages_of c.args.pages.now) (changed_pages_of c.get.new.pages) (changed_pages_of c.lay.new.pages)
+    (changed_pages_of c.insert-2.new.pages) _ _ 42 got.unchanged.changed_pages c.lay.ensures.changed_pages
+    (c.split_at.ensures.front_len ∙ ap (λ (t : ChainedTree). t.record_bytes) c.self.view_is)
+    (laid_tells g.D.Device _ c.args.pages.now c.get.new.pages c.lay.new.pages c.args.device.now c.get.new.device view
+    own.planted.levels c.split_at.result.0.now c.in_ok-first.first
+    (λ levels. FewChanged 42 c.lay.new.pages c.insert-2.new.pages) looks c.in_ok-first.ensures.laid
+    c.lay.ensures.keeps honest agrees stands c.insert-2.ensures.changed_pages)

@@ -1,0 +1,255 @@
+use Rattle.std.proofs.Common.{◌≡◌, ◌+◌, Ok, Err, ℕ, refl, sym, ap, subst, ◌∙◌}
+use Rattle.std.specs.Prelude.{None, IfErr}
+use Rattle.byteorder.specs.Endian.{big_number}
+use Rattle.pages.specs.Pages.{changed_pages_of}
+use Rattle.pages.specs.declared.error.PagesError.TheVariants.{Device}
+use Rattle.btree.specs.Changes.{pages_of_map}
+use Rattle.btree.specs.Entries.{entry_with}
+use Rattle.btree.specs.Refusals.{IsChangeRefusal}
+use Rattle.btree.specs.Results.{FewChanged}
+use Rattle.btree.proofs.Passing.{passed, never_ok, still_error, few_weaker, search_is_change, damaged_not_device}
+use Rattle.chains.specs.Chain.{pages_for}
+use Rattle.row_trees.specs.Calls.{EditsPages}
+use Rattle.row_trees.specs.RowTree.{ChainedTree}
+use Rattle.row_trees.proofs.Among.{chained, viewed, same_chained, stands_among, stored_in}
+use Rattle.row_trees.proofs.Calling.{looks_by, looks_edits, edits_by, edits_where, edits_last, refused_by_call}
+use Rattle.row_trees.proofs.Passing.{on_ok, few_released, none_not_some}
+use Rattle.row_trees.proofs.Short.{removed_short, none_seen}
+use Rattle.row_trees.proofs.TakenRows.{read_tells, left_never, removed_on}
+use Rattle.row_trees.proofs.row_tree.RowTree.remove.Goals as goal
+
+-- The tree has its records itself.
+pub returns-then-self-eq0-clause-removed : goal.returns-then-self-eq0-clause-removed
+returns-then-self-eq0-clause-removed g c = λ honest agrees left right entries is ok.
+    let image = (g.D.Device.state c.args.device.now).disk.present in
+    let before = pages_of_map c.args.pages.now image in
+    let view = chained c.self.inside.tree c.self.inside.record_bytes in
+    let own = viewed before left right view _ entries c.self.view_is is in
+    let stands = stands_among before left right view entries own in
+    removed_short before (pages_of_map c.remove.new.pages image) left right view _ entries own c.args.key.now
+    c.if-self-eq0.true c.remove.ensures.layout refl
+    (c.remove.ensures.removed honest agrees own.planted.levels stands.tree ok)
+
+pub returns-then-self-eq0-clause-missing : goal.returns-then-self-eq0-clause-missing
+returns-then-self-eq0-clause-missing g c = λ honest agrees left right entries is no.
+    let image = (g.D.Device.state c.args.device.now).disk.present in
+    let before = pages_of_map c.args.pages.now image in
+    let view = chained c.self.inside.tree c.self.inside.record_bytes in
+    let own = viewed before left right view _ entries c.self.view_is is in
+    let stands = stands_among before left right view entries own in
+    none_seen before left right view entries own c.args.key.now
+    (c.remove.ensures.missing honest agrees own.planted.levels stands.tree no)
+
+pub returns-then-self-eq0-clause-damaged : goal.returns-then-self-eq0-clause-damaged
+returns-then-self-eq0-clause-damaged g c = λ honest agrees left right entries is told.
+    let image = (g.D.Device.state c.args.device.now).disk.present in
+    let before = pages_of_map c.args.pages.now image in
+    let view = chained c.self.inside.tree c.self.inside.record_bytes in
+    let own = viewed before left right view _ entries c.self.view_is is in
+    let stands = stands_among before left right view entries own in
+    c.remove.ensures.damaged honest agrees told own.planted.levels stands.tree
+
+pub returns-then-self-eq0-clause-changed_pages : goal.returns-then-self-eq0-clause-changed_pages
+returns-then-self-eq0-clause-changed_pages g c = λ honest agrees left right entries is.
+    let image = (g.D.Device.state c.args.device.now).disk.present in
+    let before = pages_of_map c.args.pages.now image in
+    let view = chained c.self.inside.tree c.self.inside.record_bytes in
+    let own = viewed before left right view _ entries c.self.view_is is in
+    let stands = stands_among before left right view entries own in
+    on_ok c.remove.result _ _ (few_weaker _ _ 42 _)
+    (c.remove.ensures.changed_pages honest agrees own.planted.levels stands.tree)
+
+pub returns-then-self-eq0-clause-same : goal.returns-then-self-eq0-clause-same
+returns-then-self-eq0-clause-same g c = λ no. (
+  (c.remove.ensures.same no).0,
+  same_chained _ _ c.self.inside.record_bytes _ (c.remove.ensures.same no).1 c.self.view_is,
+)
+
+-- No search succeeded.
+pub returns-in_err-entry-clause-edits : goal.returns-in_err-entry-clause-edits
+returns-in_err-entry-clause-edits g c =
+    let got = c.in_err-entry.ensures in
+    passed c.from_residual.result c.in_err-entry.field-0.0 c.from_residual.ensures.1
+    (λ r. EditsPages g.D.Device (r ≡ Err Device) c.args.pages.now c.args.device.now c.get.new.pages c.get.new.device)
+    (edits_where g.D.Device _ _ _ _ _ _ (λ is. still_error is)
+    (looks_edits g.D.Device _ _ _ _ _ (looks_by g.D.Device _ _ _ _ _ got.only got.unchanged got.agrees got.open)))
+
+pub returns-in_err-entry-clause-damaged : goal.returns-in_err-entry-clause-damaged
+returns-in_err-entry-clause-damaged g c = λ honest agrees left right entries is told.
+    let image = (g.D.Device.state c.args.device.now).disk.present in
+    let before = pages_of_map c.args.pages.now image in
+    let view = chained c.self.inside.tree c.self.inside.record_bytes in
+    let own = viewed before left right view _ entries c.self.view_is is in
+    let stands = stands_among before left right view entries own in
+    c.get.ensures.damaged honest agrees (refused_by_call c.in_err-entry.was c.from_residual.ensures.1 told)
+    own.planted.levels stands.tree
+
+pub returns-in_err-entry-clause-cause : goal.returns-in_err-entry-clause-cause
+returns-in_err-entry-clause-cause g c =
+    passed c.from_residual.result c.in_err-entry.field-0.0 c.from_residual.ensures.1 (λ r. IfErr r IsChangeRefusal)
+    (search_is_change c.self.inside.tree.layout c.in_err-entry.field-0.0 c.in_err-entry.ensures.cause)
+
+-- There is no such row.
+pub returns-in-None-clause-edits : goal.returns-in-None-clause-edits
+returns-in-None-clause-edits g c =
+    let got = c.get.ensures in
+    edits_where g.D.Device _ _ _ _ _ _ (λ is. never_ok is)
+    (looks_edits g.D.Device _ _ _ _ _ (looks_by g.D.Device _ _ _ _ _ got.only got.unchanged got.agrees got.open))
+
+pub returns-in-None-clause-missing : goal.returns-in-None-clause-missing
+returns-in-None-clause-missing g c = λ honest agrees left right entries is no.
+    let image = (g.D.Device.state c.args.device.now).disk.present in
+    let before = pages_of_map c.args.pages.now image in
+    let view = chained c.self.inside.tree c.self.inside.record_bytes in
+    let own = viewed before left right view _ entries c.self.view_is is in
+    let stands = stands_among before left right view entries own in
+    none_seen before left right view entries own c.args.key.now
+    (sym (c.in_ok-entry.ensures.entry honest agrees own.planted.levels stands.tree) ∙ c.in-None.is)
+
+pub returns-in-None-clause-same : goal.returns-in-None-clause-same
+returns-in-None-clause-same g c = λ no. (c.get.ensures.unchanged, refl)
+
+-- The entry did not leave the tree.
+pub returns-in_err-removed-clause-edits : goal.returns-in_err-removed-clause-edits
+returns-in_err-removed-clause-edits g c =
+    let got = c.get.ensures in
+    let cut = c.in_err-removed.ensures in
+    passed c.from_residual-in_err-removed.result c.in_err-removed.field-0.0 c.from_residual-in_err-removed.ensures.1
+    (λ r. EditsPages g.D.Device (r ≡ Err Device) c.args.pages.now c.args.device.now c.remove-2.new.pages
+    c.remove-2.new.device)
+    (edits_last g.D.Device _ _ _ _ _ _ _ _ _ (λ is. still_error is)
+    (looks_edits g.D.Device _ _ _ _ _ (looks_by g.D.Device _ _ _ _ _ got.only got.unchanged got.agrees got.open))
+    (edits_by g.D.Device _ _ _ _ _ cut.only cut.committed cut.catalog cut.agrees cut.open))
+
+pub returns-in_err-removed-clause-damaged : goal.returns-in_err-removed-clause-damaged
+returns-in_err-removed-clause-damaged g c = λ honest agrees left right entries is told.
+    let image = (g.D.Device.state c.args.device.now).disk.present in
+    let before = pages_of_map c.args.pages.now image in
+    let view = chained c.self.inside.tree c.self.inside.record_bytes in
+    let own = viewed before left right view _ entries c.self.view_is is in
+    let stands = stands_among before left right view entries own in
+    let got = c.get.ensures in
+    let looks = looks_by g.D.Device _ _ _ _ _ got.only got.unchanged got.agrees got.open in
+    let damaged = refused_by_call c.in_err-removed.was c.from_residual-in_err-removed.ensures.1 told in
+    read_tells g.D.Device _ c.args.pages.now c.get.new.pages c.args.device.now c.get.new.device view
+    own.planted.levels (λ levels. ⊥) looks honest agrees stands
+    (λ h a levels tree. c.remove-2.ensures.damaged h a damaged levels tree)
+
+pub returns-in_err-removed-clause-spent : goal.returns-in_err-removed-clause-spent
+returns-in_err-removed-clause-spent g c = λ is.
+    sym c.get.ensures.unchanged.committed.spent
+    ∙ (c.remove-2.ensures.spent.0 (refused_by_call c.in_err-removed.was c.from_residual-in_err-removed.ensures.1 is)).0
+
+pub returns-then-not-removed-clause-edits : goal.returns-then-not-removed-clause-edits
+returns-then-not-removed-clause-edits g c =
+    let got = c.get.ensures in
+    let cut = c.remove-2.ensures in
+    edits_last g.D.Device _ _ _ _ _ _ _ _ _ (λ is. damaged_not_device is)
+    (looks_edits g.D.Device _ _ _ _ _ (looks_by g.D.Device _ _ _ _ _ got.only got.unchanged got.agrees got.open))
+    (edits_by g.D.Device _ _ _ _ _ cut.only cut.committed cut.catalog cut.agrees cut.open)
+
+pub returns-then-not-removed-clause-damaged : goal.returns-then-not-removed-clause-damaged
+returns-then-not-removed-clause-damaged g c = λ honest agrees left right entries is told.
+    let image = (g.D.Device.state c.args.device.now).disk.present in
+    let before = pages_of_map c.args.pages.now image in
+    let view = chained c.self.inside.tree c.self.inside.record_bytes in
+    let own = viewed before left right view _ entries c.self.view_is is in
+    let stands = stands_among before left right view entries own in
+    let got = c.get.ensures in
+    let looks = looks_by g.D.Device _ _ _ _ _ got.only got.unchanged got.agrees got.open in
+    let none = read_tells g.D.Device _ c.args.pages.now c.get.new.pages c.args.device.now c.get.new.device view
+    own.planted.levels (λ levels. entry_with (stored_in view levels) c.args.key.now ≡ None) looks honest agrees stands
+    (λ h a levels tree. c.remove-2.ensures.missing h a levels tree (c.in_ok-removed.was ∙ ap Ok c.if-not-removed.true))
+    in
+    none_not_some (sym none ∙ sym (c.in_ok-entry.ensures.entry honest agrees own.planted.levels stands.tree)
+    ∙ c.in-Some.is)
+
+-- Its chain was not released.
+pub returns-in_err-release-clause-edits : goal.returns-in_err-release-clause-edits
+returns-in_err-release-clause-edits g c =
+    let got = c.get.ensures in
+    let cut = c.remove-2.ensures in
+    let end = c.in_err-release.ensures in
+    passed c.from_residual-in_err-release.result c.in_err-release.field-0.0 c.from_residual-in_err-release.ensures.1
+    (λ r. EditsPages g.D.Device (r ≡ Err Device) c.args.pages.now c.args.device.now c.release.new.pages
+    c.release.new.device)
+    (edits_last g.D.Device _ _ _ _ _ _ _ _ _ (λ is. still_error is)
+    (edits_last g.D.Device _ _ ⊥ _ _ _ _ _ _ (λ never. absurd never)
+    (looks_edits g.D.Device _ _ _ _ _ (looks_by g.D.Device _ _ _ _ _ got.only got.unchanged got.agrees got.open))
+    (edits_by g.D.Device _ _ _ _ _ cut.only cut.committed cut.catalog cut.agrees cut.open))
+    (edits_by g.D.Device _ _ _ _ _ end.only end.committed end.catalog end.agrees end.open))
+
+pub returns-in_err-release-clause-damaged : goal.returns-in_err-release-clause-damaged
+returns-in_err-release-clause-damaged g c = λ honest agrees left right entries is told.
+    let image = (g.D.Device.state c.args.device.now).disk.present in
+    let before = pages_of_map c.args.pages.now image in
+    let view = chained c.self.inside.tree c.self.inside.record_bytes in
+    let own = viewed before left right view _ entries c.self.view_is is in
+    let stands = stands_among before left right view entries own in
+    let got = c.get.ensures in
+    let looks = looks_by g.D.Device _ _ _ _ _ got.only got.unchanged got.agrees got.open in
+    let cut = c.remove-2.ensures in
+    let edits = edits_by g.D.Device _ _ _ _ _ cut.only cut.committed cut.catalog cut.agrees cut.open in
+    let done = c.in_ok-removed.was ∙ ap Ok c.if-not-removed.false in
+    let first_is = c.first_page-first.ensures ∙ ap (big_number 4) c.value.ensures in
+    let found = sym (c.in_ok-entry.ensures.entry honest agrees own.planted.levels stands.tree) ∙ c.in-Some.is in
+    left_never g.D.Device _ _ c.args.pages.now c.get.new.pages c.remove-2.new.pages c.args.device.now c.get.new.device
+    c.remove-2.new.device view c.remove-2.new.self.root c.args.key.now c.in-Some.entry own.planted.levels
+    c.first_page-first.result _ looks (λ h a levels tree. c.remove-2.ensures.removed h a levels tree done) edits
+    c.release.ensures.damaged first_is c.if-self-eq0.false honest agrees stands found
+    (refused_by_call c.in_err-release.was c.from_residual-in_err-release.ensures.1 told)
+
+pub returns-in_err-release-clause-spent : goal.returns-in_err-release-clause-spent
+returns-in_err-release-clause-spent g c = λ is.
+    sym c.get.ensures.unchanged.committed.spent ∙ sym c.remove-2.ensures.committed.spent
+    ∙ (c.release.ensures.spent.0 (refused_by_call c.in_err-release.was c.from_residual-in_err-release.ensures.1 is)).0
+
+-- It was.
+pub returns-clause-edits : goal.returns-clause-edits
+returns-clause-edits g c =
+    let got = c.get.ensures in
+    let cut = c.remove-2.ensures in
+    let end = c.release.ensures in
+    edits_last g.D.Device _ _ _ _ _ _ _ _ _ (λ is. never_ok is)
+    (edits_last g.D.Device _ _ ⊥ _ _ _ _ _ _ (λ never. absurd never)
+    (looks_edits g.D.Device _ _ _ _ _ (looks_by g.D.Device _ _ _ _ _ got.only got.unchanged got.agrees got.open))
+    (edits_by g.D.Device _ _ _ _ _ cut.only cut.committed cut.catalog cut.agrees cut.open))
+    (edits_by g.D.Device _ _ _ _ _ end.only end.committed end.catalog end.agrees end.open)
+
+pub returns-clause-removed : goal.returns-clause-removed
+returns-clause-removed g c = λ honest agrees left right entries is ok.
+    let image = (g.D.Device.state c.args.device.now).disk.present in
+    let before = pages_of_map c.args.pages.now image in
+    let view = chained c.self.inside.tree c.self.inside.record_bytes in
+    let own = viewed before left right view _ entries c.self.view_is is in
+    let stands = stands_among before left right view entries own in
+    let got = c.get.ensures in
+    let looks = looks_by g.D.Device _ _ _ _ _ got.only got.unchanged got.agrees got.open in
+    let cut = c.remove-2.ensures in
+    let edits = edits_by g.D.Device _ _ _ _ _ cut.only cut.committed cut.catalog cut.agrees cut.open in
+    let done = c.in_ok-removed.was ∙ ap Ok c.if-not-removed.false in
+    let first_is = c.first_page-first.ensures ∙ ap (big_number 4) c.value.ensures in
+    let found = sym (c.in_ok-entry.ensures.entry honest agrees own.planted.levels stands.tree) ∙ c.in-Some.is in
+    removed_on g.D.Device _ _ c.args.pages.now c.get.new.pages c.remove-2.new.pages c.release.new.pages
+    c.args.device.now c.get.new.device c.remove-2.new.device left right view _ entries c.args.key.now c.in-Some.entry
+    c.first_page-first.result looks (λ h a levels tree. c.remove-2.ensures.removed h a levels tree done) edits
+    c.in_ok-release.ensures.released first_is c.if-self-eq0.false c.remove-2.ensures.layout refl honest agrees own
+    found
+
+pub returns-clause-changed_pages : goal.returns-clause-changed_pages
+returns-clause-changed_pages g c = λ honest agrees left right entries is.
+    let image = (g.D.Device.state c.args.device.now).disk.present in
+    let before = pages_of_map c.args.pages.now image in
+    let view = chained c.self.inside.tree c.self.inside.record_bytes in
+    let own = viewed before left right view _ entries c.self.view_is is in
+    let stands = stands_among before left right view entries own in
+    let got = c.get.ensures in
+    let looks = looks_by g.D.Device _ _ _ _ _ got.only got.unchanged got.agrees got.open in
+    let few = read_tells g.D.Device _ c.args.pages.now c.get.new.pages c.args.device.now c.get.new.device view
+    own.planted.levels (λ levels. FewChanged 42 c.get.new.pages c.remove-2.new.pages) looks honest agrees stands
+    c.in_ok-removed.ensures.changed_pages in
+    subst (λ (n : ℕ). FewChanged (42 + pages_for n) c.args.pages.now c.release.new.pages)
+    (ap (λ (t : ChainedTree). t.record_bytes) c.self.view_is)
+    (few_released (changed_pages_of c.args.pages.now) (changed_pages_of c.get.new.pages)
+    (changed_pages_of c.remove-2.new.pages) (changed_pages_of c.release.new.pages) c.self.inside.record_bytes 42
+    c.get.ensures.unchanged.changed_pages few c.release.ensures.changed_pages)

@@ -1,0 +1,353 @@
+use Rattle.std.proofs.Common.{◌≡◌, ◌++◌, Ok, Err, List, ℕ, length, sym, ap, subst, ◌∙◌, arith}
+use Rattle.std.specs.Prelude.{None, IsSome, IfErr}
+use Rattle.std.proofs.lemmas.Bool.Decides.{Decides-eqb}
+use Rattle.std.proofs.lemmas.Slice.Eq.{slice_eq-Decides}
+use Rattle.byteorder.specs.Endian.{big_number}
+use Rattle.pages.specs.Pages.{changed_pages_of}
+use Rattle.pages.specs.declared.error.PagesError.TheVariants.{Device}
+use Rattle.btree.specs.Calls.{OnTreeChange}
+use Rattle.btree.specs.Changes.{Becomes, pages_of_map}
+use Rattle.btree.specs.Entries.{entry_with, with_value}
+use Rattle.btree.specs.Refusals.{IsChangeRefusal}
+use Rattle.btree.proofs.Passing.{passed, never_ok, still_error, few_weaker, few_equal, search_is_change}
+use Rattle.btree.proofs.Passing.{damaged_not_device}
+use Rattle.row_trees.specs.Calls.{EditsPages}
+use Rattle.row_trees.specs.RowTree.{ChainedTree, IsRowTreeAmong}
+use Rattle.row_trees.proofs.Among.{chained, viewed, same_chained, stands_among, stored_in}
+use Rattle.row_trees.proofs.Calling.{looks_by, looks_edits, edits_by, edits_where, edits_last, refused_by_call}
+use Rattle.row_trees.proofs.Forms.{pair, rest_is}
+use Rattle.row_trees.proofs.Passing.{few_laid, few_added, none_not_some}
+use Rattle.row_trees.proofs.RewrittenRows.{rewritten_on, rewrite_never, rewritten_tells, unwritten_on, replaced_on}
+use Rattle.row_trees.proofs.Short.{replaced_short, none_seen}
+use Rattle.row_trees.proofs.row_tree.RowTree.replace.Goals as goal
+
+-- The tree has its records itself, or no search succeeded, or there is no such row.
+pub returns-then-self-eq0-clause-missing : goal.returns-then-self-eq0-clause-missing
+returns-then-self-eq0-clause-missing g c = λ honest agrees left right entries is no.
+    let image = (g.D.Device.state c.args.device.now).disk.present in
+    let before = pages_of_map c.args.pages.now image in
+    let view = chained c.self.inside.tree c.self.inside.record_bytes in
+    let own = viewed before left right view _ entries c.self.view_is is in
+    let stands = stands_among before left right view entries own in
+    none_seen before left right view entries own c.args.key.now
+    (c.replace.ensures.missing honest agrees own.planted.levels stands.tree no)
+
+pub returns-then-self-eq0-clause-damaged : goal.returns-then-self-eq0-clause-damaged
+returns-then-self-eq0-clause-damaged g c = λ honest agrees left right entries is told.
+    let image = (g.D.Device.state c.args.device.now).disk.present in
+    let before = pages_of_map c.args.pages.now image in
+    let view = chained c.self.inside.tree c.self.inside.record_bytes in
+    let own = viewed before left right view _ entries c.self.view_is is in
+    let stands = stands_among before left right view entries own in
+    c.replace.ensures.damaged honest agrees told own.planted.levels stands.tree
+
+pub returns-in_err-entry-clause-edits : goal.returns-in_err-entry-clause-edits
+returns-in_err-entry-clause-edits g c =
+    let got = c.in_err-entry.ensures in
+    passed c.from_residual.result c.in_err-entry.field-0.0 c.from_residual.ensures.1
+    (λ r. EditsPages g.D.Device (r ≡ Err Device) c.args.pages.now c.args.device.now c.get.new.pages c.get.new.device)
+    (edits_where g.D.Device _ _ _ _ _ _ (λ is. still_error is)
+    (looks_edits g.D.Device _ _ _ _ _ (looks_by g.D.Device _ _ _ _ _ got.only got.unchanged got.agrees got.open)))
+
+pub returns-in_err-entry-clause-damaged : goal.returns-in_err-entry-clause-damaged
+returns-in_err-entry-clause-damaged g c = λ honest agrees left right entries is told.
+    let image = (g.D.Device.state c.args.device.now).disk.present in
+    let before = pages_of_map c.args.pages.now image in
+    let view = chained c.self.inside.tree c.self.inside.record_bytes in
+    let own = viewed before left right view _ entries c.self.view_is is in
+    let stands = stands_among before left right view entries own in
+    c.get.ensures.damaged honest agrees (refused_by_call c.in_err-entry.was c.from_residual.ensures.1 told)
+    own.planted.levels stands.tree
+
+pub returns-in_err-entry-clause-cause : goal.returns-in_err-entry-clause-cause
+returns-in_err-entry-clause-cause g c =
+    passed c.from_residual.result c.in_err-entry.field-0.0 c.from_residual.ensures.1 (λ r. IfErr r IsChangeRefusal)
+    (search_is_change c.self.inside.tree.layout c.in_err-entry.field-0.0 c.in_err-entry.ensures.cause)
+
+pub returns-in-None-clause-edits : goal.returns-in-None-clause-edits
+returns-in-None-clause-edits g c =
+    let got = c.get.ensures in
+    edits_where g.D.Device _ _ _ _ _ _ (λ is. never_ok is)
+    (looks_edits g.D.Device _ _ _ _ _ (looks_by g.D.Device _ _ _ _ _ got.only got.unchanged got.agrees got.open))
+
+pub returns-in-None-clause-missing : goal.returns-in-None-clause-missing
+returns-in-None-clause-missing g c = λ honest agrees left right entries is no.
+    let image = (g.D.Device.state c.args.device.now).disk.present in
+    let before = pages_of_map c.args.pages.now image in
+    let view = chained c.self.inside.tree c.self.inside.record_bytes in
+    let own = viewed before left right view _ entries c.self.view_is is in
+    let stands = stands_among before left right view entries own in
+    none_seen before left right view entries own c.args.key.now
+    (sym (c.in_ok-entry.ensures.entry honest agrees own.planted.levels stands.tree) ∙ c.in-None.is)
+
+pub returns-then-self-eq0-clause-replaced : goal.returns-then-self-eq0-clause-replaced
+returns-then-self-eq0-clause-replaced g c = λ honest agrees left right entries is ok.
+    let image = (g.D.Device.state c.args.device.now).disk.present in
+    let before = pages_of_map c.args.pages.now image in
+    let view = chained c.self.inside.tree c.self.inside.record_bytes in
+    let own = viewed before left right view _ entries c.self.view_is is in
+    let stands = stands_among before left right view entries own in
+    let after = pages_of_map c.replace.new.pages image in
+    let told = c.replace.ensures.replaced honest agrees own.planted.levels stands.tree ok in
+    subst (λ (t : ChainedTree). IsSome (entry_with entries c.args.key.now)
+    × IsRowTreeAmong after left right t (with_value entries (pair c.args.key.now c.args.value.now))) c.self.view_is
+    (replaced_short before after left right view entries own c.args.key.now c.args.value.now c.if-self-eq0.true told.0
+    told.1)
+
+pub returns-then-self-eq0-clause-changed_pages : goal.returns-then-self-eq0-clause-changed_pages
+returns-then-self-eq0-clause-changed_pages g c =
+    few_weaker _ _ 1 _ c.replace.ensures.changed_pages
+
+pub returns-then-self-eq0-clause-tree : goal.returns-then-self-eq0-clause-tree
+returns-then-self-eq0-clause-tree g c =
+    same_chained _ _ c.self.inside.record_bytes _ c.replace.ensures.tree c.self.view_is
+
+pub returns-in_err-entry-clause-changed_pages : goal.returns-in_err-entry-clause-changed_pages
+returns-in_err-entry-clause-changed_pages g c =
+    few_equal (changed_pages_of c.args.pages.now) (changed_pages_of c.get.new.pages) _
+    c.get.ensures.unchanged.changed_pages
+
+pub returns-in-None-clause-changed_pages : goal.returns-in-None-clause-changed_pages
+returns-in-None-clause-changed_pages g c =
+    few_equal (changed_pages_of c.args.pages.now) (changed_pages_of c.get.new.pages) _
+    c.get.ensures.unchanged.changed_pages
+
+-- The chain was not rewritten.
+pub returns-in_err-rewrite-clause-edits : goal.returns-in_err-rewrite-clause-edits
+returns-in_err-rewrite-clause-edits g c =
+    let got = c.get.ensures in
+    let put = c.in_err-rewrite.ensures in
+    passed c.from_residual-in_err-rewrite.result c.in_err-rewrite.field-0.0 c.from_residual-in_err-rewrite.ensures.1
+    (λ r. EditsPages g.D.Device (r ≡ Err Device) c.args.pages.now c.args.device.now c.rewrite.new.pages
+    c.rewrite.new.device)
+    (edits_last g.D.Device _ _ _ _ _ _ _ _ _ (λ is. still_error is)
+    (looks_edits g.D.Device _ _ _ _ _ (looks_by g.D.Device _ _ _ _ _ got.only got.unchanged got.agrees got.open))
+    (edits_by g.D.Device _ _ _ _ _ put.only put.committed put.catalog put.agrees put.open))
+
+pub returns-in_err-rewrite-clause-damaged : goal.returns-in_err-rewrite-clause-damaged
+returns-in_err-rewrite-clause-damaged g c = λ honest agrees left right entries is told.
+    let image = (g.D.Device.state c.args.device.now).disk.present in
+    let before = pages_of_map c.args.pages.now image in
+    let view = chained c.self.inside.tree c.self.inside.record_bytes in
+    let own = viewed before left right view _ entries c.self.view_is is in
+    let stands = stands_among before left right view entries own in
+    let got = c.get.ensures in
+    let looks = looks_by g.D.Device _ _ _ _ _ got.only got.unchanged got.agrees got.open in
+    let found = sym (c.in_ok-entry.ensures.entry honest agrees own.planted.levels stands.tree) ∙ c.in-Some.is in
+    let first_is = c.first_page-first.ensures ∙ ap (big_number 4) c.value.ensures in
+    rewrite_never g.D.Device _ c.args.pages.now c.get.new.pages c.args.device.now c.get.new.device view
+    c.args.key.now c.in-Some.entry own.planted.levels (length c.split_at.result.0.now) c.first_page-first.result _ looks
+    c.rewrite.ensures.damaged c.split_at.ensures.front_len first_is c.if-self-eq0.false honest agrees stands found
+    (refused_by_call c.in_err-rewrite.was c.from_residual-in_err-rewrite.ensures.1 told)
+
+pub returns-in_err-rewrite-clause-changed_pages : goal.returns-in_err-rewrite-clause-changed_pages
+returns-in_err-rewrite-clause-changed_pages g c =
+    few_laid (changed_pages_of c.args.pages.now) (changed_pages_of c.get.new.pages)
+    (changed_pages_of c.rewrite.new.pages) _ _ 1 c.get.ensures.unchanged.changed_pages c.rewrite.ensures.changed_pages
+    (c.split_at.ensures.front_len ∙ ap (λ (t : ChainedTree). t.record_bytes) c.self.view_is)
+
+pub returns-in_err-rewrite-clause-spent : goal.returns-in_err-rewrite-clause-spent
+returns-in_err-rewrite-clause-spent g c = λ is.
+    sym c.get.ensures.unchanged.committed.spent
+    ∙ (c.rewrite.ensures.spent.0 (refused_by_call c.in_err-rewrite.was c.from_residual-in_err-rewrite.ensures.1 is)).0
+
+-- What follows the record is the same.
+pub returns-then-is_same-clause-edits : goal.returns-then-is_same-clause-edits
+returns-then-is_same-clause-edits g c =
+    let got = c.get.ensures in
+    let put = c.rewrite.ensures in
+    edits_last g.D.Device _ _ _ _ _ _ _ _ _ (λ is. never_ok is)
+    (looks_edits g.D.Device _ _ _ _ _ (looks_by g.D.Device _ _ _ _ _ got.only got.unchanged got.agrees got.open))
+    (edits_by g.D.Device _ _ _ _ _ put.only put.committed put.catalog put.agrees put.open)
+
+pub returns-then-is_same-clause-replaced : goal.returns-then-is_same-clause-replaced
+returns-then-is_same-clause-replaced g c = λ honest agrees left right entries is ok.
+    let image = (g.D.Device.state c.args.device.now).disk.present in
+    let before = pages_of_map c.args.pages.now image in
+    let view = chained c.self.inside.tree c.self.inside.record_bytes in
+    let own = viewed before left right view _ entries c.self.view_is is in
+    let stands = stands_among before left right view entries own in
+    let got = c.get.ensures in
+    let looks = looks_by g.D.Device _ _ _ _ _ got.only got.unchanged got.agrees got.open in
+    let found = sym (c.in_ok-entry.ensures.entry honest agrees own.planted.levels stands.tree) ∙ c.in-Some.is in
+    let first_is = c.first_page-first.ensures ∙ ap (big_number 4) c.value.ensures in
+    let written = rewritten_on g.D.Device _ c.args.pages.now c.get.new.pages c.rewrite.new.pages c.args.device.now
+    c.get.new.device view c.args.key.now c.split_at.result.0.now c.in-Some.entry c.first_page-first.result
+    own.planted.levels looks c.in_ok-rewrite.ensures.rewritten first_is c.split_at.ensures.front_len c.if-self-eq0.false
+    honest agrees stands found in
+    let same = (slice_eq-Decides Decides-eqb _ _ _ c.eq-is_same.ensures).0 c.if-is_same.true in
+    subst (λ (t : ChainedTree). IsSome (entry_with entries c.args.key.now)
+    × IsRowTreeAmong (pages_of_map c.rewrite.new.pages image) left right t
+    (with_value entries (pair c.args.key.now c.args.value.now))) c.self.view_is
+    (unwritten_on g.D.Device c.args.pages.now c.rewrite.new.pages c.args.device.now left right view entries
+    c.args.key.now c.split_at.result.0.now c.args.value.now c.in-Some.entry c.if-self-eq0.false
+    c.split_at.ensures.front_len
+    (ap (λ (l : List ℕ). c.split_at.result.0.now ++ l)
+    (rest_is c.value-2.result.now c.in-Some.entry.value _ same c.value-2.ensures) ∙ sym c.split_at.ensures.by_index.0)
+    own found written)
+
+pub returns-then-is_same-clause-changed_pages : goal.returns-then-is_same-clause-changed_pages
+returns-then-is_same-clause-changed_pages g c =
+    few_laid (changed_pages_of c.args.pages.now) (changed_pages_of c.get.new.pages)
+    (changed_pages_of c.rewrite.new.pages) _ _ 1 c.get.ensures.unchanged.changed_pages c.rewrite.ensures.changed_pages
+    (c.split_at.ensures.front_len ∙ ap (λ (t : ChainedTree). t.record_bytes) c.self.view_is)
+
+-- The entry was not written.
+pub returns-in_err-replaced-clause-edits : goal.returns-in_err-replaced-clause-edits
+returns-in_err-replaced-clause-edits g c =
+    let got = c.get.ensures in
+    let put = c.rewrite.ensures in
+    let end = c.in_err-replaced.ensures in
+    passed c.from_residual-in_err-replaced.result c.in_err-replaced.field-0.0 c.from_residual-in_err-replaced.ensures.1
+    (λ r. EditsPages g.D.Device (r ≡ Err Device) c.args.pages.now c.args.device.now c.replace-2.new.pages
+    c.replace-2.new.device)
+    (edits_last g.D.Device _ _ _ _ _ _ _ _ _ (λ is. still_error is)
+    (edits_last g.D.Device _ _ ⊥ _ _ _ _ _ _ (λ never. absurd never)
+    (looks_edits g.D.Device _ _ _ _ _ (looks_by g.D.Device _ _ _ _ _ got.only got.unchanged got.agrees got.open))
+    (edits_by g.D.Device _ _ _ _ _ put.only put.committed put.catalog put.agrees put.open))
+    (edits_by g.D.Device _ _ _ _ _ end.only end.committed end.catalog end.agrees end.open))
+
+pub returns-in_err-replaced-clause-damaged : goal.returns-in_err-replaced-clause-damaged
+returns-in_err-replaced-clause-damaged g c = λ honest agrees left right entries is told.
+    let image = (g.D.Device.state c.args.device.now).disk.present in
+    let before = pages_of_map c.args.pages.now image in
+    let view = chained c.self.inside.tree c.self.inside.record_bytes in
+    let own = viewed before left right view _ entries c.self.view_is is in
+    let stands = stands_among before left right view entries own in
+    let got = c.get.ensures in
+    let looks = looks_by g.D.Device _ _ _ _ _ got.only got.unchanged got.agrees got.open in
+    let found = sym (c.in_ok-entry.ensures.entry honest agrees own.planted.levels stands.tree) ∙ c.in-Some.is in
+    let first_is = c.first_page-first.ensures ∙ ap (big_number 4) c.value.ensures in
+    let written = rewritten_on g.D.Device _ c.args.pages.now c.get.new.pages c.rewrite.new.pages c.args.device.now
+    c.get.new.device view c.args.key.now c.split_at.result.0.now c.in-Some.entry c.first_page-first.result
+    own.planted.levels looks c.in_ok-rewrite.ensures.rewritten first_is c.split_at.ensures.front_len c.if-self-eq0.false
+    honest agrees stands found in
+    let put = c.rewrite.ensures in
+    let edits = edits_by g.D.Device _ _ _ _ _ put.only put.committed put.catalog put.agrees put.open in
+    let damaged = refused_by_call c.in_err-replaced.was c.from_residual-in_err-replaced.ensures.1 told in
+    rewritten_tells g.D.Device _ _ c.args.pages.now c.get.new.pages c.rewrite.new.pages c.args.device.now
+    c.get.new.device c.rewrite.new.device view c.args.key.now c.split_at.result.0.now c.in-Some.entry
+    own.planted.levels (λ levels. ⊥) looks edits c.if-self-eq0.false honest agrees stands found written
+    (λ h a levels tree. c.replace-2.ensures.damaged h a damaged levels tree)
+
+pub returns-in_err-replaced-clause-changed_pages : goal.returns-in_err-replaced-clause-changed_pages
+returns-in_err-replaced-clause-changed_pages g c =
+    few_added (changed_pages_of c.args.pages.now) (changed_pages_of c.get.new.pages)
+    (changed_pages_of c.rewrite.new.pages) (changed_pages_of c.replace-2.new.pages) _ _ 1
+    c.get.ensures.unchanged.changed_pages c.rewrite.ensures.changed_pages
+    (c.split_at.ensures.front_len ∙ ap (λ (t : ChainedTree). t.record_bytes) c.self.view_is)
+    c.replace-2.ensures.changed_pages
+
+pub returns-in_err-replaced-clause-spent : goal.returns-in_err-replaced-clause-spent
+returns-in_err-replaced-clause-spent g c = λ is.
+    sym c.get.ensures.unchanged.committed.spent ∙ sym c.rewrite.ensures.committed.spent ∙ (c.replace-2.ensures.spent.0
+    (refused_by_call c.in_err-replaced.was c.from_residual-in_err-replaced.ensures.1 is)).0
+
+pub returns-in_err-replaced-clause-tree : goal.returns-in_err-replaced-clause-tree
+returns-in_err-replaced-clause-tree g c =
+    same_chained _ _ c.self.inside.record_bytes _ c.replace-2.ensures.tree c.self.view_is
+
+pub returns-then-not-replaced-clause-edits : goal.returns-then-not-replaced-clause-edits
+returns-then-not-replaced-clause-edits g c =
+    let got = c.get.ensures in
+    let put = c.rewrite.ensures in
+    let end = c.replace-2.ensures in
+    edits_last g.D.Device _ _ _ _ _ _ _ _ _ (λ is. damaged_not_device is)
+    (edits_last g.D.Device _ _ ⊥ _ _ _ _ _ _ (λ never. absurd never)
+    (looks_edits g.D.Device _ _ _ _ _ (looks_by g.D.Device _ _ _ _ _ got.only got.unchanged got.agrees got.open))
+    (edits_by g.D.Device _ _ _ _ _ put.only put.committed put.catalog put.agrees put.open))
+    (edits_by g.D.Device _ _ _ _ _ end.only end.committed end.catalog end.agrees end.open)
+
+pub returns-then-not-replaced-clause-damaged : goal.returns-then-not-replaced-clause-damaged
+returns-then-not-replaced-clause-damaged g c = λ honest agrees left right entries is told.
+    let image = (g.D.Device.state c.args.device.now).disk.present in
+    let before = pages_of_map c.args.pages.now image in
+    let view = chained c.self.inside.tree c.self.inside.record_bytes in
+    let own = viewed before left right view _ entries c.self.view_is is in
+    let stands = stands_among before left right view entries own in
+    let got = c.get.ensures in
+    let looks = looks_by g.D.Device _ _ _ _ _ got.only got.unchanged got.agrees got.open in
+    let found = sym (c.in_ok-entry.ensures.entry honest agrees own.planted.levels stands.tree) ∙ c.in-Some.is in
+    let first_is = c.first_page-first.ensures ∙ ap (big_number 4) c.value.ensures in
+    let written = rewritten_on g.D.Device _ c.args.pages.now c.get.new.pages c.rewrite.new.pages c.args.device.now
+    c.get.new.device view c.args.key.now c.split_at.result.0.now c.in-Some.entry c.first_page-first.result
+    own.planted.levels looks c.in_ok-rewrite.ensures.rewritten first_is c.split_at.ensures.front_len c.if-self-eq0.false
+    honest agrees stands found in
+    let put = c.rewrite.ensures in
+    let edits = edits_by g.D.Device _ _ _ _ _ put.only put.committed put.catalog put.agrees put.open in
+    let none = rewritten_tells g.D.Device _ _ c.args.pages.now c.get.new.pages c.rewrite.new.pages c.args.device.now
+    c.get.new.device c.rewrite.new.device view c.args.key.now c.split_at.result.0.now c.in-Some.entry
+    own.planted.levels (λ levels. entry_with (stored_in view levels) c.args.key.now ≡ None) looks edits
+    c.if-self-eq0.false honest agrees stands found written
+    (λ h a levels tree.
+    c.replace-2.ensures.missing h a levels tree (c.in_ok-replaced.was ∙ ap Ok c.if-not-replaced.true)) in
+    none_not_some (sym none ∙ found)
+
+pub returns-then-not-replaced-clause-changed_pages : goal.returns-then-not-replaced-clause-changed_pages
+returns-then-not-replaced-clause-changed_pages g c =
+    few_added (changed_pages_of c.args.pages.now) (changed_pages_of c.get.new.pages)
+    (changed_pages_of c.rewrite.new.pages) (changed_pages_of c.replace-2.new.pages) _ _ 1
+    c.get.ensures.unchanged.changed_pages c.rewrite.ensures.changed_pages
+    (c.split_at.ensures.front_len ∙ ap (λ (t : ChainedTree). t.record_bytes) c.self.view_is)
+    c.replace-2.ensures.changed_pages
+
+pub returns-then-not-replaced-clause-tree : goal.returns-then-not-replaced-clause-tree
+returns-then-not-replaced-clause-tree g c =
+    same_chained _ _ c.self.inside.record_bytes _ c.replace-2.ensures.tree c.self.view_is
+
+-- It was.
+pub returns-clause-edits : goal.returns-clause-edits
+returns-clause-edits g c =
+    let got = c.get.ensures in
+    let put = c.rewrite.ensures in
+    let end = c.replace-2.ensures in
+    edits_last g.D.Device _ _ _ _ _ _ _ _ _ (λ is. never_ok is)
+    (edits_last g.D.Device _ _ ⊥ _ _ _ _ _ _ (λ never. absurd never)
+    (looks_edits g.D.Device _ _ _ _ _ (looks_by g.D.Device _ _ _ _ _ got.only got.unchanged got.agrees got.open))
+    (edits_by g.D.Device _ _ _ _ _ put.only put.committed put.catalog put.agrees put.open))
+    (edits_by g.D.Device _ _ _ _ _ end.only end.committed end.catalog end.agrees end.open)
+
+pub returns-clause-replaced : goal.returns-clause-replaced
+returns-clause-replaced g c = λ honest agrees left right entries is ok.
+    let image = (g.D.Device.state c.args.device.now).disk.present in
+    let before = pages_of_map c.args.pages.now image in
+    let view = chained c.self.inside.tree c.self.inside.record_bytes in
+    let own = viewed before left right view _ entries c.self.view_is is in
+    let stands = stands_among before left right view entries own in
+    let got = c.get.ensures in
+    let looks = looks_by g.D.Device _ _ _ _ _ got.only got.unchanged got.agrees got.open in
+    let found = sym (c.in_ok-entry.ensures.entry honest agrees own.planted.levels stands.tree) ∙ c.in-Some.is in
+    let first_is = c.first_page-first.ensures ∙ ap (big_number 4) c.value.ensures in
+    let written = rewritten_on g.D.Device _ c.args.pages.now c.get.new.pages c.rewrite.new.pages c.args.device.now
+    c.get.new.device view c.args.key.now c.split_at.result.0.now c.in-Some.entry c.first_page-first.result
+    own.planted.levels looks c.in_ok-rewrite.ensures.rewritten first_is c.split_at.ensures.front_len c.if-self-eq0.false
+    honest agrees stands found in
+    let put = c.rewrite.ensures in
+    let edits = edits_by g.D.Device _ _ _ _ _ put.only put.committed put.catalog put.agrees put.open in
+    let value = c.bytes.ensures ∙ c.new-stored.ensures in
+    let done = c.in_ok-replaced.was ∙ ap Ok c.if-not-replaced.false in
+    let P : List ℕ → Type 0 = λ v. OnTreeChange g.D.Device view.tree.layout view.tree.root c.rewrite.new.pages
+    c.replace-2.new.pages c.rewrite.new.device (λ before levels after. Becomes view.tree.layout before levels after
+    view.tree.root (with_value (stored_in view levels) (pair c.args.key.now v))) in
+    subst (λ (t : ChainedTree). IsSome (entry_with entries c.args.key.now)
+    × IsRowTreeAmong (pages_of_map c.replace-2.new.pages image) left right t
+    (with_value entries (pair c.args.key.now c.args.value.now))) c.self.view_is
+    (replaced_on g.D.Device _ _ c.args.pages.now c.get.new.pages c.rewrite.new.pages c.replace-2.new.pages
+    c.args.device.now c.get.new.device c.rewrite.new.device left right view entries c.args.key.now
+    c.split_at.result.0.now c.split_at.result.1.now c.args.value.now c.in-Some.entry c.first_page-first.result looks
+    edits (subst P value (λ h a levels tree. (c.replace-2.ensures.replaced h a levels tree done).1)) first_is
+    (omega arith) c.if-self-eq0.false c.split_at.ensures.front_len (sym c.split_at.ensures.by_index.0) honest agrees own
+    found
+    written)
+
+pub returns-clause-changed_pages : goal.returns-clause-changed_pages
+returns-clause-changed_pages g c =
+    few_added (changed_pages_of c.args.pages.now) (changed_pages_of c.get.new.pages)
+    (changed_pages_of c.rewrite.new.pages) (changed_pages_of c.replace-2.new.pages) _ _ 1
+    c.get.ensures.unchanged.changed_pages c.rewrite.ensures.changed_pages
+    (c.split_at.ensures.front_len ∙ ap (λ (t : ChainedTree). t.record_bytes) c.self.view_is)
+    c.replace-2.ensures.changed_pages
+
+pub returns-clause-tree : goal.returns-clause-tree
+returns-clause-tree g c =
+    same_chained _ _ c.self.inside.record_bytes _ c.replace-2.ensures.tree c.self.view_is

@@ -1,0 +1,4 @@
+pub mod RowTree
+pub mod Rows
+pub mod Reading
+pub mod Calls

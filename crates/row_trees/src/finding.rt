@@ -1,0 +1,57 @@
+//! A row of a key is found.
+ghost use Rattle.std.specs.Prelude.{◌≡◌, ◌≤◌, Err, length, IfOk, IfSome, IfErr};
+ghost use Rattle.pages.specs.Pages.{sectors_of, IsOpen};
+ghost use Rattle.btree.specs.Entries.{entry_with};
+ghost use Rattle.btree.specs.Results.{OnlyIfSpent};
+ghost use Rattle.volume_format.specs.Calls.{LooksAt};
+ghost use Rattle.row_trees.specs.Calls.{OnRowTree};
+ghost use Rattle.row_trees.specs.Reading.{IsRecordRefusal};
+ghost use Rattle.row_trees.specs.RowTree.{HasWholeLengths};
+
+use crate::row::Row;
+use crate::row_tree::RowTree;
+use crate::stored_value::{PAGE_NUMBER_BYTES, first_page};
+use chains::read_into;
+use pages::{PageMap, PagesError};
+use station::Device;
+use std::alloc::Global;
+
+impl RowTree {
+    /// The row of a key, if it is there. Whatever the pages hold, its key and value have their lengths. `Damaged` tells that the pages
+    /// under the root are no tree, or that the row has no record.
+    pub fn find<D: Device>(
+        &self,
+        alloc: Global,
+        pages: &mut PageMap,
+        device: &mut D,
+        key: &[u8],
+    ) -> Result<Option<Row>, PagesError>
+        requires open { IsOpen pages.old }
+        requires sectors { sectors_of pages.old ≤ D.sectors device.old }
+        ensures looks { LooksAt D.Device (result ≡ Err PagesError.Device) pages.old device.old
+            pages.new device.new }
+        ensures row { OnRowTree D.Device self.now pages.old device.old
+            (λ planted. IfOk result (λ row. row ≡ entry_with planted.entries key.now)) }
+        ensures damaged { OnRowTree D.Device self.now pages.old device.old
+            (λ planted. result ≡ Err PagesError.Damaged → ⊥) }
+        ensures lengths { IfOk result (λ row. IfSome row (HasWholeLengths self.now)) }
+        ensures spent { OnlyIfSpent pages.old result }
+        ensures cause { IfErr result IsRecordRefusal }
+    {
+        let entry = match self.tree.get(pages, device, key)? {
+            Some(entry) => entry,
+            None => return Ok(None),
+        };
+        if self.record_bytes == 0 {
+            return Ok(Some(Row { entry, long: None }));
+        }
+        let mut value = Vec::new(alloc);
+        value.resize(self.record_bytes as usize, 0)?;
+        read_into(pages, device, first_page(entry.value()), &mut value)?;
+        value.extend_from_slice(&entry.value()[PAGE_NUMBER_BYTES..])?;
+        Ok(Some(Row {
+            entry,
+            long: Some(value),
+        }))
+    }
+}

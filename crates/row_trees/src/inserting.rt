@@ -1,0 +1,74 @@
+//! A new row comes to a tree.
+ghost use Rattle.std.specs.Prelude.{◌≡◌, ◌≤◌, ◌+◌, true, false, Ok, Err, None, IsSome, length, IfErr, OnErr};
+ghost use Rattle.pages.specs.Pages.{sectors_of, IsOpen, IsUnchanged};
+ghost use Rattle.btree.specs.Calls.{pages_on};
+ghost use Rattle.btree.specs.Entries.{entry_with, with_new_entry};
+ghost use Rattle.btree.specs.Refusals.{IsInsertRefusal};
+ghost use Rattle.btree.specs.Results.{OnlyIfSpent, FewChanged};
+ghost use Rattle.chains.specs.Chain.{pages_for};
+ghost use Rattle.row_trees.specs.Calls.{EditsPages, LacksSectors, OnRowTreeAmong};
+ghost use Rattle.row_trees.specs.RowTree.{IsRowTreeAmong, value_length};
+
+use crate::row_tree::RowTree;
+use crate::stored_value::StoredValue;
+use chains::lay;
+use pages::{PageMap, PagesError, few_free};
+use station::Device;
+
+impl RowTree {
+    /// Puts a new row into the tree, beside which others stay. `false` tells that its key is there, and then nothing was changed. After
+    /// a refusal the pages that aren't committed are given up with the map of pages, and the tree has the root that it had.
+    pub fn insert<D: Device>(
+        &mut self,
+        pages: &mut PageMap,
+        device: &mut D,
+        key: &[u8],
+        value: &[u8],
+    ) -> Result<bool, PagesError>
+        requires open { IsOpen pages.old }
+        requires sectors { sectors_of pages.old ≤ D.sectors device.old }
+        requires key { length key.now ≡ self.old.tree.layout.key_length }
+        requires value { length value.now ≡ value_length self.old }
+        ensures edits { EditsPages D.Device (result ≡ Err PagesError.Device) pages.old device.old
+            pages.new device.new }
+        ensures inserted { OnRowTreeAmong D.Device self.old pages.old device.old
+            (λ left right entries. result ≡ Ok true →
+            (entry_with entries key.now ≡ None)
+            × IsRowTreeAmong (pages_on D.Device pages.new device.old) left right self.new
+            (with_new_entry entries (record { key = key.now; value = value.now }))) }
+        ensures there { OnRowTreeAmong D.Device self.old pages.old device.old
+            (λ left right entries. result ≡ Ok false → IsSome (entry_with entries key.now)) }
+        ensures same { result ≡ Ok false → IsUnchanged pages.old pages.new × (self.new ≡ self.old) }
+        ensures damaged { OnRowTreeAmong D.Device self.old pages.old device.old
+            (λ left right entries. result ≡ Err PagesError.Damaged → ⊥) }
+        ensures changed_pages { OnRowTreeAmong D.Device self.old pages.old device.old
+            (λ left right entries.
+            FewChanged (42 + pages_for self.old.record_bytes) pages.old pages.new) }
+        ensures room { OnRowTreeAmong D.Device self.old pages.old device.old
+            (λ left right entries.
+            LacksSectors (42 + pages_for self.old.record_bytes) pages.old result) }
+        ensures layout { self.new.tree.layout ≡ self.old.tree.layout }
+        ensures form { self.new.record_bytes ≡ self.old.record_bytes }
+        ensures refused { OnErr result (self.new ≡ self.old) }
+        ensures spent { OnlyIfSpent pages.old result }
+        ensures cause { IfErr result IsInsertRefusal }
+    {
+        if self.record_bytes == 0 {
+            return self.tree.insert(pages, device, key, value);
+        }
+        // What `Full` tells of the free sectors.
+        few_free();
+        let held = self.tree.get(pages, device, key)?;
+        if held.is_some() {
+            return Ok(false);
+        }
+        let (record, rest) = value.split_at(self.record_bytes as usize);
+        let first = lay(pages, record)?;
+        let stored = StoredValue::new(first, rest);
+        let added = self.tree.insert(pages, device, key, stored.bytes())?;
+        if !added {
+            return Err(PagesError::Damaged);
+        }
+        Ok(true)
+    }
+}

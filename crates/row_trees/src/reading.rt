@@ -1,0 +1,71 @@
+//! The record of an entry is read.
+ghost use Rattle.std.specs.Prelude.{◌≡◌, ◌≤◌, ◌<◌, Err, length, take, OnOk, OnErr, IfErr};
+ghost use Rattle.pages.specs.Pages.{sectors_of, IsOpen};
+ghost use Rattle.btree.specs.Calls.{OnPages};
+ghost use Rattle.btree.specs.Results.{OnlyIfSpent};
+ghost use Rattle.volume_format.specs.Calls.{LooksAt};
+ghost use Rattle.row_trees.specs.Reading.{IsRecordLength, IsRecordRefusal, HasRecord, ReadsRecord};
+
+use crate::row_tree::RowTree;
+use crate::stored_value::{PAGE_NUMBER_BYTES, first_page};
+use btree::Entry;
+use chains::read_into;
+use pages::{PageMap, PagesError};
+use station::Device;
+use std::alloc::Global;
+
+impl RowTree {
+    /// Fills a buffer of the length of a record with the record of an entry. After a refusal the buffer is as it was. `Damaged` tells
+    /// that the entry has no such record.
+    pub fn read_record<D: Device>(
+        &self,
+        alloc: Global,
+        pages: &mut PageMap,
+        device: &mut D,
+        entry: &Entry,
+        into: &mut [u8],
+    ) -> Result<(), PagesError>
+        requires open { IsOpen pages.old }
+        requires sectors { sectors_of pages.old ≤ D.sectors device.old }
+        ensures looks { LooksAt D.Device (result ≡ Err PagesError.Device) pages.old device.old
+            pages.new device.new }
+        ensures record { OnPages D.Device pages.old device.old
+            (λ before. IsRecordLength self.now.record_bytes (length into.old) → OnOk result
+            (ReadsRecord self.now.record_bytes before entry.now into.old into.new)) }
+        ensures damaged { OnPages D.Device pages.old device.old
+            (λ before. result ≡ Err PagesError.Damaged
+            → HasRecord self.now.record_bytes before entry.now (length into.old) → ⊥) }
+        ensures kept { OnErr result (into.new ≡ into.old) }
+        ensures spent { OnlyIfSpent pages.old result }
+        ensures cause { IfErr result IsRecordRefusal }
+    {
+        let value = entry.value();
+        if self.record_bytes == 0 {
+            return copy_front(value, into);
+        }
+        let is_short = value.len() < PAGE_NUMBER_BYTES;
+        if is_short {
+            return Err(PagesError::Damaged);
+        }
+        let mut record = Vec::new(alloc);
+        record.resize(into.len(), 0)?;
+        read_into(pages, device, first_page(value), &mut record)?;
+        into.copy_from_slice(&record);
+        Ok(())
+    }
+}
+
+/// Fills a buffer with the beginning of a value. `Damaged` tells that the value is shorter.
+fn copy_front(value: &[u8], into: &mut [u8]) -> Result<(), PagesError>
+    ensures copied { OnOk result ((length into.old ≤ length value.now)
+        × (into.new ≡ take (length into.old) value.now)) }
+    ensures short { OnErr result (length value.now < length into.old) }
+    ensures kept { OnErr result (into.new ≡ into.old) }
+    ensures cause { IfErr result (λ error. error ≡ PagesError.Damaged) }
+{
+    if value.len() < into.len() {
+        return Err(PagesError::Damaged);
+    }
+    into.copy_from_slice(&value[..into.len()]);
+    Ok(())
+}
