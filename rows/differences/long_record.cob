@@ -1,4 +1,4 @@
-      * A record of 1,001 bytes.
+      * A record of 16,001 bytes.
        IDENTIFICATION DIVISION.
        PROGRAM-ID. DIFFERENCE.
        ENVIRONMENT DIVISION.
@@ -8,7 +8,7 @@
        DATA DIVISION.
        FILE SECTION.
        FD  F.
-       01  R PIC X(1001).
+       01  R PIC X(16001).
        PROCEDURE DIVISION.
        MAIN-PARAGRAPH.
            OPEN OUTPUT F.

@@ -8,7 +8,7 @@ from power_cuts.volume import SECTOR, TREES
 
 NUMBER = 8
 PAGE_NAMES = ("root: catalog", "catalog: root of rows", "catalog: alternate root", "catalog: inner child", "rows: inner child",
-              "alternate: inner child")
+              "alternate: inner child", "rows: first page", "chain: next page")
 
 
 class FieldChange:
@@ -125,18 +125,19 @@ class FieldChange:
 
     def change_record(self, file, at):
         offset = self.random.randrange(file.description.length)
-        self.volume.write_number(at + offset, 1, self.volume.number(at + offset, 1) + 1)
+        place = file.byte_place(at, offset)
+        self.volume.write_number(place, 1, self.volume.number(place, 1) + 1)
         return f"byte {offset} of the record at {at} rises"
 
     def change_alternate(self, file, i, at):
         """A byte of a value rises in the record, and in the entry that leads to it, if the volume has one."""
-        key, length = file.description.alternates[i], file.description.length
-        arrival = self.volume.read(at + length + 8 * i, 8)
+        key = file.description.alternates[i]
+        arrival = self.volume.read(file.arrivals_place(at) + 8 * i, 8)
         offset, by = self.random.choice([0, key.length - 1, self.random.randrange(key.length)]), self.random.choice([1, 1, -1])
-        old = self.volume.read(at + key.offset, key.length)
+        old = b"".join(self.volume.read(file.byte_place(at, key.offset + j), 1) for j in range(key.length))
         entries = [entry_at for entry_at, _ in (file.alternates[i] if file.alternates else [])
                    if self.volume.read(entry_at, key.length + 8) == old + arrival]
-        places = [at + key.offset + offset, *(entry_at + offset for entry_at in entries)]
+        places = [file.byte_place(at, key.offset + offset), *(entry_at + offset for entry_at in entries)]
         for place in places:
             self.volume.write_number(place, 1, self.volume.number(place, 1) + by)
         return f"byte {offset} of a value of alternate key {i} changes by {by}, in the record at {at} and {len(places) - 1} entries"

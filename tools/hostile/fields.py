@@ -4,11 +4,10 @@
 use. Each field has a name, its place in the volume and its length."""
 from collections import defaultdict, namedtuple
 
-from power_cuts.volume import (HALVES, LISTING, SECTOR, TREES, Pages, half_of, map_count, number, prime_length, read_description, read_root)
+from power_cuts.volume import (HALVES, LISTING, PART, SECTOR, SHORT, TREES, Pages, half_of, map_count, number, prime_length,
+                               read_description, read_root)
 
 Field = namedtuple("Field", "at length")
-# A file: what it is, the places of its rows' keys and records, and of each alternate key the places of its entries' keys and values.
-FilePlaces = namedtuple("FilePlaces", "description rows alternates")
 ALTERNATES = 7
 CATALOG_KEY = [("name", 30)]
 DESCRIPTION = [("organization", 1), ("record length", 2), ("prime offset", 2), ("prime length", 2), ("alternate keys", 1)]
@@ -23,6 +22,20 @@ def description_parts(count):
 def catalog_parts(count, is_counted):
     roots = [("alternate root", 4)] * count + [("missing root", 4)] * (ALTERNATES - count)
     return description_parts(count) + [("root of rows", 4)] + roots + [("next arrival", 8)] + [("rows", 8)] * is_counted
+
+
+class FilePlaces(namedtuple("FilePlaces", "description rows alternates chains")):
+    """A file: what it is, the places of its rows' keys and of their values, and of each alternate key the places of its entries' keys and
+    values. By the place of a row's value, `chains` has the places of the parts of its record in the pages of its chain."""
+
+    def byte_place(self, at, offset):
+        """Where a byte is of the record of the row whose value is at this place."""
+        if at in self.chains:
+            return self.chains[at][offset // PART] + offset % PART
+        return at + offset
+
+    def arrivals_place(self, at):
+        return at + (4 if at in self.chains else self.description.length)
 
 
 class Fields:
@@ -83,16 +96,19 @@ class Fields:
     def add_file(self, at):
         """Adds the fields of a catalog entry whose value begins here, and of the file's trees."""
         value = self.volume.read(at, LISTING)
-        description = read_description(value[:43])
+        description = read_description(value[:43], not self.is_counted)
         count = len(description.alternates)
         self.add_parts("catalog: ", at, catalog_parts(count, self.is_counted))
         key = [("key", prime_length(description))]
-        rows = self.add_tree("rows: ", number(value, 43, 4), key, [("record", description.length)] + [("arrival", 8)] * count)
+        is_long = description.length > SHORT
+        record = ("first page", 4) if is_long else ("record", description.length)
+        rows = self.add_tree("rows: ", number(value, 43, 4), key, [record] + [("arrival", 8)] * count)
+        chains = {at: self.add_chain(self.volume.number(at, 4), description.length) for _, at in rows if is_long}
         alternates = []
         for i, alternate in enumerate(description.alternates):
             parts = [("value", alternate.length), ("arrival", 8)]
             alternates.append(self.add_tree("alternate: ", number(value, 47 + 4 * i, 4), parts, [("prime key", description.prime.length)]))
-        self.files.append(FilePlaces(description, rows, alternates))
+        self.files.append(FilePlaces(description, rows, alternates, chains))
 
     def add_tree(self, name, root, key, value):
         """Adds the pages of a tree. The places of its rows' keys and values."""
@@ -121,6 +137,17 @@ class Fields:
                 found += self.add_page(prefix.removesuffix("inner "), self.volume.number(middle, 4), key, value)
         return found
 
+    def add_chain(self, page, left):
+        """Adds the pages of a record's chain, of which so many bytes are left. The places of its parts."""
+        places = []
+        while left > 0:
+            at, length = SECTOR * self.pages.sectors[page], min(left, PART)
+            places.append(at + 16)
+            parts = [("kind", 1), ("unnamed bytes", 3), ("next page", 4), ("unnamed bytes", 8), ("record", length)]
+            self.add_parts("chain: ", at, parts + [("rest", PART - length)])
+            page, left = self.volume.number(at + 4, 4), left - length
+        return places
+
     # Halves
 
     def add_half(self):
@@ -133,7 +160,7 @@ class Fields:
             self.add("half: unused byte", end, 1)
 
     def add_half_file(self, at):
-        description = read_description(self.volume.read(at + 30, 43))
+        description = read_description(self.volume.read(at + 30, 43), True)
         count = len(description.alternates)
         parts = CATALOG_KEY + description_parts(count) + [("zeros", 32), ("next arrival", 8), ("rows", 8)]
         at = self.add_parts("half: ", at, parts)
@@ -142,7 +169,7 @@ class Fields:
         for _ in range(self.volume.number(at - 8, 8)):
             rows.append((at, at + prime_length(description)))
             at = self.add_parts("half: ", at, row)
-        self.files.append(FilePlaces(description, rows, []))
+        self.files.append(FilePlaces(description, rows, [], {}))
         return at
 
 

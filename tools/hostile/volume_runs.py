@@ -7,7 +7,7 @@ from hostile.field_changes import FieldChange
 from hostile.fields import Fields
 from hostile.reading import ReadingProgram
 from power_cuts.answers import check_answer
-from power_cuts.cases import Case, make_earlier
+from power_cuts.cases import Case
 from power_cuts.checking import examine, files_of, summary
 from power_cuts.product import Failure, Ran
 from power_cuts.scratch import Scratch
@@ -33,9 +33,7 @@ def run_volumes(program, seed, folder):
 
 
 def make_volume(case):
-    case.make_volume(share_of_halves=0.5)
-    if case.seed % EARLIER == EARLIER - 1 and not case.figures["volumes of halves"]:
-        make_earlier(case.volume)
+    case.make_volume(share_of_halves=0.5, is_earlier=case.seed % EARLIER == EARLIER - 1)
     for _ in range(case.random.choice([1, 3])):
         run_program(case)
     if case.random.random() < 0.5:

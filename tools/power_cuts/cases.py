@@ -29,15 +29,20 @@ class Case:
         self.source, self.image = f"{folder}/program.cob", f"{folder}/program.image"
         self.doubtful, self.others, self.note = {}, [], "format"
 
-    def make_volume(self, share_of_halves=0.15):
+    def make_volume(self, share_of_halves=0.15, is_earlier=False):
+        """Makes a volume. Only one of trees with the later mark takes long records."""
         sectors = self.random.choice(SIZES)
         self.must("format", self.volume, str(sectors))
-        if self.random.random() < share_of_halves:
+        is_of_halves = self.random.random() < share_of_halves
+        if is_of_halves:
             make_halves(self.volume, sectors)
             self.figures["volumes of halves"] += 1
+        elif is_earlier:
+            make_earlier(self.volume)
+        self.takes_long = not is_of_halves and not is_earlier
         self.figures["volumes"] += 1
         names = self.random.sample(NAMES, self.random.choice([1, 1, 2, 3]))
-        self.shapes = [random_shape(self.random, name) for name in names]
+        self.shapes = [random_shape(self.random, name, self.takes_long) for name in names]
         self.content = ()
 
     def must(self, *words):
@@ -146,6 +151,7 @@ class Case:
         self.must("migrate", self.volume)
         if not are_same(self.volume, self.before):
             raise Failure("a second migration changes the volume")
+        self.takes_long = True
         self.confirm(self.content)
         self.confirm_stat()
 
@@ -163,7 +169,7 @@ class Case:
         random = self.random
         if random.random() < 0.1:
             i = random.randrange(len(self.shapes))
-            self.shapes[i] = random_shape(random, self.shapes[i].name)
+            self.shapes[i] = random_shape(random, self.shapes[i].name, self.takes_long)
         shapes = random.sample(self.shapes, len(self.shapes)) + random.sample(self.shapes, random.random() < 0.15)
         return random_program(random, Files.of(self.content), shapes, steps)
 
@@ -328,8 +334,7 @@ def run_case(program, seed, folder):
 
 def make_earlier_volume(case):
     """Makes a volume with the earlier mark and files, on which random programs ran."""
-    case.make_volume(share_of_halves=0)
-    make_earlier(case.volume)
+    case.make_volume(share_of_halves=0, is_earlier=True)
     for _ in range(case.random.choice([0, 1, 2, 3])):
         case.write(case.random.choice([8, 30, 60]))
     if case.random.random() < 0.2:

@@ -8,10 +8,12 @@ from dataclasses import dataclass, field
 from itertools import accumulate
 
 from power_cuts.model import Connector, Files
-from power_cuts.volume import Description, Key
+from power_cuts.volume import LONGEST, PART, SHORT, Description, Key
 
 RELATIONS = {"=": ["EQUAL TO", "="], ">": ["GREATER THAN", ">"], ">=": ["NOT LESS THAN", "NOT <", "GREATER OR EQUAL TO", ">="]}
 FIGURES = {b"\0": "LOW-VALUES", b"\xff": "HIGH-VALUES", b" ": "SPACES", b"0": "ZEROS", b'"': "QUOTES"}
+# Of the files on a volume that takes long records, how many may have them.
+SHARE_OF_LONG = 0.3
 OPEN_MODES = ["INPUT", "OUTPUT", "I-O"]
 
 
@@ -32,9 +34,11 @@ class Shape:
         return [name for name, _, _ in self.parts if name.startswith("B")]
 
 
-def random_shape(random, name):
+def random_shape(random, name, takes_long=False):
+    """A file. Its record has at most 1,000 bytes, or 16,000 where the volume takes long ones."""
     kind = random.choice(["indexed", "indexed", "indexed", "relative", "sequential"])
-    most = random.choice([40, 150, 400, 1000])
+    longest = LONGEST if takes_long and random.random() < SHARE_OF_LONG else SHORT
+    most = random.choice([40, 150, 400, 1000] if longest == SHORT else [PART, 3 * PART, LONGEST])
     lengths = {"B1": random.randint(1, most)}
     keys = {}
     if kind == "indexed":
@@ -43,7 +47,7 @@ def random_shape(random, name):
             lengths[f"A{i + 1}"] = random.choice([1, 2, 8, 8, 30, 100])
             keys[f"A{i + 1}"] = random.random() < 0.6
     lengths["B2"] = random.randint(1, 20)
-    while sum(lengths.values()) > 1000:
+    while sum(lengths.values()) > longest:
         lengths["B1"] = max(1, lengths["B1"] - 100)
         if lengths["B1"] == 1:
             lengths.update({part: 8 for part in keys})

@@ -13,6 +13,8 @@ SECTOR = 4096
 TREES, HALVES = [b"COBVOL01", b"COBVOL02"], [b"COBHALF1"]
 # How many bytes a value of the catalog has without the number of rows, which the second mark of trees adds.
 LISTING = 83
+SHORT, LONGEST = 1000, 16000  # the bytes of a record that is in a tree, and of any record
+PART = 4080  # the bytes of a record in a page of its chain
 KINDS = ["sequential", "relative", "indexed"]
 MOST_FILES = 255
 MOST_SECTORS = 921_600
@@ -176,7 +178,7 @@ def read_trees(volume, root):
     pages = Pages(volume, root)
     is_counted = root.mark != TREES[0]
     catalog = read_tree(pages, number(root.payload, 0, 4), 30, LISTING + 8 * is_counted)
-    files = [read_file(pages, root.generation, name, value) for name, value in catalog]
+    files = [read_file(pages, root.generation, name, value, not is_counted) for name, value in catalog]
     need(not is_counted or [number(value, LISTING, 8) for _, value in catalog] == [len(file.rows) for file in files])
     need(reaches_all(pages))
     return files
@@ -224,16 +226,35 @@ def read_node(pages, page, key_length, value_length, levels):
     return entries, heights.pop() + 1
 
 
-def read_file(pages, generation, padded, value):
-    """A file and its trees, of an entry of the catalog."""
-    name, description = read_name(padded), read_description(value[:43])
+def read_chain(pages, page, length):
+    """The bytes of a record of this length, of the chain that begins at a page."""
+    parts = []
+    for _ in range(-(-length // PART)):
+        text = pages.read(page)
+        need(text[0] == 3)
+        parts.append(text[16:])
+        page = number(text, 4, 4)
+    need(page == 0)
+    return b"".join(parts)[:length]
+
+
+def read_value(pages, description, value):
+    """The record and the arrivals of a value of the tree of rows."""
+    if description.length <= SHORT:
+        return value
+    return read_chain(pages, number(value, 0, 4), description.length) + value[4:]
+
+
+def read_file(pages, generation, padded, value, is_short):
+    """A file and its trees, of an entry of the catalog. With the earlier mark no record is long."""
+    name, description = read_name(padded), read_description(value[:43], is_short)
     roots = [number(value, 47 + 4 * i, 4) for i in range(7)]
     arrival = number(value, 75, 8)
     count = len(description.alternates)
     need(1 <= arrival <= generation and not any(roots[count:]))
-    lengths = prime_length(description), description.length + 8 * count
-    entries = read_tree(pages, number(value, 43, 4), *lengths)
-    rows = tuple(read_row(description, arrival, key, row) for key, row in entries)
+    kept = description.length if description.length <= SHORT else 4
+    entries = read_tree(pages, number(value, 43, 4), prime_length(description), kept + 8 * count)
+    rows = tuple(read_row(description, arrival, key, read_value(pages, description, row)) for key, row in entries)
     for i, key in enumerate(description.alternates):
         found = read_tree(pages, roots[i], key.length + 8, description.prime.length)
         need(is_index(found, key, i, rows))
@@ -250,12 +271,12 @@ def prime_length(description):
     return {"sequential": 8, "relative": 4}.get(description.kind) or description.prime.length
 
 
-def read_description(text):
-    """What a file is, from the 43 bytes that say so."""
+def read_description(text, is_short):
+    """What a file is, from the 43 bytes that say so. Only a volume of trees with the later mark has records that aren't short."""
     need(text[0] < 3)
     kind, length, count = KINDS[text[0]], number(text, 1, 2), text[7]
     prime = Key(number(text, 3, 2), number(text, 5, 2))
-    need(1 <= length <= 1000 and count <= 7 and not any(text[8 + 5 * count:]))
+    need(1 <= length <= (SHORT if is_short else LONGEST) and count <= 7 and not any(text[8 + 5 * count:]))
     if kind != "indexed":
         need(count == 0 and not any(text[3:7]))
         return Description(kind, length)
@@ -310,7 +331,7 @@ def read_half(volume, root):
 def read_half_file(text, at, generation):
     """The file that begins at a place of a half, and where the next one begins."""
     need(at + 121 <= len(text))
-    name, description = read_name(text[at:at + 30]), read_description(text[at + 30:at + 73])
+    name, description = read_name(text[at:at + 30]), read_description(text[at + 30:at + 73], True)
     arrival, count = number(text, at + 105, 8), number(text, at + 113, 8)
     need(not any(text[at + 73:at + 105]) and 1 <= arrival <= generation)
     key_length = prime_length(description)

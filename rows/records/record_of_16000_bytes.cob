@@ -7,7 +7,7 @@
        DATA DIVISION.
        FILE SECTION.
        FD  F.
-       01  R PIC X(1001).
+       01  R PIC X(16000).
        PROCEDURE DIVISION.
            DISPLAY "KEPT".
            STOP RUN.

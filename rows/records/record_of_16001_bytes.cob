@@ -7,7 +7,7 @@
        DATA DIVISION.
        FILE SECTION.
        FD  F.
-       01  R PIC X(1001).
-       01  S PIC X(10).
+       01  R PIC X(16001).
        PROCEDURE DIVISION.
+           DISPLAY "KEPT".
            STOP RUN.

@@ -1,0 +1,13 @@
+       IDENTIFICATION DIVISION.
+       PROGRAM-ID. P.
+       ENVIRONMENT DIVISION.
+       INPUT-OUTPUT SECTION.
+       FILE-CONTROL.
+           SELECT F ASSIGN TO "F".
+       DATA DIVISION.
+       FILE SECTION.
+       FD  F.
+       01  R PIC X(16001).
+       01  S PIC X(10).
+       PROCEDURE DIVISION.
+           STOP RUN.
