@@ -23,6 +23,7 @@ use Rattle.items.specs.declared.usage.Usage.TheVariants as usage
 use Rattle.items.specs.declared.usage.OperationalSign.TheVariants as sign
 use Rattle.items.specs.declared.numeric.Numeric.{Numeric}
 use Rattle.items.specs.Numbers.{is_signed, usage_is_signed, usage_length, length_of}
+use Rattle.items.specs.Display.{display_bytes}
 use Rattle.items.specs.Values.{bytes_of, spelled_in}
 use Rattle.items.specs.declared.item.Kind.{Kind}
 use Rattle.edited_move.specs.Moves.{received_number}
@@ -118,6 +119,19 @@ unsigned_bytes n z is =
 
 pub unsigned_length : (n : Numeric) → n.usage ≡ usage.Display sign.Unsigned → length_of n ≡ n.digits
 unsigned_length n is = let none : n.digits + 0 ≡ n.digits =
+    omega arith in ap (λ (u : Usage). usage_length u n.digits) is ∙ none
+
+-- What an item in DISPLAY usage holds that has its sign in the last digit: the number's own digits and sign.
+pub trailing_bytes : (n : Numeric) (z : ℤ) → n.usage ≡ usage.Display sign.Trailing
+    → bytes_of n (held_by n (at_scale n z)) ≡ display_bytes sign.Trailing n.digits (is_negative z) (unsigned_abs z)
+unfolding bytes_of
+trailing_bytes n z is =
+    let x = at_scale n z in
+    ap (bytes_of n) (ap (λ (u : Usage). if usage_is_signed u then x else absolute x) is)
+    ∙ ap (λ (u : Usage). spelled_in u n.digits (is_negative z) (unsigned_abs z)) is
+
+pub trailing_length : (n : Numeric) → n.usage ≡ usage.Display sign.Trailing → length_of n ≡ n.digits
+trailing_length n is = let none : n.digits + 0 ≡ n.digits =
     omega arith in ap (λ (u : Usage). usage_length u n.digits) is ∙ none
 
 -- What is kept as it is of a number of an item's own scale is stored, with no size error.

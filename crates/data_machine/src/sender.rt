@@ -35,9 +35,9 @@ impl Sender {
           bytes = record { room = self.old.bytes.room; bytes = bytes.now };
         } }
     {
+        self.taken = Some(taken);
         self.bytes.clear();
         self.bytes.append(bytes);
-        self.taken = Some(taken);
     }
 
     /// What was taken, where something was.

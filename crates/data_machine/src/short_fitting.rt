@@ -1,6 +1,8 @@
 //! What receivers keep of numbers of 64 bits that fit, and the bytes in which they hold them.
 
 ghost use Rattle.std.specs.Prelude.{◌≡◌, ◌+◌, ◌-◌, ◌<◌, ◌≤◌, ◌^◌, length, nat_le, pos, unsigned_abs, IfSome, Ok, Some, if◌then◌else◌};
+ghost use Rattle.decimal18.specs.Fraction.{is_negative};
+ghost use Rattle.items.specs.Display.{display_bytes};
 ghost use Rattle.decimal18.specs.Receiver.{fitted_decimal};
 ghost use Rattle.items.specs.declared.usage.Usage.TheVariants as usage;
 ghost use Rattle.items.specs.declared.usage.OperationalSign.TheVariants as sign;
@@ -208,9 +210,27 @@ pub(crate) fn put_short(item: Numeric, coefficient: i64, bytes: &mut [u8])
         if let OperationalSign::Unsigned = sign {
             return put_digits(coefficient.unsigned_abs(), bytes);
         }
+        if let OperationalSign::Trailing = sign {
+            return put_trailing(coefficient, bytes);
+        }
     }
     let held = held_coefficient(item, coefficient);
     store(item, Dec::short(held, item.scale), bytes);
+}
+
+/// Writes digits, the last of which carries the minus, if there is one. It is kept out of its caller, which needs few registers
+/// then.
+#[inline(never)]
+fn put_trailing(coefficient: i64, bytes: &mut [u8])
+    requires { 1 ≤ length bytes.old }
+    ensures { bytes.new ≡ display_bytes sign.Trailing (length bytes.old) (is_negative coefficient)
+        (unsigned_abs coefficient) }
+{
+    let last = bytes.len() - 1;
+    put_digits(coefficient.unsigned_abs(), bytes);
+    if coefficient < 0 {
+        bytes[last] += MINUS_MARK;
+    }
 }
 
 /// The same in an item at an offset in its area: the other bytes stay.
