@@ -1,4 +1,4 @@
-//! An entry or a row comes to a tree that stands among others.
+//! An entry or a row is added to one tree among others.
 ghost use Rattle.std.specs.Prelude.{◌≡◌, ◌≤◌, ◌<◌, ◌+◌, true, false, Ok, Err, None, IsSome, length, IfErr};
 ghost use Rattle.station.specs.Calls.{OnlyReads};
 ghost use Rattle.pages.specs.Pages.{is_spent, catalog_of, committed_of, sectors_of, changed_pages_of, Agrees, IsOpen, SameCommitted, IsUnchanged};
@@ -20,7 +20,7 @@ use row_trees::RowTree;
 use station::Device;
 use volume_format::to_fault;
 
-/// Puts a new entry into a tree, beside which others stay. `false` tells that its key is there, and then nothing was changed.
+/// Puts a new entry into a tree. Other trees are unchanged. `false` means that its key is there, and then nothing was changed.
 pub(crate) fn insert_among<D: Device>(
     tree: &mut Tree,
     pages: &mut PageMap,
@@ -63,7 +63,7 @@ pub(crate) fn insert_among<D: Device>(
     }
 }
 
-/// Puts a new row into a tree of rows, beside which others stay. `false` tells that its key is there, and then nothing was changed.
+/// Puts a new row into a tree of rows. Other trees are unchanged. `false` means that its key is there, and then nothing was changed.
 pub(crate) fn enter_row<D: Device>(
     rows: &mut RowTree,
     pages: &mut PageMap,

@@ -18,7 +18,7 @@ use row_trees::RowTree;
 use station::Device;
 use volume_format::to_fault;
 
-/// Takes the entry of a key out of a tree, beside which others stay. Where it isn't there, the volume is damaged.
+/// Takes the entry of a key out of a tree. Other trees are unchanged. Where it isn't there, the volume is damaged.
 pub(crate) fn remove_among<D: Device>(
     tree: &mut Tree,
     pages: &mut PageMap,
@@ -47,7 +47,7 @@ pub(crate) fn remove_among<D: Device>(
     }
 }
 
-/// Takes the row of a key out of a tree of rows, beside which others stay. Where it isn't there, the volume is damaged.
+/// Takes the row of a key out of a tree of rows. Other trees are unchanged. Where it isn't there, the volume is damaged.
 pub(crate) fn remove_row<D: Device>(
     rows: &mut RowTree,
     pages: &mut PageMap,
@@ -77,7 +77,7 @@ pub(crate) fn remove_row<D: Device>(
     }
 }
 
-/// Gives the row of a key another record, beside whose tree others stay. Where it isn't there, the volume is damaged.
+/// Gives the row of a key another record. Other trees are unchanged. Where it isn't there, the volume is damaged.
 pub(crate) fn replace_row<D: Device>(
     rows: &mut RowTree,
     pages: &mut PageMap,

@@ -91,7 +91,7 @@ fn chained_part(size: u16) -> u16
     if is_in_chain(size) { size } else { 0 }
 }
 
-/// The bytes of a row's entry that stand for its record, by the bytes of a record.
+/// The bytes that a row's entry has for its record, by the bytes of a record.
 fn kept_part(size: u16) -> usize
     ensures { result ≡ (if nat_lt 1000 size then 4 else size) }
 {
@@ -141,7 +141,7 @@ fn stored_layout(value: &[u8], key: KeyOfReference) -> RowLayout
     }
 }
 
-/// The tree of a key. Where a tree can't have the lengths that are told, the volume is damaged.
+/// The tree of a key. The volume is damaged if no tree can have the lengths that the value gives.
 pub(crate) fn stored_tree(
     alloc: Global,
     value: &[u8],
@@ -168,7 +168,7 @@ pub(crate) fn stored_tree(
     Ok(Tree::new(alloc, layout, root))
 }
 
-/// The tree of rows. Where a tree can't have the lengths that are told, the volume is damaged.
+/// The tree of rows. The volume is damaged if no tree can have the lengths that the value gives.
 pub(crate) fn stored_row_tree(alloc: Global, value: &[u8]) -> Result<RowTree, StoreFault>
     requires { length value.now ≡ 83 }
     ensures tree { (l : Listing) → is_spec l.spec ≡ true → value.now ≡ listing_bytes l →

@@ -22,7 +22,7 @@ use volume_format::to_fault;
 const PAGE_NUMBER_BYTES: usize = 4;
 
 /// The value of an entry with its record in place, for a file whose records are in chains. The pages of its chain are marked. `Damaged`
-/// tells that no chain that can be marked stands there.
+/// means that there is no chain that can be marked.
 pub(crate) fn whole_value<D: Device>(
     alloc: Global,
     file: &FileSpec,
@@ -66,7 +66,7 @@ fn zeros(alloc: Global, count: usize) -> Result<Vec<u8>, StoreFault>
     Ok(zeros)
 }
 
-/// Whether a chain of a record of so many bytes stands from a page on. Its pages are marked. `Damaged` tells that there is none that can
+/// Whether a chain of a record of so many bytes stands from a page on. Its pages are marked. `Damaged` means that there is none that can
 /// be marked.
 fn check_chain<D: Device>(
     pages: &mut PageMap,
@@ -99,7 +99,7 @@ fn check_chain<D: Device>(
     Ok(())
 }
 
-/// The page after a page of a chain, which is marked. `Damaged` tells that it is none of a chain, or may not be marked.
+/// The page after a page of a chain, which is marked. `Damaged` means that it is none of a chain, or may not be marked.
 fn mark_link<D: Device>(
     pages: &mut PageMap,
     device: &mut D,

@@ -21,8 +21,8 @@ use station::Device;
 use std::alloc::Global;
 use volume_format::{LISTING_BYTES, listing_part, next_arrival, prime_root, tree_layout};
 
-/// The file of an entry of the catalog, with its rows. The pages of its trees and of their chains are marked. `Damaged` tells that there
-/// is no file with trees that can be marked of which the entry tells.
+/// The file of an entry of the catalog, with its rows. The pages of its trees and of their chains are marked. `Damaged` means that the
+/// entry describes no file with trees that can be marked.
 pub(crate) fn check_file<D: Device>(
     alloc: Global,
     entry: &Entry,

@@ -23,7 +23,7 @@ use station::Device;
 use std::alloc::Global;
 
 /// The rows of a file, from its tree of rows, whose entries are exactly theirs. The pages of the chains of their records are marked.
-/// `Damaged` tells that they are those of no rows of such a file whose chains can be marked. The rows are kept in memory.
+/// `Damaged` means that they are those of no rows of such a file whose chains can be marked. The rows are kept in memory.
 pub(crate) fn read_rows<D: Device>(
     alloc: Global,
     file: &FileSpec,
@@ -66,7 +66,7 @@ pub(crate) fn read_rows<D: Device>(
     Err(StoreFault::Memory)
 }
 
-/// The row of an entry. The pages of the chain of its record are marked. `Damaged` tells that no row of the file has that entry, with a
+/// The row of an entry. The pages of the chain of its record are marked. `Damaged` means that no row of the file has that entry, with a
 /// chain that can be marked.
 fn read_row<D: Device>(
     alloc: Global,

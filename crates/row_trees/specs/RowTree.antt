@@ -24,7 +24,7 @@ abbrev pub FitsForm : ℕ → RowLayout → Type 0
 FitsForm zero layout = ⊤
 FitsForm (suc more) layout = (4 ≤ layout.value_length) × (layout.value_length ≤ 64)
 
--- the key and the whole value of an entry have the lengths that the tree tells
+-- the key and the whole value of an entry have the lengths that the tree has
 abbrev pub HasWholeLengths : ChainedTree → Entry → Type 0
 HasWholeLengths rows entry =
     (length entry.key ≡ rows.tree.layout.key_length) × (length entry.value ≡ value_length rows)

@@ -17,7 +17,7 @@ use pages::{PageMap, PagesError};
 use station::Device;
 
 impl RowTree {
-    /// Gives up all pages of the tree and of its chains, beside which other trees stay. Refusals are those of `remove`.
+    /// Gives up all pages of the tree and of its chains. Other trees of the map are unchanged. Refusals are those of `remove`.
     pub fn clear<D: Device>(
         &mut self,
         pages: &mut PageMap,

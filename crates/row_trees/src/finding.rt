@@ -17,7 +17,7 @@ use station::Device;
 use std::alloc::Global;
 
 impl RowTree {
-    /// The row of a key, if it is there. Whatever the pages hold, its key and value have their lengths. `Damaged` tells that the pages
+    /// The row of a key, if it is there. Whatever the pages hold, its key and value have their lengths. `Damaged` means that the pages
     /// under the root are no tree, or that the row has no record.
     pub fn find<D: Device>(
         &self,

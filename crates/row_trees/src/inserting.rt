@@ -1,4 +1,4 @@
-//! A new row comes to a tree.
+//! A new row is added to a tree.
 ghost use Rattle.std.specs.Prelude.{◌≡◌, ◌≤◌, ◌+◌, true, false, Ok, Err, None, IsSome, length, IfErr, OnErr};
 ghost use Rattle.pages.specs.Pages.{sectors_of, IsOpen, IsUnchanged};
 ghost use Rattle.btree.specs.Calls.{pages_on};
@@ -16,8 +16,8 @@ use pages::{PageMap, PagesError, few_free};
 use station::Device;
 
 impl RowTree {
-    /// Puts a new row into the tree, beside which others stay. `false` tells that its key is there, and then nothing was changed. After
-    /// a refusal the pages that aren't committed are given up with the map of pages, and the tree has the root that it had.
+    /// Puts a new row into the tree. Other trees of the map are unchanged. `false` means that its key is there, and then nothing was
+    /// changed. After a refusal the pages that aren't committed are given up with the map of pages, and the tree has the root that it had.
     pub fn insert<D: Device>(
         &mut self,
         pages: &mut PageMap,
@@ -56,7 +56,7 @@ impl RowTree {
         if self.record_bytes == 0 {
             return self.tree.insert(pages, device, key, value);
         }
-        // What `Full` tells of the free sectors.
+        // What `Full` says about the free sectors.
         few_free();
         let held = self.tree.get(pages, device, key)?;
         if held.is_some() {

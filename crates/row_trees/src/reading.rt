@@ -15,7 +15,7 @@ use station::Device;
 use std::alloc::Global;
 
 impl RowTree {
-    /// Fills a buffer of the length of a record with the record of an entry. After a refusal the buffer is as it was. `Damaged` tells
+    /// Fills a buffer of the length of a record with the record of an entry. After a refusal the buffer is as it was. `Damaged` means
     /// that the entry has no such record.
     pub fn read_record<D: Device>(
         &self,
@@ -55,7 +55,7 @@ impl RowTree {
     }
 }
 
-/// Fills a buffer with the beginning of a value. `Damaged` tells that the value is shorter.
+/// Fills a buffer with the beginning of a value. `Damaged` means that the value is shorter.
 fn copy_front(value: &[u8], into: &mut [u8]) -> Result<(), PagesError>
     ensures copied { OnOk result ((length into.old ≤ length value.now)
         × (into.new ≡ take (length into.old) value.now)) }

@@ -16,7 +16,7 @@ use pages::{PageMap, PagesError};
 use station::Device;
 
 impl RowTree {
-    /// Takes the row of a key out of the tree, and the pages of its chain out of the map. `false` tells that there is no such row, and
+    /// Takes the row of a key out of the tree, and the pages of its chain out of the map. `false` means that there is no such row, and
     /// then nothing was changed. Refusals are those of `insert`, but `Full` doesn't come.
     pub fn remove<D: Device>(
         &mut self,

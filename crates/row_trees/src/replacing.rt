@@ -16,7 +16,7 @@ use pages::{PageMap, PagesError};
 use station::Device;
 
 impl RowTree {
-    /// Gives the row of a key another record, and what follows it. `false` tells that there is no such row, and then nothing was
+    /// Gives the row of a key another record, and what follows it. `false` means that there is no such row, and then nothing was
     /// changed. A record in a chain stays on its pages. Its entry is written only if what follows the record is another. Refusals are
     /// those of `insert`, but `Full` doesn't come.
     pub fn replace<D: Device>(
