@@ -2,6 +2,8 @@
 use Rattle.std.proofs.Common.{◌≡◌, ℕ, Bool, true, false, ◌&&◌, List, Option, Some, None, refl, sym, ◌∙◌, ap, subst}
 use Rattle.std.proofs.Common.{if◌then◌else◌}
 use Rattle.std.specs.Prelude.{unwrap_or, not, Result, Ok, Err, OnOk}
+use Rattle.std.specs.Result.{IsErrAnd}
+use Rattle.std.proofs.lemmas.Result.{err_from_is_err_and}
 use Rattle.station.specs.declared.device.Device.{Ghosts as Devices}
 use Rattle.records.specs.declared.fault.StoreFault.{StoreFault}
 use Rattle.records.specs.declared.keeps.Keeps.{Ghosts as Stores}
@@ -217,3 +219,23 @@ pub passed : {S : Type 0} (s : Stores S) {D : Type 0} (d : Devices D) {T U : Typ
 passed s d {T} {U} fault is_new name before after old device new device' result told was is turns =
     subst (λ (r : Result U StoreFault). ChangesFiles s d r is_new name before after old device new device') (sym is)
     (passed_on s d {T = T} {U = U} fault is_new name before after old device new device' result was turns)
+
+-- a refusal that is passed on, and an answer in place of another, where the files after are named otherwise
+module _ {S : Type 0} {s : Stores S} {D : Type 0} {d : Devices D} {T U : Type 0} {is_new : Bool} {name : List ℕ}
+    {before named after : Files} {old : S} {device : D} {new : S} {device' : D} {result : Result T StoreFault} where
+  pub refused_turns : {fault : StoreFault} {told : Result U StoreFault} → result ≡ Err fault
+      → IsErrAnd told (λ e. e ≡ fault) → named ≡ after
+      → ChangesFiles s d result is_new name before named old device new device'
+      → ChangesFiles s d told is_new name before after old device new device'
+  refused_turns {fault} {told} was is same turns =
+      let p = err_from_is_err_and told is in
+      passed s d fault is_new name before after old device new device' result told was
+      (p.1 ∙ ap (λ (e : StoreFault). let r : Result U StoreFault = Err e in r) p.2)
+      (subst (λ (f : Files). ChangesFiles s d result is_new name before f old device new device') same turns)
+
+  pub answered_turns : {x : T} (y : U) → result ≡ Ok x → named ≡ after
+      → ChangesFiles s d result is_new name before named old device new device'
+      → ChangesFiles s d {T = U} (Ok y) is_new name before after old device new device'
+  answered_turns {x} y was same turns =
+      gave s d x y is_new name before after old device new device' result was
+      (subst (λ (f : Files). ChangesFiles s d result is_new name before f old device new device') same turns)

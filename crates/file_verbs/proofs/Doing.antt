@@ -1,5 +1,6 @@
 -- From what each verb's function says to what a verb does.
-use Rattle.std.proofs.Common.{◌≡◌, ⊎_elim, ℕ, Bool, true, false, List, Option, Some, None, refl, sym, ◌∙◌, ap, subst, inl, inr}
+use Rattle.std.proofs.Common.{◌≡◌, ⊎_elim, ℕ, Bool, true, false, List, Option, Some, None, refl, sym, ◌∙◌, ap, subst}
+use Rattle.std.proofs.Common.{inl, inr}
 use Rattle.std.specs.Prelude.{◌≢◌, ◌⊎◌, ◌&&◌, not, Result, Ok, Err, IfOk, OnOk, OnErr, is_some, unwrap_or}
 use Rattle.std.specs.Prelude.{if◌then◌else◌}
 use Rattle.std.specs.Option.{option_map}
@@ -175,7 +176,8 @@ module _ {S : Type 0} (s : Stores S) {D : Type 0} (d : Devices D) (verb : Verb) 
         ChangesFiles s d result (makes_file verb) (name_of old) files f store device store' device') (stays files)
         (reads_turns s d result store device store' device' reads held (makes_file verb) (name_of old) files stands
         (sound files stands (linked opened)));
-    full = λ files stands linked is. ⊎_elim (λ full. absurd (reads.has_room full)) (λ old. absurd (reads.makes_none old)) is;
+    full = λ files stands linked is.
+        ⊎_elim (λ full. absurd (reads.has_room full)) (λ old. absurd (reads.makes_none old)) is;
     never_full = λ none. (reads.has_room, reads.makes_none);
     mark = λ is. absurd (reads.makes_none is);
     idle = λ honest. if_any (λ status. has_changed verb status ≡ false → d.state device' ≡ d.state device) result
@@ -205,28 +207,30 @@ module _ {S : Type 0} (s : Stores S) {D : Type 0} (d : Devices D) (verb : Verb) 
       → has_changed verb (step_of verb files old area).status ≡ true)
       → can_change_files verb ≡ true → result ≢ Err Old
       → Does s d verb result store device store' device' old new area left
-  changes_do changes select opened step turns mode absent idle same area_same rests stays full can_change makes_none = record {
-    changes = changes;
-    select = select;
-    step = λ files stands linked. step files stands (linked opened);
-    linked = λ files stands linked.
-        on_ok result (λ _. subst (λ (t : Select). IsLinked (step_of verb files old area).files t new.link) (sym select)
-        (same_absent (step_of verb files old area).files old.select old.link new.link absent mode
-        (stays files (linked opened))));
-    turns = λ files stands linked. turns files stands (linked opened);
-    full = λ files stands linked is.
-        ⊎_elim (full files stands (linked opened)) (λ old. absurd (makes_none old)) is;
-    never_full = λ none. let clash : true ≡ false = sym can_change ∙ none in (λ is. absurd cc, makes_none);
-    mark = λ is. absurd (makes_none is);
-    idle = idle;
-    same = err_both result same area_same (λ link area_is. record {
-      connector_is = ap (λ (t : Select). connector_of (spec_of t.file) new.link) select
-          ∙ ap (connector_of (spec_of old.select.file)) link;
-      absent_is = ap (λ (k : Link). k.is_absent) link;
-      area_is = area_is;
-    });
-    rests = rests;
-  }
+  changes_do changes select opened step turns mode absent idle same area_same rests stays full can_change makes_none =
+      record {
+        changes = changes;
+        select = select;
+        step = λ files stands linked. step files stands (linked opened);
+        linked = λ files stands linked.
+            on_ok result
+            (λ _. subst (λ (t : Select). IsLinked (step_of verb files old area).files t new.link) (sym select)
+            (same_absent (step_of verb files old area).files old.select old.link new.link absent mode
+            (stays files (linked opened))));
+        turns = λ files stands linked. turns files stands (linked opened);
+        full = λ files stands linked is.
+            ⊎_elim (full files stands (linked opened)) (λ old. absurd (makes_none old)) is;
+        never_full = λ none. let clash : true ≡ false = sym can_change ∙ none in (λ is. absurd cc, makes_none);
+        mark = λ is. absurd (makes_none is);
+        idle = idle;
+        same = err_both result same area_same (λ link area_is. record {
+          connector_is = ap (λ (t : Select). connector_of (spec_of t.file) new.link) select
+              ∙ ap (connector_of (spec_of old.select.file)) link;
+          absent_is = ap (λ (k : Link). k.is_absent) link;
+          area_is = area_is;
+        });
+        rests = rests;
+      }
 
   -- OPEN
   pub opening_does : Changes s d result store device store' device' → new.select ≡ old.select → is_open old ≡ false

@@ -1,13 +1,14 @@
 -- OPEN, from what the store tells of a file to the files after it.
-use Rattle.std.proofs.Common.{◌≡◌, Bool, true, false, cond, Option, Some, None, refl, sym, ◌∙◌, ap, subst}
+use Rattle.std.proofs.Common.{◌≡◌, Bool, true, false, cond, ℕ, List, Option, Some, None, refl, sym, ◌∙◌, ap, subst}
 use Rattle.records.specs.declared.answer.Presence.TheVariants.{Absent, Different, Present}
 use Rattle.records.specs.declared.select.Select.{Select}
 use Rattle.std.specs.Prelude.{Result, Ok}
+use Rattle.station.specs.Disk.{Disk, Sector, IsCrashImage}
 use Rattle.station.specs.declared.device.Device.{Ghosts as Devices}
 use Rattle.records.specs.declared.fault.StoreFault.{StoreFault}
 use Rattle.records.specs.declared.keeps.Keeps.{Ghosts as Stores}
-use Rattle.records.specs.Calls.{OnlyReadsFiles}
-use Rattle.records.proofs.Calls.{carries}
+use Rattle.records.specs.Calls.{Represents, OnlyReadsFiles, ChangesFiles}
+use Rattle.records.proofs.Calls.{carries, reads_turns}
 use Rattle.records.specs.declared.status.Status.{Status}
 use Rattle.records.specs.declared.status.Status.TheVariants.{Success, SuccessAbsent, FileMissing, FileDiffers}
 use Rattle.records.specs.declared.verb.OpenMode.{OpenMode}
@@ -63,6 +64,20 @@ looked s d {T} {U} result told old device new device' reads =
       old = λ is. absurd cc;
     })
     reads
+
+-- so it leaves the files
+pub still_opened : {S : Type 0} {s : Stores S} {D : Type 0} {d : Devices D} {T U : Type 0}
+    {result : Result T StoreFault} {store : S} {device : D} {store' : S} {device' : D}
+    → OnlyReadsFiles s d result store device store' device'
+    → ((disk : Disk) (image : List Sector) (files : Files) → s.stands store disk files → IsCrashImage disk image
+    → s.holds image files)
+    → (told : U) (is_new : Bool) (name : List ℕ) {files after : Files} → Represents s d store device files
+    → after ≡ files → ChangesFiles s d {T = U} (Ok told) is_new name files after store device store' device'
+still_opened {S} {s} {D} {d} {T} {U} {result} {store} {device} {store'} {device'} reads held told is_new name {files}
+    stands same =
+    subst (λ (f : Files). ChangesFiles s d {T = U} (Ok told) is_new name files f store device store' device') (sym same)
+    (reads_turns s d (Ok told) store device store' device'
+    (looked s d result told store device store' device' reads) held is_new name files stands (λ is. absurd cc))
 
 module _ (s : Select) (files : Files) (c : Connector) (a : Area) where
   abbrev pub after : OpenMode → Files
@@ -125,6 +140,12 @@ module _ (s : Select) (files : Files) (c : Connector) (a : Area) where
   by_there Output other = absurd (other refl)
   by_there InputOutput other = refl
   by_there Extend other = refl
+
+  pub begins : (mode : OpenMode) → (mode ≡ Output → ⊥) → Present ≡ presence (file_at s.file.name.items files)
+      (spec_of s.file) → step (entry_of s) files c a (Open mode) ≡ begun mode Success
+  begins mode other is =
+      let p = present_is (file_at s.file.name.items files) (spec_of s.file) is in
+      by_there mode other ∙ ap (there_by mode) p.1 ∙ ap (same_by mode) p.2
 
   pub differs : (mode : OpenMode) → (mode ≡ Output → ⊥) → Different ≡ presence (file_at s.file.name.items files)
       (spec_of s.file) → step (entry_of s) files c a (Open mode) ≡ end FileDiffers

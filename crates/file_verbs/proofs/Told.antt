@@ -4,6 +4,8 @@ use Rattle.std.proofs.Common.{refl, sym, ◌∙◌, ap, subst, arith, nat_le}
 use Rattle.std.specs.Prelude.{Option, Some, None, unwrap_or}
 use Rattle.std.specs.Option.{option_map}
 use Rattle.std.proofs.lemmas.Bool.{eqb-true}
+use Rattle.std.proofs.lemmas.List.{length-drop, length-take-le}
+use Rattle.records.proofs.Places.{place_within}
 use Rattle.records.specs.declared.file_spec.AlternateKey.{AlternateKey}
 use Rattle.records.specs.declared.file_spec.Organization.{Organization}
 use Rattle.records.specs.declared.file_spec.Organization.TheVariants.{Sequential, Relative, Indexed}
@@ -195,3 +197,64 @@ module _ (spec : Spec) (key : KeyOfReference) (rows : List Row) (relation : Rela
     told_some b same is put = some_by (sought_row spec key (the_bound spec relation place) rows) (subst
         (λ (b : RowBound). Some told ≡ option_map (found_row spec key rows) (sought_row spec key b rows)) same is)
         (subst (λ (b : RowBound). bytes ≡ record_of before (sought_row spec key b rows)) same put)
+
+-- The row that a store was asked for: of the key and the count of its bytes, from this side, value and number on.
+pub record IsSought (s : Spec) (key : KeyOfReference) (relation : Relation) (count : ℕ) (bytes : List ℕ) (number : ℕ)
+    (side : Side) (value : List ℕ) (from : ℕ) : Type 0 where
+  pub bound : bound_at side value from ≡ the_bound s relation (area_pair s s.organization key count (area bytes number))
+  pub place : area_pair s s.organization key count (area bytes number) ≡ record { value = value; number = from }
+
+pub is_sought : (s : Spec) (key : KeyOfReference) (relation : Relation) (count : ℕ) (bytes : List ℕ) (number : ℕ)
+    {side : Side} {value : List ℕ} {from : ℕ} → is_spec s ≡ true → IsKey s key → count ≤ key_length s key
+    → side ≡ side_of s.organization relation → value ≡ take count (drop (place_of s key).offset bytes)
+    → from ≡ number_of s.organization number → IsSought s key relation count bytes number side value from
+is_sought s key relation count bytes number {side} {value} {from} h is le side_same value_same number_same = record {
+  bound = bound_is s key relation count bytes number side value from h is le side_same value_same number_same;
+  place = named_is s key count bytes number h is le
+      ∙ ap (λ (v : List ℕ). let p : Pair = record { value = v; number = number_of s.organization number } in p)
+      (sym value_same)
+      ∙ ap (λ (n : ℕ). let p : Pair = record { value = value; number = n } in p) (sym number_same);
+}
+
+-- what is told of it where there is none, and where a test says whether it fits
+module _ {s : Spec} {key : KeyOfReference} {relation : Relation} {count : ℕ} {bytes : List ℕ} {number : ℕ}
+    {side : Side} {value : List ℕ} {from : ℕ} (sought : IsSought s key relation count bytes number side value from)
+    (rows : List Row) where
+  pub none_sought : (put : List ℕ)
+      → None ≡ option_map (found_row s key rows) (sought_row s key (bound_at side value from) rows)
+      → IsFoundRow s key rows put
+      (fitting_row s relation key (area_pair s s.organization key count (area bytes number)) rows) None
+  none_sought put none = told_none s key rows relation (area_pair s s.organization key count (area bytes number)) put
+      (bound_at side value from) sought.bound none
+
+  pub one_sought : (before put : List ℕ) (told : Found) (fits : Bool) {row_value : List ℕ}
+      → fits ≡ if_fits s.organization relation (record { value = value; number = from })
+      (record { value = row_value; number = told.number })
+      → row_value ≡ part (place_of s key) put
+      → Some told ≡ option_map (found_row s key rows) (sought_row s key (bound_at side value from) rows)
+      → put ≡ record_of before (sought_row s key (bound_at side value from) rows)
+      → IsFoundRow s key rows put
+      (fitting_row s relation key (area_pair s s.organization key count (area bytes number)) rows)
+      (cond fits (Some told) None)
+  one_sought before put told fits {row_value} tested row_is found row_put =
+      let pair = area_pair s s.organization key count (area bytes number) in
+      told_some s key rows relation pair before put told fits
+      (tested
+      ∙ ap (λ (p : Pair). if_fits s.organization relation p (record { value = row_value; number = told.number }))
+      (sym sought.place)
+      ∙ ap (λ (v : List ℕ). if_fits s.organization relation pair (record { value = v; number = told.number })) row_is)
+      (bound_at side value from) sought.bound found row_put
+
+-- no more bytes of a key are named than a row has of it
+pub no_longer : (s : Spec) (key : KeyOfReference) (count : ℕ) (bytes put : List ℕ) {value row_value : List ℕ}
+    → is_spec s ≡ true
+    → IsKey s key → count ≤ key_length s key → length bytes ≡ s.record_length → length put ≡ s.record_length
+    → value ≡ take count (drop (place_of s key).offset bytes) → row_value ≡ part (place_of s key) put
+    → length value ≤ length row_value
+no_longer s key count bytes put h is le size put_size named part_is =
+    let within = place_within s key h is in
+    let own = ap length named ∙ length-take-le count (drop (place_of s key).offset bytes)
+    (omega (arith, le, size, within, length-drop (place_of s key).offset bytes)) in
+    let row = ap length part_is ∙ length-take-le (place_of s key).length (drop (place_of s key).offset put)
+    (omega (arith, put_size, within, length-drop (place_of s key).offset put)) in
+    omega (arith, own, row, le)

@@ -4,19 +4,40 @@ use Rattle.station.specs.declared.device.Device.{Ghosts as Devices}
 use Rattle.records.specs.declared.fault.StoreFault.{StoreFault}
 use Rattle.records.specs.declared.fault.StoreFault.TheVariants.{Full, Old}
 use Rattle.records.specs.declared.keeps.Keeps.{Ghosts as Stores}
+use Rattle.records.specs.declared.select.Select.{Select}
 use Rattle.records.specs.declared.status.Status.{Status}
 use Rattle.records.specs.declared.verb.Verb.{Verb}
 use Rattle.records.specs.Files.{Files}
 use Rattle.records.specs.Calls.{Represents, Changes, ChangesFiles, Rests}
-use Rattle.records.specs.Connector.{Area}
+use Rattle.records.specs.Connector.{Area, entry_of}
+use Rattle.records.specs.Stores.{spec_of}
 use Rattle.records.specs.Steps.{Step, step}
 use Rattle.records.specs.FileStep.{makes_file, has_changed, can_change_files}
-use Rattle.file_verbs.specs.Links.{Ends}
+use Rattle.file_verbs.specs.declared.link.Link.{Link}
+use Rattle.file_verbs.specs.Links.{IsLinked, Ends, connector_of}
 use Rattle.file_verbs.specs.Connections.{entry, connector, name_of, OpenLinked}
 use Rattle.file_verbs.specs.declared.linked.Linked.{Linked}
 
 abbrev pub step_of : Verb → Files → Linked → Area → Step
 step_of verb files one area = step (entry one) files (connector one) area verb
+
+-- the step of a verb on a file with its connector
+abbrev pub link_step : Verb → Files → Select → Link → Area → Step
+link_step verb files select link area = step (entry_of select) files (connector_of (spec_of select.file) link) area verb
+
+-- of a verb on a connector to a file that is there, or absent
+module _ {S : Type 0} (s : Stores S) {D : Type 0} (d : Devices D) (verb : Verb) (result : Result Status StoreFault) (store : S) (device : D) where
+  -- its status, and the connector and the area that it leaves, are those of the step
+  abbrev pub MakesStep : Select → Link → Link → Area → Area → Type 0
+  MakesStep select old new area left = (files : Files) → Represents s d store device files → IsLinked files select old → IfOk result (λ status. Ends (link_step verb files select old area) status (connector_of (spec_of select.file) new) left)
+
+  -- it turns the files into those of the step
+  abbrev pub TurnsByStep : S → D → Select → Link → Area → Type 0
+  TurnsByStep store' device' select old area = (files : Files) → Represents s d store device files → IsLinked files select old → ChangesFiles s d result (makes_file verb) select.file.name.items files (link_step verb files select old area).files store device store' device'
+
+  -- it is refused for want of room only where the step changes files
+  abbrev pub IsFullByStep : Select → Link → Area → Type 0
+  IsFullByStep select old area = (files : Files) → Represents s d store device files → IsLinked files select old → result ≡ Err Full → has_changed verb (link_step verb files select old area).status ≡ true
 
 -- no one sees a difference
 pub record IsSame (old new : Linked) (area left : Area) : Type 0 where

@@ -1,17 +1,17 @@
 //! READ and START.
-ghost use Rattle.std.specs.Prelude.{◌≡◌, ◌≢◌, ◌≤◌, ◌&&◌, Err, Some, None, true, false, is_some, length, if◌then◌else◌, IfOk, OnErr};
+ghost use Rattle.std.specs.Prelude.{◌≡◌, ◌≢◌, ◌≤◌, ◌&&◌, Err, Some, None, true, false, is_some, length, if◌then◌else◌, OnErr};
 ghost use Rattle.records.specs.Rows.{place_of};
 ghost use Rattle.records.specs.Files.{Files};
 ghost use Rattle.records.specs.Calls.{Represents, OnlyReadsFiles};
 ghost use Rattle.records.specs.Stores.{spec_of, IsKey, key_length};
-ghost use Rattle.records.specs.Connector.{entry_of};
-ghost use Rattle.records.specs.Steps.{is_relative, is_too_long, step};
+ghost use Rattle.records.specs.Steps.{is_relative, is_too_long};
 ghost use Rattle.records.specs.FileStep.{area};
-ghost use Rattle.file_verbs.specs.Links.{IsLink, IsLinked, Ends, SameLink, connector_of};
+ghost use Rattle.file_verbs.specs.Links.{IsLink, IsLinked, SameLink};
+ghost use Rattle.file_verbs.specs.Does.{MakesStep};
 
 use crate::keys::key_bytes;
 use crate::link::Link;
-use crate::seeking::seek_fitting;
+use crate::seeking::{KeyComparison, seek_fitting};
 use records::{
     Found, KeyOfReference, Organization, Relation, Select, Side, Status, Store, StoreFault, Verb,
 };
@@ -148,11 +148,8 @@ pub(crate) fn read_next<T: Store, D: Device>(
     requires bytes { length bytes.old ≡ select.now.file.record_length }
     ensures reads { OnlyReadsFiles T.Keeps D.Device result store.old device.old store.new
         device.new }
-    ensures step { (files : Files) → Represents T.Keeps D.Device store.old device.old files
-        → IsLinked files select.now link.old →
-        IfOk result (λ status. Ends (step (entry_of select.now) files (connector_of
-        (spec_of select.now.file) link.old) (area bytes.old number.old) Verb.ReadNext) status
-        (connector_of (spec_of select.now.file) link.new) (area bytes.new number.new)) }
+    ensures step { MakesStep T.Keeps D.Device Verb.ReadNext result store.old device.old select.now
+        link.old link.new (area bytes.old number.old) (area bytes.new number.new) }
     ensures link { IsLink select.now link.new }
     ensures mode { link.new.mode ≡ link.old.mode }
     ensures absent { link.new.is_absent ≡ link.old.is_absent }
@@ -203,11 +200,8 @@ pub(crate) fn read_by_key<T: Store, D: Device>(
     requires bytes { length bytes.old ≡ select.now.file.record_length }
     ensures reads { OnlyReadsFiles T.Keeps D.Device result store.old device.old store.new
         device.new }
-    ensures step { (files : Files) → Represents T.Keeps D.Device store.old device.old files
-        → IsLinked files select.now link.old →
-        IfOk result (λ status. Ends (step (entry_of select.now) files (connector_of
-        (spec_of select.now.file) link.old) (area bytes.old number.old) (Verb.Read key)) status
-        (connector_of (spec_of select.now.file) link.new) (area bytes.new number.new)) }
+    ensures step { MakesStep T.Keeps D.Device (Verb.Read key) result store.old device.old select.now
+        link.old link.new (area bytes.old number.old) (area bytes.new number.new) }
     ensures link { IsLink select.now link.new }
     ensures mode { link.new.mode ≡ link.old.mode }
     ensures absent { link.new.is_absent ≡ link.old.is_absent }
@@ -220,15 +214,17 @@ pub(crate) fn read_by_key<T: Store, D: Device>(
         lose_position(link, key);
         return Ok(Status::NotFound);
     }
-    let count = select.file.key_place(key).length;
+    let comparison = KeyComparison {
+        relation: Relation::Equal,
+        key,
+        count: select.file.key_place(key).length,
+    };
     let Some(found) = seek_fitting(
         store,
         device,
         &select.file,
         &mut link.sought,
-        Relation::Equal,
-        key,
-        count,
+        comparison,
         bytes,
         *number,
     )?
@@ -239,30 +235,26 @@ pub(crate) fn read_by_key<T: Store, D: Device>(
     Ok(take_row(select, link, key, found, bytes, number))
 }
 
-/// START: the position is at the first row that fits so many bytes of the key in the record area, or the number.
+/// START: the position is at the first row that compares so with the record area, or with the number.
 pub(crate) fn start<T: Store, D: Device>(
     store: &mut T,
     device: &mut D,
     select: &Select,
     link: &mut Link,
-    relation: Relation,
-    key: KeyOfReference,
-    count: u8,
+    comparison: KeyComparison,
     bytes: &[u8],
     number: u64,
 ) -> Result<Status, StoreFault>
     requires device { T.needs store.old ≤ D.sectors device.old }
     requires link { IsLink select.now link.old }
-    requires key { IsKey (spec_of select.now.file) key }
-    requires count { count ≤ key_length (spec_of select.now.file) key }
+    requires key { IsKey (spec_of select.now.file) comparison.key }
+    requires count { comparison.count ≤ key_length (spec_of select.now.file) comparison.key }
     requires bytes { length bytes.now ≡ select.now.file.record_length }
     ensures reads { OnlyReadsFiles T.Keeps D.Device result store.old device.old store.new
         device.new }
-    ensures step { (files : Files) → Represents T.Keeps D.Device store.old device.old files
-        → IsLinked files select.now link.old →
-        IfOk result (λ status. Ends (step (entry_of select.now) files (connector_of (spec_of
-        select.now.file) link.old) (area bytes.now number) (Verb.Start relation key count))
-        status (connector_of (spec_of select.now.file) link.new) (area bytes.now number)) }
+    ensures step { MakesStep T.Keeps D.Device (Verb.Start
+        comparison.relation comparison.key comparison.count) result store.old
+        device.old select.now link.old link.new (area bytes.now number) (area bytes.now number) }
     ensures link { IsLink select.now link.new }
     ensures mode { link.new.mode ≡ link.old.mode }
     ensures absent { link.new.is_absent ≡ link.old.is_absent }
@@ -270,6 +262,7 @@ pub(crate) fn start<T: Store, D: Device>(
     ensures damaged { (files : Files) → Represents T.Keeps D.Device store.old device.old files
         → IsLinked files select.now link.old → result ≢ Err StoreFault.Damaged }
 {
+    let key = comparison.key;
     if link.is_absent {
         lose_position(link, key);
         return Ok(Status::NotFound);
@@ -279,9 +272,7 @@ pub(crate) fn start<T: Store, D: Device>(
         device,
         &select.file,
         &mut link.sought,
-        relation,
-        key,
-        count as u16,
+        comparison,
         bytes,
         number,
     )?

@@ -1,14 +1,13 @@
 //! REWRITE and DELETE.
-ghost use Rattle.std.specs.Prelude.{◌≡◌, ◌≢◌, ◌≤◌, true, false, Err, length, IfOk, OnOk, OnErr, if◌then◌else◌};
+ghost use Rattle.std.specs.Prelude.{◌≡◌, ◌≢◌, ◌≤◌, false, Err, length, IfOk, OnOk, OnErr, if◌then◌else◌};
 ghost use Rattle.records.specs.Rows.{part, place_of};
-ghost use Rattle.records.specs.Files.{Files};
-ghost use Rattle.records.specs.Calls.{Represents, Changes, ChangesFiles, Rests};
+ghost use Rattle.records.specs.Calls.{Changes, Rests};
 ghost use Rattle.records.specs.Stores.{spec_of};
-ghost use Rattle.records.specs.Tests.{is_sequential, may_change};
-ghost use Rattle.records.specs.Connector.{entry_of};
-ghost use Rattle.records.specs.Steps.{is_other, step};
+ghost use Rattle.records.specs.Tests.{is_sequential};
+ghost use Rattle.records.specs.Steps.{is_other};
 ghost use Rattle.records.specs.FileStep.{area, has_changed};
-ghost use Rattle.file_verbs.specs.Links.{IsLink, IsLinked, Ends, connector_of};
+ghost use Rattle.file_verbs.specs.Links.{IsLink, MayChangeRow};
+ghost use Rattle.file_verbs.specs.Does.{MakesStep, TurnsByStep, IsFullByStep};
 
 use crate::keys::key_value;
 use crate::link::Link;
@@ -28,30 +27,20 @@ pub(crate) fn rewrite_row<T: Store, D: Device>(
 ) -> Result<Status, StoreFault>
     requires device { T.needs store.old ≤ D.sectors device.old }
     requires link { IsLink select.now link.old }
-    requires may { may_change link.old.mode ≡ true }
-    requires read { is_sequential select.now.access ≡ true → link.old.was_read ≡ true }
+    requires may { MayChangeRow select.now link.old }
     requires bytes { length bytes.now ≡ select.now.file.record_length }
+    ensures step { MakesStep T.Keeps D.Device Verb.Rewrite result store.old device.old select.now
+        link.old link.new (area bytes.now number) (area bytes.now number) }
+    ensures turns { TurnsByStep T.Keeps D.Device Verb.Rewrite result store.old device.old store.new
+        device.new select.now link.old (area bytes.now number) }
     ensures changes { Changes T.Keeps D.Device result store.old device.old store.new device.new }
-    ensures step { (files : Files) → Represents T.Keeps D.Device store.old device.old files
-        → IsLinked files select.now link.old →
-        IfOk result (λ status. Ends (step (entry_of select.now) files
-        (connector_of (spec_of select.now.file) link.old) (area bytes.now number) Verb.Rewrite)
-        status (connector_of (spec_of select.now.file) link.new) (area bytes.now number)) }
-    ensures turns { (files : Files) → Represents T.Keeps D.Device store.old device.old files
-        → IsLinked files select.now link.old →
-        ChangesFiles T.Keeps D.Device result false select.now.file.name.items files
-        (step (entry_of select.now) files (connector_of (spec_of select.now.file) link.old)
-        (area bytes.now number) Verb.Rewrite).files store.old device.old store.new device.new }
     ensures link { IsLink select.now link.new }
     ensures mode { link.new.mode ≡ link.old.mode }
     ensures absent { link.new.is_absent ≡ link.old.is_absent }
     // The position and the key of reference stay.
     ensures stays { OnOk result (link.new ≡ record link.old { was_read = false }) }
-    ensures full { (files : Files) → Represents T.Keeps D.Device store.old device.old files
-        → IsLinked files select.now link.old → result ≡ Err StoreFault.Full →
-        has_changed Verb.Rewrite
-        (step (entry_of select.now) files (connector_of (spec_of select.now.file) link.old)
-        (area bytes.now number) Verb.Rewrite).status ≡ true }
+    ensures full { IsFullByStep T.Keeps D.Device Verb.Rewrite result store.old device.old
+        select.now link.old (area bytes.now number) }
     ensures makes_none { result ≢ Err StoreFault.Old }
     ensures idle { D.is_honest device.old → IfOk result (λ status.
         has_changed Verb.Rewrite status ≡ false → D.state device.new ≡ D.state device.old) }
@@ -80,29 +69,20 @@ pub(crate) fn delete_row<T: Store, D: Device>(
 ) -> Result<Status, StoreFault>
     requires device { T.needs store.old ≤ D.sectors device.old }
     requires link { IsLink select.now link.old }
-    requires may { may_change link.old.mode ≡ true }
-    requires read { is_sequential select.now.access ≡ true → link.old.was_read ≡ true }
+    requires may { MayChangeRow select.now link.old }
     requires bytes { length bytes.now ≡ select.now.file.record_length }
+    ensures step { MakesStep T.Keeps D.Device Verb.Delete result store.old device.old select.now
+        link.old link.new (area bytes.now number) (area bytes.now number) }
+    ensures turns { TurnsByStep T.Keeps D.Device Verb.Delete result store.old device.old store.new
+        device.new select.now link.old (area bytes.now number) }
     ensures changes { Changes T.Keeps D.Device result store.old device.old store.new device.new }
-    ensures step { (files : Files) → Represents T.Keeps D.Device store.old device.old files
-        → IsLinked files select.now link.old →
-        IfOk result (λ status. Ends (step (entry_of select.now) files
-        (connector_of (spec_of select.now.file) link.old) (area bytes.now number) Verb.Delete)
-        status (connector_of (spec_of select.now.file) link.new) (area bytes.now number)) }
-    ensures turns { (files : Files) → Represents T.Keeps D.Device store.old device.old files
-        → IsLinked files select.now link.old →
-        ChangesFiles T.Keeps D.Device result false select.now.file.name.items files
-        (step (entry_of select.now) files (connector_of (spec_of select.now.file) link.old)
-        (area bytes.now number) Verb.Delete).files store.old device.old store.new device.new }
     ensures link { IsLink select.now link.new }
     ensures mode { link.new.mode ≡ link.old.mode }
     ensures absent { link.new.is_absent ≡ link.old.is_absent }
     // The position and the key of reference stay.
     ensures stays { OnOk result (link.new ≡ record link.old { was_read = false }) }
-    ensures full { (files : Files) → Represents T.Keeps D.Device store.old device.old files
-        → IsLinked files select.now link.old → result ≡ Err StoreFault.Full →
-        has_changed Verb.Delete (step (entry_of select.now) files (connector_of
-        (spec_of select.now.file) link.old) (area bytes.now number) Verb.Delete).status ≡ true }
+    ensures full { IsFullByStep T.Keeps D.Device Verb.Delete result store.old device.old
+        select.now link.old (area bytes.now number) }
     ensures makes_none { result ≢ Err StoreFault.Old }
     ensures idle { D.is_honest device.old → IfOk result (λ status.
         has_changed Verb.Delete status ≡ false → D.state device.new ≡ D.state device.old) }

@@ -13,44 +13,52 @@ use records::{FileSpec, Found, KeyOfReference, Organization, Relation, Side, Sto
 use station::Device;
 use std::cmp::Ordering;
 
-/// Seeks the first row that fits `count` bytes of a key in the record area, or the number.
+/// How the key of a row has to compare with so many bytes of the key in the record area.
+#[derive(Clone, Copy)]
+pub struct KeyComparison {
+    pub relation: Relation,
+    pub key: KeyOfReference,
+    pub count: u16,
+}
+
+/// Seeks the first row that compares so with the record area, or with the number.
 pub(crate) fn seek_fitting<T: Store, D: Device>(
     store: &mut T,
     device: &mut D,
     file: &FileSpec,
     sought: &mut [u8],
-    relation: Relation,
-    key: KeyOfReference,
-    count: u16,
+    comparison: KeyComparison,
     bytes: &[u8],
     number: u64,
 ) -> Result<Option<Found>, StoreFault>
     requires device { T.needs store.old ≤ D.sectors device.old }
-    requires key { IsKey (spec_of file.now) key }
-    requires count { count ≤ key_length (spec_of file.now) key }
+    requires key { IsKey (spec_of file.now) comparison.key }
+    requires count { comparison.count ≤ key_length (spec_of file.now) comparison.key }
     requires sought { length sought.old ≡ file.now.record_length }
     requires bytes { length bytes.now ≡ file.now.record_length }
     ensures reads { OnlyReadsFiles T.Keeps D.Device result store.old device.old store.new
         device.new }
     ensures found { (files : Files) (held : File)
         → Represents T.Keeps D.Device store.old device.old files → Has files file.now held →
-        IfOk result (λ answer. IsFoundRow (spec_of file.now) key held.rows
-        sought.new (fitting_row (spec_of file.now) relation key (area_pair (spec_of file.now)
-        file.now.organization key count (area bytes.now number)) held.rows) answer) }
+        IfOk result (λ answer. IsFoundRow (spec_of file.now) comparison.key held.rows sought.new
+        (fitting_row (spec_of file.now) comparison.relation comparison.key (area_pair (spec_of
+        file.now) file.now.organization comparison.key comparison.count (area bytes.now number))
+        held.rows) answer) }
     ensures damaged { (files : Files) (held : File)
         → Represents T.Keeps D.Device store.old device.old files → Has files file.now held
         → result ≢ Err StoreFault.Damaged }
 {
-    let value = key_bytes(file, key, count, bytes);
+    let key = comparison.key;
+    let value = key_bytes(file, key, comparison.count, bytes);
     let from = number_named(file.organization, number);
-    let side = side_for(file.organization, relation);
+    let side = side_for(file.organization, comparison.relation);
     let Some(found) = store.seek(device, file, key, side, value, from, sought)? else {
         return Ok(None);
     };
     let row_value = key_value(file, key, sought);
     if is_fitting(
         file.organization,
-        relation,
+        comparison.relation,
         value,
         from,
         row_value,

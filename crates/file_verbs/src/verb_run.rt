@@ -9,6 +9,7 @@ use crate::linked::Linked;
 use crate::open_statement::{close_link, open_file};
 use crate::read_statement::{read_by_key, read_next, start};
 use crate::rewrite_statement::{delete_row, rewrite_row};
+use crate::seeking::KeyComparison;
 use crate::write_statement::write_row;
 use records::{Status, Store, StoreFault, Verb};
 use station::Device;
@@ -62,8 +63,13 @@ pub(crate) fn perform_on<T: Store, D: Device>(
         Verb::Write => write_row(store, device, select, link, bytes, number),
         Verb::Rewrite => rewrite_row(store, device, select, link, bytes, *number),
         Verb::Delete => delete_row(store, device, select, link, bytes, *number),
-        Verb::Start(relation, key, count) => start(
-            store, device, select, link, relation, key, count, bytes, *number,
-        ),
+        Verb::Start(relation, key, count) => {
+            let comparison = KeyComparison {
+                relation,
+                key,
+                count: count as u16,
+            };
+            start(store, device, select, link, comparison, bytes, *number)
+        }
     }
 }

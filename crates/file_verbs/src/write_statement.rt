@@ -1,14 +1,13 @@
 //! WRITE.
 ghost use Rattle.std.specs.Prelude.{◌≡◌, ◌≢◌, ◌≤◌, true, false, Err, length, if◌then◌else◌, IfOk, OnErr};
 ghost use Rattle.records.specs.Rows.{Pair};
-ghost use Rattle.records.specs.Files.{Files};
-ghost use Rattle.records.specs.Calls.{Represents, Changes, ChangesFiles, Rests};
+ghost use Rattle.records.specs.Calls.{Changes, Rests};
 ghost use Rattle.records.specs.Stores.{spec_of, is_change};
 ghost use Rattle.records.specs.Tests.{is_sequential, may_write};
-ghost use Rattle.records.specs.Connector.{entry_of};
-ghost use Rattle.records.specs.Steps.{next_number, is_past, is_out, status_after, step};
+ghost use Rattle.records.specs.Steps.{next_number, is_past, is_out, status_after};
 ghost use Rattle.records.specs.FileStep.{area, has_changed};
-ghost use Rattle.file_verbs.specs.Links.{IsLink, IsLinked, Ends, connector_of};
+ghost use Rattle.file_verbs.specs.Links.{IsLink, connector_of};
+ghost use Rattle.file_verbs.specs.Does.{MakesStep, TurnsByStep, IsFullByStep};
 
 use crate::keys::key_value;
 use crate::link::Link;
@@ -158,25 +157,15 @@ pub(crate) fn write_row<T: Store, D: Device>(
     requires may { may_write select.now.access link.old.mode ≡ true }
     requires bytes { length bytes.now ≡ select.now.file.record_length }
     ensures changes { Changes T.Keeps D.Device result store.old device.old store.new device.new }
-    ensures step { (files : Files) → Represents T.Keeps D.Device store.old device.old files
-        → IsLinked files select.now link.old →
-        IfOk result (λ status. Ends (step (entry_of select.now) files (connector_of
-        (spec_of select.now.file) link.old) (area bytes.now number.old) Verb.Write) status
-        (connector_of (spec_of select.now.file) link.new) (area bytes.now number.new)) }
-    ensures turns { (files : Files) → Represents T.Keeps D.Device store.old device.old files
-        → IsLinked files select.now link.old →
-        ChangesFiles T.Keeps D.Device result false select.now.file.name.items files
-        (step (entry_of select.now) files (connector_of (spec_of select.now.file) link.old)
-        (area bytes.now number.old) Verb.Write).files store.old device.old store.new
-        device.new }
+    ensures step { MakesStep T.Keeps D.Device Verb.Write result store.old device.old select.now
+        link.old link.new (area bytes.now number.old) (area bytes.now number.new) }
+    ensures turns { TurnsByStep T.Keeps D.Device Verb.Write result store.old device.old store.new
+        device.new select.now link.old (area bytes.now number.old) }
     ensures link { IsLink select.now link.new }
     ensures mode { link.new.mode ≡ link.old.mode }
     ensures absent { link.new.is_absent ≡ link.old.is_absent }
-    ensures full { (files : Files) → Represents T.Keeps D.Device store.old device.old files
-        → IsLinked files select.now link.old → result ≡ Err StoreFault.Full →
-        has_changed Verb.Write
-        (step (entry_of select.now) files (connector_of (spec_of select.now.file) link.old)
-        (area bytes.now number.old) Verb.Write).status ≡ true }
+    ensures full { IsFullByStep T.Keeps D.Device Verb.Write result store.old device.old select.now
+        link.old (area bytes.now number.old) }
     ensures makes_none { result ≢ Err StoreFault.Old }
     ensures idle { D.is_honest device.old → IfOk result (λ status.
         has_changed Verb.Write status ≡ false → D.state device.new ≡ D.state device.old) }

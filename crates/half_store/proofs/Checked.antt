@@ -1,5 +1,6 @@
 -- What is so of each of some items, and that they ascend, found from the last one on.
-use Rattle.std.proofs.Common.{◌≡◌, ⊎_elim, ◌<◌, ◌≤◌, ◌+◌, ℕ, zero, suc, List, [], ◌∷◌, length, map, drop, get_or, refl}
+use Rattle.std.proofs.Common.{◌≡◌, ⊎_elim, ◌<◌, ◌≤◌, ◌+◌, ◌-◌, ℕ, zero, suc, List, [], ◌∷◌, length, map, drop, get_or}
+use Rattle.std.proofs.Common.{refl}
 use Rattle.std.proofs.Common.{sym, ◌∙◌, ap, subst, arith}
 use Rattle.std.specs.List.{AllByRecursion}
 use Rattle.std.specs.List.Sorted.{IsStrictlySortedBy}
@@ -82,3 +83,32 @@ pub map_twice : {A B C : Type 0} (f : A → B) (g : B → C) (items : List A)
     → map g (map f items) ≡ map (λ x. g (f x)) items
 map_twice f g [] = refl
 map_twice f g (one ∷ items) = ap (λ l. g (f one) ∷ l) (map_twice f g items)
+
+-- one more item from the last one on: those from a place on become those from the place before
+module _ {A B : Type 0} (f : A → B) (items : List A) (back : ℕ) (lt : back < length items) (one : A)
+    (here : get_or items (length items - 1 - back) one ≡ one) where
+  place_before : length items - 1 - back ≡ length items - (back + 1)
+  place_before = omega (arith, lt)
+
+  place_of_last : length items - back ≡ length items - 1 - back + 1
+  place_of_last = omega (arith, lt)
+
+  pub all_more : (P : B → Type 0) → P (f one) → AllByRecursion P (map f (drop (length items - back) items))
+      → AllByRecursion P (map f (drop (length items - (back + 1)) items))
+  all_more P good all = subst (λ (n : ℕ). AllByRecursion P (map f (drop n items))) place_before
+      (all_behind f P items (length items - 1 - back) one (omega (arith, lt))
+      (subst (λ (x : A). P (f x)) (sym here) good)
+      (subst (λ (n : ℕ). AllByRecursion P (map f (drop n items))) place_of_last all))
+
+  pub sorted_more : {K : Type 0} (c : K → K → Ordering) (total : IsTotalOrder c) (g : B → K)
+      → (length items - 1 - back + 1 < length items
+      → c (g (f (get_or items (length items - 1 - back) one))) (g (f (get_or items (length items - 1 - back + 1) one)))
+      ≡ Less)
+      → IsStrictlySortedBy c (map g (map f (drop (length items - back) items)))
+      → IsStrictlySortedBy c (map g (map f (drop (length items - (back + 1)) items)))
+  sorted_more c total g less sorted =
+      subst (λ (n : ℕ). IsStrictlySortedBy c (map g (map f (drop n items)))) place_before
+      (subst (IsStrictlySortedBy c) (sym (map_twice f g (drop (length items - 1 - back) items)))
+      (sorted_behind c total (λ x. g (f x)) items (length items - 1 - back) one (omega (arith, lt)) less
+      (subst (IsStrictlySortedBy c) (map_twice f g (drop (length items - 1 - back + 1) items))
+      (subst (λ (n : ℕ). IsStrictlySortedBy c (map g (map f (drop n items)))) place_of_last sorted))))

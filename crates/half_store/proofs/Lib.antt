@@ -17,3 +17,4 @@ mod Opened
 mod PrimeOrder
 mod OneList
 mod Rooms
+mod Committed

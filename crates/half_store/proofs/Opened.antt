@@ -18,7 +18,8 @@ use Rattle.records.specs.declared.fault.StoreFault.TheVariants.{Device, Full, Da
 use Rattle.records.specs.Files.{Files}
 use Rattle.half_store.specs.Spelled.{files_bytes}
 use Rattle.file_bytes.specs.Stored.{files_of}
-use Rattle.half_store.specs.Half.{known_families, named_length, named_bytes, IsHalfRoot, IsForeign, AreHalfFiles, HoldsAt}
+use Rattle.half_store.specs.Half.{known_families, named_length, named_bytes, IsHalfRoot, IsForeign, AreHalfFiles}
+use Rattle.half_store.specs.Half.{HoldsAt}
 use Rattle.half_store.specs.Half.{Holds, Rests}
 use Rattle.half_store.specs.Opened.{HoldsNone, IsOpenRefusal, FailsWith, of_roots, IsReadCause}
 use Rattle.half_store.specs.Stands.{Represents}

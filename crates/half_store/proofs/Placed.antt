@@ -1,6 +1,7 @@
 -- A file among files in memory.
 use Rattle.std.proofs.Common.{◌≡◌, ◌≤◌, ◌<◌, ◌+◌, Bool, true, false, cond, ⊎_elim, ℕ, zero, suc, List, [], ◌∷◌, ◌++◌}
-use Rattle.std.proofs.Common.{length, take, drop, set, get_or, append_assoc, length-append, refl, sym, ◌∙◌, ap, subst}
+use Rattle.std.proofs.Common.{length, map, take, drop, set, get_or, append_assoc, length-append, refl, sym, ◌∙◌, ap}
+use Rattle.std.proofs.Common.{subst}
 use Rattle.std.proofs.Common.{arith}
 use Rattle.std.specs.Prelude.{Option, Some, None, Result, Ok, Err, OnOk, IfOk}
 use Rattle.std.specs.Ordering.{is_lt, is_eq}
@@ -25,7 +26,7 @@ use Rattle.records.proofs.Maps.{bytes_same}
 use Rattle.records.proofs.Changed.{there_is_file}
 use Rattle.half_store.specs.Seeking.{AreRecords}
 use Rattle.file_bytes.specs.declared.stored.StoredFile.{StoredFile}
-use Rattle.file_bytes.specs.Stored.{file_of, named_of, files_of}
+use Rattle.file_bytes.specs.Stored.{row_of, file_of, named_of, files_of}
 use Rattle.half_store.specs.Half.{AreEarly}
 use Rattle.half_store.specs.Changing.{Becomes, BecomesIn}
 
@@ -193,6 +194,12 @@ abbrev pub PassedNames : List ℕ → List StoredFile → ℕ → Type 0
 PassedNames name files k = (file : File)
     → with_file name file (files_of files) ≡ files_of (take k files) ++ with_file name file (files_of (drop k files))
 
+pub passed_there : {files seen : List StoredFile} {name told : List ℕ} (k : ℕ) → seen ≡ files → told ≡ name
+    → PassedNames told seen k → PassedNames name files k
+passed_there {files} {seen} {name} {told} k same called passed =
+    subst (λ (l : List StoredFile). PassedNames name l k) same
+    (subst (λ (n : List ℕ). PassedNames n seen k) called passed)
+
 abbrev stepped : Bool → Bool → List ℕ → File → NamedFile → Files → Files
 stepped same less name file one more = cond same (record { name = name; file = file } ∷ more)
     (cond less (one ∷ with_file name file more) (record { name = name; file = file } ∷ one ∷ more))
@@ -279,3 +286,35 @@ records_held name files held are there =
 pub rows_ascend : (name : List ℕ) (files : Files) (held : File) → AreFiles files → file_at name files ≡ Some held
     → RowsAscend held.spec.organization held.rows
 rows_ascend name files held are there = (there_is_file name held files are there).ascend
+
+-- A file of this name was found at a place, in what was seen of the files.
+pub record IsFoundAt (files : List StoredFile) (spec : FileSpec) (place : ℕ) (old : StoredFile) : Type 0 where
+  pub lt : place < length files
+  pub here : get_or files place old ≡ old
+  pub found : IsFound files spec.name.items place old
+
+pub is_found_at : (files : List StoredFile) (spec : FileSpec) (place : ℕ) (old : StoredFile) {seen : List StoredFile}
+    {name : List ℕ} → seen ≡ files → name ≡ spec.name.items → place < length seen
+    → (place < length files → old ≡ get_or files place old) → IsFound seen name place old
+    → IsFoundAt files spec place old
+is_found_at files spec place old {seen} {name} same called lt read found =
+    let lt' = subst (λ (l : List StoredFile). place < length l) same lt in
+    record {
+      lt = lt';
+      here = sym (read lt');
+      found = found_there files seen spec.name.items name place old same called found;
+    }
+
+-- what a change of that file, whose rows ascend, is among the files
+pub row_becomes_in : {files : List StoredFile} {spec : FileSpec} {place : ℕ} {old new : StoredFile} {held : File}
+    {result : Result Outcome StoreFault} (change : File → FileChange) → IsFoundAt files spec place old
+    → Has (files_of files) spec held → AreFiles (files_of files)
+    → (RowsAscend old.spec.organization (map row_of old.rows.items) → old.spec.organization ≡ spec.organization
+    → Becomes result (change (file_of old)) old new)
+    → BecomesIn result spec.name.items (change held) held files (set files place new)
+row_becomes_in {files} {spec} {place} {old} {new} {held} {result} change at has are becomes =
+    let is : held ≡ file_of old = held_is files spec place old held at.here at.found has in
+    becomes_in files spec place old new held result change at.lt at.here at.found has are
+    (becomes (subst (λ (f : File). RowsAscend f.spec.organization f.rows) is
+    (there_is_file spec.name.items held (files_of files) are has.there).ascend)
+    (ap (λ (f : File). f.spec.organization) (sym is) ∙ ap (λ (s : Spec). s.organization) has.spec))

@@ -1,7 +1,9 @@
 -- Another record for a row among rows in memory, and a row that is taken out.
 use Rattle.std.proofs.Common.{◌≡◌, ◌≤◌, ◌<◌, ◌+◌, Bool, true, false, not, ◌&&◌, ◌||◌, cond, ℕ, zero, suc, List, [], ◌∷◌}
 use Rattle.std.proofs.Common.{◌++◌, length, drop, map, set, get_or, append_assoc, refl, sym, ◌∙◌, ap, subst, arith}
-use Rattle.std.specs.Prelude.{Option, Some, None, filter}
+use Rattle.std.specs.Prelude.{Option, Some, None, Ok, Vec, filter}
+use Rattle.std.specs.Vec.{with_item}
+use Rattle.std.specs.declared.alloc.Global.{Global}
 use Rattle.std.specs.List.{AllByRecursion, list_any, remove}
 use Rattle.std.specs.Ordering.{is_eq, ordering_reverse}
 use Rattle.std.specs.declared.cmp.Ordering.TheVariants.{Less}
@@ -10,6 +12,7 @@ use Rattle.std.proofs.lemmas.List.{drop_more, drop_all, append-nil}
 use Rattle.std.proofs.lemmas.Map.Keys.{sorted_head, sorted_tail}
 use Rattle.records.specs.declared.file_spec.AlternateKey.{AlternateKey}
 use Rattle.records.specs.declared.file_spec.Organization.{Organization}
+use Rattle.records.specs.declared.answer.Outcome.{Outcome}
 use Rattle.records.specs.declared.answer.Outcome.TheVariants.{Done, Taken}
 use Rattle.records.specs.Files.{File}
 use Rattle.records.specs.Stores.{is_change}
@@ -20,8 +23,10 @@ use Rattle.records.specs.Changes.{replaced_row, removal, removed_row}
 use Rattle.records.specs.Laws.{RowsAscend}
 use Rattle.records.proofs.Ascending.{pair_total}
 use Rattle.records.proofs.Changed.{pair_same}
+use Rattle.file_bytes.specs.declared.stored.StoredFile.{StoredFile}
 use Rattle.file_bytes.specs.declared.stored.StoredRow.{StoredRow}
-use Rattle.file_bytes.specs.Stored.{row_of}
+use Rattle.file_bytes.specs.Stored.{row_of, file_of}
+use Rattle.half_store.specs.Changing.{Becomes}
 
 -- tests of what a filter leaves
 kept : {A : Type 0} (b : Bool) (p : A → Bool) (x : A) (xs : List A) (rest : Bool) → list_any p xs ≡ rest
@@ -224,3 +229,127 @@ removed_done file pair row found = ap (removed_row pair file) found
 pub done_changes : (b : Bool) → is_change (done_outcome b) ≡ true
 done_changes true = refl
 done_changes false = refl
+
+-- A row was found at a place, and what was seen of its file is what is there.
+pub record IsSeen (file : StoredFile) (pair : Pair) (place : ℕ) (old : StoredRow) : Type 0 where
+  pub lt : place < length file.rows.items
+  pub here : get_or file.rows.items place old ≡ old
+  pub found : row_at file.spec.organization pair (map row_of file.rows.items) ≡ Some (row_of old)
+  pub at : is_at file.spec.organization pair (row_of (get_or file.rows.items place old)) ≡ true
+
+pub is_seen : (file : StoredFile) (place : ℕ) (old : StoredRow) {seen : List StoredRow} {named pair : Pair}
+    → seen ≡ file.rows.items → named ≡ pair → place < length seen → old ≡ get_or seen place old
+    → (row_at file.spec.organization named (map row_of seen) ≡ Some (row_of (get_or seen place old)))
+    × (is_at file.spec.organization named (row_of (get_or seen place old)) ≡ true)
+    → IsSeen file pair place old
+is_seen file place old {seen} {named} {pair} same called lt read found =
+    let here = sym (subst (λ (l : List StoredRow). old ≡ get_or l place old) same read) in
+    let there = found_row file.spec.organization named pair file.rows.items seen place old same called here found in
+    record {
+      lt = subst (λ (l : List StoredRow). place < length l) same lt;
+      here = here;
+      found = there.0;
+      at = there.1;
+    }
+
+-- tests of the other rows, on a record, keys, a place and rows
+abbrev pub taken_by : Organization → List ℕ → List ℕ → List AlternateKey → Pair → List StoredRow → Bool
+taken_by o bytes old keys pair rows =
+    is_taken (filter (changes old bytes) keys) (without_pair o pair (map row_of rows)) bytes
+
+abbrev pub repeated_by : Organization → List ℕ → List ℕ → List AlternateKey → Pair → List StoredRow → Bool
+repeated_by o bytes old keys pair rows =
+    is_duplicate (filter (changes old bytes) keys) (without_pair o pair (map row_of rows)) bytes
+
+-- another record for the row, where the tests were made on what was seen
+module _ {file : StoredFile} (number : ℕ) (bytes : List ℕ) {place : ℕ} {old : StoredRow}
+    (is : IsSeen file (named_pair file.spec.organization number bytes) place old) {before : List ℕ}
+    {keys_seen : List AlternateKey} {named_seen : Pair} {rows_seen : List StoredRow} {taken : Bool}
+    (before_is : before ≡ old.bytes.items) (keys_are : keys_seen ≡ file.spec.alternates.items)
+    (named_is : named_seen ≡ named_pair file.spec.organization number bytes) (rows_are : rows_seen ≡ file.rows.items)
+    (tested : taken ≡ taken_by file.spec.organization bytes before keys_seen named_seen rows_seen) where
+  abbrev pair_there : Pair
+  pair_there = named_pair file.spec.organization number bytes
+
+  seen_as : (T : List ℕ → List AlternateKey → Pair → List StoredRow → Bool) → T before keys_seen named_seen rows_seen
+      ≡ T old.bytes.items file.spec.alternates.items pair_there file.rows.items
+  seen_as T = four T before old.bytes.items keys_seen file.spec.alternates.items named_seen pair_there rows_seen
+      file.rows.items before_is keys_are named_is rows_are
+
+  own_test : (b : Bool) → taken ≡ b
+      → taken_by file.spec.organization bytes old.bytes.items file.spec.alternates.items pair_there file.rows.items ≡ b
+  own_test b told = sym (tested ∙ seen_as (taken_by file.spec.organization bytes)) ∙ told
+
+  pub taken_becomes : taken ≡ true → Becomes (Ok Taken) (replacement number bytes (file_of file)) file file
+  taken_becomes told = subst (λ (changed : FileChange). Becomes (Ok Taken) changed file file)
+      (sym (replaced_taken (file_of file) number bytes (row_of old) is.found (own_test true told))) (record {
+        outcome = refl;
+        after = refl;
+        spec = refl;
+        idle = λ none. refl;
+        full = λ e. absurd cc;
+        changes = λ e. absurd cc;
+        sound = λ e. absurd cc;
+      })
+
+  pub row_becomes : {twice changed : Bool} {outcome : Outcome} {next_is : ℕ} (row : StoredRow)
+      → RowsAscend file.spec.organization (map row_of file.rows.items) → taken ≡ false
+      → twice ≡ repeated_by file.spec.organization bytes before keys_seen named_seen rows_seen
+      → outcome ≡ done_outcome twice → changed ≡ list_any (λ key. changes before bytes key) keys_seen
+      → next_is ≡ cond changed (file.next_arrival + 1) file.next_arrival
+      → row_of row ≡ record {
+        number = old.number;
+        bytes = bytes;
+        arrivals = arrivals_after old.bytes.items bytes file.next_arrival keys_seen old.arrivals.items;
+      }
+      → Becomes (Ok outcome) (replacement number bytes (file_of file)) file
+      (record file { rows = with_item file.rows place row; next_arrival = next_is })
+  row_becomes {twice} {changed} {outcome} {next_is} row ascend told twice_is outcome_is changed_is raised row_is =
+      let o = file.spec.organization in
+      let own = repeated_by o bytes old.bytes.items file.spec.alternates.items pair_there file.rows.items in
+      let done : outcome ≡ done_outcome own = outcome_is ∙ ap done_outcome (twice_is ∙ seen_as (repeated_by o bytes)) in
+      let next_told = raised ∙ ap (λ (b : Bool). cond b (file.next_arrival + 1) file.next_arrival) (changed_is
+      ∙ ap (λ (l : List ℕ). list_any (λ key. changes l bytes key) keys_seen) before_is
+      ∙ ap (λ (l : List AlternateKey). list_any (λ key. changes old.bytes.items bytes key) l) keys_are) in
+      let new_row : row_of row ≡ changed_row (file_of file) bytes (row_of old) =
+      row_is ∙ ap (λ (l : List AlternateKey). let r : Row = record {
+        number = old.number;
+        bytes = bytes;
+        arrivals = arrivals_after old.bytes.items bytes file.next_arrival l old.arrivals.items;
+      } in r) keys_are in
+      subst (λ (changed : FileChange). Becomes (Ok outcome) changed file
+      (record file { rows = with_item file.rows place row; next_arrival = next_is }))
+      (sym (replaced_done (file_of file) number bytes (row_of old) is.found (own_test false told))) (record {
+        outcome = done;
+        after = ap (λ (l : List Row). record (file_of file) { rows = l; next_arrival = next_is })
+            (in_place_at o pair_there file.rows.items place old row is.lt ascend is.at
+            ∙ ap (λ (r : Row). in_place o pair_there r (map row_of file.rows.items)) new_row)
+            ∙ ap (λ (n : ℕ). record (file_of file) {
+              rows = in_place o pair_there (changed_row (file_of file) bytes (row_of old)) (map row_of file.rows.items);
+              next_arrival = n;
+            }) next_told;
+        spec = refl;
+        idle = λ none. let yes : is_change outcome ≡ true = ap is_change done ∙ done_changes own in absurd {0} cc;
+        full = λ e. absurd cc;
+        changes = λ e. absurd cc;
+        sound = λ e. absurd cc;
+      })
+
+-- a row that is taken out
+pub removed_becomes : {file : StoredFile} {pair : Pair} {place : ℕ} {old : StoredRow} → IsSeen file pair place old
+    → RowsAscend file.spec.organization (map row_of file.rows.items) → (left : Vec StoredRow Global)
+    → left.items ≡ remove file.rows.items place
+    → Becomes (Ok Done) (removal pair (file_of file)) file (record file { rows = left })
+removed_becomes {file} {pair} {place} {old} is ascend left left_is =
+    subst (λ (changed : FileChange). Becomes (Ok Done) changed file (record file { rows = left }))
+    (sym (removed_done (file_of file) pair (row_of old) is.found)) (record {
+      outcome = refl;
+      after = ap (λ (l : List Row). record (file_of file) { rows = l })
+          (ap (map row_of) left_is
+          ∙ without_at file.spec.organization pair file.rows.items place old is.lt ascend is.at);
+      spec = refl;
+      idle = λ none. absurd cc;
+      full = λ e. absurd cc;
+      changes = λ e. absurd cc;
+      sound = λ e. absurd cc;
+    })

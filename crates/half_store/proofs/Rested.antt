@@ -1,10 +1,10 @@
 -- The files that are still to be read.
 use Rattle.std.proofs.Common.{◌≡◌, ◌≤◌, ◌<◌, ◌+◌, ◌*◌, ◌^◌, ℕ, List, [], ◌∷◌, ◌++◌, length, map, drop, append_assoc}
-use Rattle.std.proofs.Common.{refl, sym, ◌∙◌, ap, arith}
-use Rattle.std.specs.Prelude.{Option, Some, None, Ok}
+use Rattle.std.proofs.Common.{refl, sym, ◌∙◌, ap, subst, arith}
+use Rattle.std.specs.Prelude.{Option, Some, None, Ok, IfSome}
 use Rattle.std.specs.List.{AllByRecursion}
 use Rattle.std.proofs.Math.Nat.{mul-le-mul_left}
-use Rattle.std.proofs.lemmas.List.{drop-drop, length-drop, append-nil}
+use Rattle.std.proofs.lemmas.List.{drop-drop, length-drop, append-nil, map-append}
 use Rattle.byteorder.specs.Endian.{big_number}
 use Rattle.records.specs.declared.file_spec.FileSpec.{FileSpec}
 use Rattle.records.specs.Files.{Files, NamedFile, IsNamed}
@@ -13,7 +13,8 @@ use Rattle.records.specs.Spec.{Spec}
 use Rattle.records.specs.Stores.{spec_of}
 use Rattle.half_store.specs.Half.{AreEarly}
 use Rattle.file_bytes.specs.Read.{IfRead}
-use Rattle.half_store.specs.Read.{row_size, rows_in}
+use Rattle.file_bytes.proofs.Several.{one_more}
+use Rattle.half_store.specs.Read.{row_size, first_row, rows_in}
 use Rattle.half_store.specs.Readable.{IsReadable}
 use Rattle.half_store.specs.Spelled.{file_bytes, files_bytes}
 use Rattle.file_bytes.specs.Stored.{row_of}
@@ -36,6 +37,24 @@ from_none (Some x) so never read = never x refl
 pub is_none : {A : Type 0} (found : Option A) → ((x : A) → found ≡ Some x → ⊥) → found ≡ None
 is_none None never = refl
 is_none (Some x) never = absurd (never x refl)
+
+-- this was read
+pub read_some : {A : Type 0} (found : Option A) (x : A) (so : A → Type 0) → found ≡ Some x → IfRead (Ok found) so → so x
+read_some found x so is read = subst (λ o. IfRead (Ok o) so) is read
+
+pub if_some : {A : Type 0} (found : Option A) (x : A) (so : A → Type 0) → found ≡ Some x → IfSome found so → so x
+if_some found x so is told = subst (λ o. IfSome o so) is told
+
+-- one more row was read
+pub row_more : (spec : Spec) (bytes : List ℕ) (at k place : ℕ) (old new : List StoredRow) (row : StoredRow)
+    → place ≡ at + row_size spec * k → map row_of old ≡ rows_in spec k (drop at bytes)
+    → row_of row ≡ first_row spec (drop place bytes) → new ≡ old ++ row ∷ []
+    → map row_of new ≡ rows_in spec (k + 1) (drop at bytes)
+row_more spec bytes at k place old new row is so_far row_is added =
+    one_more (row_size spec) (first_row spec) k (drop at bytes) (map row_of old) (map row_of new) (row_of row) so_far
+    (row_is ∙ ap (λ (n : ℕ). first_row spec (drop n bytes)) is
+    ∙ ap (first_row spec) (sym (drop-drop (row_size spec * k) at bytes)))
+    (ap (map row_of) added ∙ map-append row_of old (row ∷ []))
 
 -- a file of the bytes from a place on
 module _ (bytes : List ℕ) (at : ℕ) (one : NamedFile) (more : List ℕ) (good : IsReadable one)

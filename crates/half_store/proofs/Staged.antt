@@ -139,3 +139,12 @@ half_less n = omega arith
 pub counted_enough : (bytes : ℕ) → 4096 * count bytes ≤ bytes + 4095
 unfolding count
 counted_enough bytes = omega arith
+
+-- one more sector was read
+pub sector_more : (image : List Sector) (from k : ℕ) (so_far part all : List ℕ) → all ≡ so_far ++ part
+    → so_far ≡ bytes_of_sectors image from k → part ≡ sector_at image (from + k)
+    → all ≡ bytes_of_sectors image from (k + 1)
+sector_more image from k so_far part all added before here =
+    added ∙ ap (λ (l : List ℕ). l ++ part) before
+    ∙ ap (λ (l : List ℕ). bytes_of_sectors image from k ++ l) here
+    ∙ ap (bytes_of_sectors image from) (let e : suc k ≡ k + 1 = omega arith in e)

@@ -1,7 +1,8 @@
 -- The files before and after a write of the half that isn't active.
 use Rattle.std.proofs.Common.{◌≡◌, ◌⊎◌, inl, inr, ⊎_elim, ◌<◌, ◌≤◌, ◌+◌, ◌*◌, ◌%◌, ℕ, zero, suc, List, [], length, map}
-use Rattle.std.proofs.Common.{take, drop, set, refl, sym, ◌∙◌, ap, subst, arith, get_or-set_other}
+use Rattle.std.proofs.Common.{take, drop, ◌++◌, set, refl, sym, ◌∙◌, ap, subst, arith, get_or-set_other}
 use Rattle.std.specs.Prelude.{Some, Ok, Contains, slice_index_or}
+use Rattle.std.proofs.Math.Seq.{take-append_seam}
 use Rattle.std.proofs.lemmas.List.{take-take}
 use Rattle.std.proofs.lemmas.List.Elements.{All-contains, All-map, All-push, All-nil}
 use Rattle.station.specs.Disk.{Disk, Sector, sector_at, idle_disk, IsCrashImage}
@@ -234,3 +235,18 @@ drafted_at n g bytes planned sector draft there least size =
     subst (SectorsAre (λ (s : ℕ). s < there)) (sym draft.blocks)
     (are_at [] (start n (g + 1)) draft.long there (count (length bytes))
     (omega (arith, size, few (length bytes) n draft.fits, within n (g + 1) (omega (arith, least)))))
+
+-- bytes with others behind them, as blocks of the half of the next generation, and the root that names them
+pub is_draft :
+    (n g : ℕ) {bytes long : List ℕ} (more : List ℕ) {size from k : ℕ} {planned : List Block} {sector : Sector}
+    → size ≡ length bytes → size ≤ 4096 * half n → long ≡ bytes ++ more → planned ≡ blocks_to from long k
+    → from ≡ start n (g + 1) → k ≡ count size → SpellsRoot n (g + 1) size sector → IsDraft n g bytes planned sector
+is_draft n g {bytes} {long} more {size} {from} {k} {planned} {sector} sized fits is blocks begins counted root =
+    record {
+      fits = omega (arith, sized, fits);
+      long = long;
+      whole = ap (take (length bytes)) is ∙ take-append_seam bytes more;
+      blocks = blocks ∙ ap (λ (f : ℕ). blocks_to f long k) begins
+          ∙ ap (blocks_to (start n (g + 1)) long) (counted ∙ ap count sized);
+      root = subst (λ (m : ℕ). SpellsRoot n (g + 1) m sector) sized root;
+    }

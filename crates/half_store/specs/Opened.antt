@@ -1,6 +1,10 @@
 -- What is told of a volume that is opened.
-use Rattle.std.specs.Prelude.{◌≡◌, ◌⊎◌, List, Result, Ok, Err}
+use Rattle.std.specs.Prelude.{◌≡◌, ◌⊎◌, List, Result, Ok, Err, IfErr, OnOk, OnErr}
 use Rattle.station.specs.Disk.{Sector}
+use Rattle.station.specs.State.{state_after_sync}
+use Rattle.station.specs.History.{Through}
+use Rattle.station.specs.Opening.{IsOpening}
+use Rattle.station.specs.declared.device.Device.{Ghosts as Devices}
 use Rattle.roots.specs.declared.error.RootsError.{RootsError}
 use Rattle.roots.specs.declared.error.RootsError.TheVariants as roots
 use Rattle.roots.specs.declared.pair.RootsFault.{RootsFault}
@@ -40,3 +44,31 @@ IsReadCause fault = (fault ≡ Device) ⊎ (fault ≡ Memory)
 abbrev pub FailsWith : {T : Type 0} → StoreFault → Result T StoreFault → Type 0
 FailsWith fault (Ok x) = ⊥
 FailsWith fault (Err e) = (e ≡ fault) ⊎ IsReadCause e
+
+-- What a call that opens the volume of a device does to it: until its sync has succeeded, a crash leaves what was
+-- possible before.
+module _ {D : Type 0} (d : Devices D) (old new : D) where
+  abbrev pub LeavesPossible : Type 0
+  LeavesPossible = d.is_honest old → Through (d.history old) (d.history new) (d.state new) (IsOpening (d.state old))
+
+module _ {D : Type 0} (d : Devices D) {T : Type 0} (result : Result T StoreFault) (old new : D) where
+  -- after `Ok` the disk is synced
+  abbrev pub IsSynced : Type 0
+  IsSynced = d.is_honest old → OnOk result (d.state new ≡ state_after_sync (d.state old))
+
+  -- after a refusal it is unchanged, or synced
+  abbrev pub WritesNothing : Type 0
+  WritesNothing = d.is_honest old → OnErr result ((d.state new ≡ d.state old) ⊎ (d.state new ≡ state_after_sync (d.state old)))
+
+module _ {D : Type 0} (d : Devices D) {T : Type 0} (result : Result T StoreFault) (old : D) where
+  -- each refusal tells what it means of the present image
+  abbrev pub RefusesForImage : Type 0
+  RefusesForImage = d.is_honest old → IfErr result (λ fault. IsOpenRefusal (d.state old).disk.present fault)
+
+  -- where the image holds files, only the device and memory refuse
+  abbrev pub OpensWhatHolds : Type 0
+  OpensWhatHolds = d.is_honest old → (files : Files) → Holds (d.state old).disk.present files → IfErr result IsReadCause
+
+  -- where its newest root has the other mark, `Layout` is returned, unless the device or memory failed
+  abbrev pub FailsIfForeign : Type 0
+  FailsIfForeign = d.is_honest old → IsForeign (d.state old).disk.present → FailsWith Layout result

@@ -91,9 +91,8 @@ fn is_done(outcome: Outcome) -> bool
     ensures { result ≡ is_change outcome }
 {
     match outcome {
-        Outcome::Missing => false,
-        Outcome::Taken => false,
         Outcome::Done => true,
         Outcome::Duplicate => true,
+        _ => false,
     }
 }

@@ -1,10 +1,7 @@
 //! A volume is opened.
-ghost use Rattle.std.specs.Prelude.{◌≡◌, ◌⊎◌, ◌≤◌, ◌<◌, ◌+◌, ◌*◌, ◌^◌, ◌==◌, true, false, ℕ, length, drop, Ok, Err, None, IfOk, IfErr, IsErr, IfSome, IsOkUnless, OnOk, OnErr};
+ghost use Rattle.std.specs.Prelude.{◌≡◌, ◌⊎◌, ◌≤◌, ◌<◌, ◌+◌, ◌*◌, ◌^◌, ◌==◌, true, false, length, drop, Ok, Err, None, IfOk, IfErr, IsErr, IfSome, IsOkUnless};
 ghost use Rattle.std.specs.List.{list_all};
 ghost use Rattle.station.specs.Disk.{sector_at};
-ghost use Rattle.station.specs.State.{state_after_sync};
-ghost use Rattle.station.specs.History.{Through};
-ghost use Rattle.station.specs.Opening.{IsOpening};
 ghost use Rattle.station.specs.Calls.{OnlyReads, OnlyWrites};
 ghost use Rattle.roots.specs.Pair.{EachRoot};
 ghost use Rattle.roots.specs.Root.{IsWithinVolume};
@@ -13,8 +10,8 @@ ghost use Rattle.records.specs.Files.{Files};
 ghost use Rattle.records.specs.Rows.{same_bytes};
 ghost use Rattle.half_store.specs.Spelled.{files_bytes};
 ghost use Rattle.file_bytes.specs.Stored.{files_of};
-ghost use Rattle.half_store.specs.Half.{known_families, half, bytes_of_sectors, named_length, named_bytes, IsHalfRoot, AreHalfFiles, HoldsAt, Holds, IsForeign};
-ghost use Rattle.half_store.specs.Opened.{HoldsNone, IsOpenRefusal, FailsWith, of_roots, IsReadCause};
+ghost use Rattle.half_store.specs.Half.{known_families, half, bytes_of_sectors, named_length, named_bytes, IsHalfRoot, AreHalfFiles, HoldsAt, Holds};
+ghost use Rattle.half_store.specs.Opened.{IsOpenRefusal, of_roots, IsReadCause, LeavesPossible, IsSynced, WritesNothing, RefusesForImage, OpensWhatHolds, FailsIfForeign};
 ghost use Rattle.half_store.specs.Stands.{Represents};
 
 use crate::checking::are_half_files;
@@ -33,21 +30,14 @@ use std::alloc::Global;
 /// The files that a volume holds. Nothing is written.
 pub fn recover<D: Device>(alloc: Global, device: &mut D) -> Result<Vec<StoredFile>, StoreFault>
     ensures only { OnlyWrites D.Device (result ≡ Err StoreFault.Device) device.old device.new }
-    ensures moments { D.is_honest device.old → Through (D.history device.old) (D.history device.new)
-        (D.state device.new) (IsOpening (D.state device.old)) }
-    ensures state { D.is_honest device.old
-        → OnOk result (D.state device.new ≡ state_after_sync (D.state device.old)) }
-    ensures unwritten { D.is_honest device.old
-        → OnErr result ((D.state device.new ≡ D.state device.old)
-        ⊎ (D.state device.new ≡ state_after_sync (D.state device.old))) }
+    ensures moments { LeavesPossible D.Device device.old device.new }
+    ensures state { IsSynced D.Device result device.old device.new }
+    ensures unwritten { WritesNothing D.Device result device.old device.new }
     ensures holds { D.is_honest device.old
         → IfOk result (λ files. Holds (D.state device.old).disk.present (files_of files.items)) }
-    ensures refused { D.is_honest device.old
-        → IfErr result (λ fault. IsOpenRefusal (D.state device.old).disk.present fault) }
-    ensures opens { D.is_honest device.old → (files : Files)
-        → Holds (D.state device.old).disk.present files → IfErr result IsReadCause }
-    ensures foreign { D.is_honest device.old → IsForeign (D.state device.old).disk.present
-        → FailsWith StoreFault.Layout result }
+    ensures refused { RefusesForImage D.Device result device.old }
+    ensures opens { OpensWhatHolds D.Device result device.old }
+    ensures foreign { FailsIfForeign D.Device result device.old }
 {
     match HalfStore::open(alloc, device) {
         Ok(store) => Ok(store.files),
@@ -211,10 +201,8 @@ fn own_roots<D: Device>(device: &mut D) -> Result<Roots, StoreFault>
     ensures roots { D.is_honest device.old → IfOk result
         (λ roots. roots_in known_families (D.state device.old).disk.present ≡ Ok roots) }
     ensures within { IfOk result (λ roots. EachRoot (IsWithinVolume (D.sectors device.old)) roots) }
-    ensures refused { D.is_honest device.old
-        → IfErr result (λ fault. IsOpenRefusal (D.state device.old).disk.present fault) }
-    ensures foreign { D.is_honest device.old → IsForeign (D.state device.old).disk.present
-        → FailsWith StoreFault.Layout result }
+    ensures refused { RefusesForImage D.Device result device.old }
+    ensures foreign { FailsIfForeign D.Device result device.old }
 {
     match read_roots(device, &[&[MARK], &FOREIGN_FAMILY]) {
         Ok(roots) => Ok(roots),
@@ -229,10 +217,8 @@ fn read_volume<D: Device>(alloc: Global, device: &mut D) -> Result<HalfStore, St
         store.generation (D.state device.old).disk.present (files_of store.files.items)) }
     ensures there { IfOk result
         (λ store. (store.sectors ≤ D.sectors device.old) × (store.spent ≡ false)) }
-    ensures refused { D.is_honest device.old
-        → IfErr result (λ fault. IsOpenRefusal (D.state device.old).disk.present fault) }
-    ensures foreign { D.is_honest device.old → IsForeign (D.state device.old).disk.present
-        → FailsWith StoreFault.Layout result }
+    ensures refused { RefusesForImage D.Device result device.old }
+    ensures foreign { FailsIfForeign D.Device result device.old }
 {
     let roots = own_roots(device)?;
     if !are_half_roots(&roots) {
@@ -260,13 +246,9 @@ impl HalfStore {
         ensures only { OnlyWrites D.Device (result ≡ Err StoreFault.Device) device.old device.new }
 
         // Until the first sync has succeeded, a crash leaves what was possible before.
-        ensures moments { D.is_honest device.old → Through (D.history device.old)
-            (D.history device.new) (D.state device.new) (IsOpening (D.state device.old)) }
-        ensures state { D.is_honest device.old
-            → OnOk result (D.state device.new ≡ state_after_sync (D.state device.old)) }
-        ensures unwritten { D.is_honest device.old
-            → OnErr result ((D.state device.new ≡ D.state device.old)
-            ⊎ (D.state device.new ≡ state_after_sync (D.state device.old))) }
+        ensures moments { LeavesPossible D.Device device.old device.new }
+        ensures state { IsSynced D.Device result device.old device.new }
+        ensures unwritten { WritesNothing D.Device result device.old device.new }
 
         // It stands for the files of the image, and isn't spent.
         ensures stands { D.is_honest device.old → IfOk result
@@ -275,14 +257,11 @@ impl HalfStore {
             (λ store. Holds (D.state device.old).disk.present (files_of store.files.items)) }
         ensures there { IfOk result
             (λ store. (store.sectors ≤ D.sectors device.old) × (store.spent ≡ false)) }
-        ensures refused { D.is_honest device.old
-            → IfErr result (λ fault. IsOpenRefusal (D.state device.old).disk.present fault) }
+        ensures refused { RefusesForImage D.Device result device.old }
 
         // Where it holds files, only the device and memory refuse. `Layout` comes exactly where its newest root has the other format's mark.
-        ensures opens { D.is_honest device.old → (files : Files)
-            → Holds (D.state device.old).disk.present files → IfErr result IsReadCause }
-        ensures foreign { D.is_honest device.old → IsForeign (D.state device.old).disk.present
-            → FailsWith StoreFault.Layout result }
+        ensures opens { OpensWhatHolds D.Device result device.old }
+        ensures foreign { FailsIfForeign D.Device result device.old }
     {
         device.sync()?;
         read_volume(alloc, device)

@@ -31,36 +31,22 @@ pub(crate) fn replace_row(
     let spec = &file.spec;
     let organization = spec.organization;
     let prime = prime_key(organization, bytes);
-    let place = match find_row(&file.rows, organization, number, prime) {
+    let rows = file.rows.as_slice();
+    let place = match find_row(rows, organization, number, prime) {
         None => return Ok(Outcome::Missing),
         Some(place) => place,
     };
     let keys = spec.alternates.as_slice();
-    let old = &file.rows[place];
-    if has_other_taken(
-        keys,
-        &file.rows,
-        organization,
-        number,
-        prime,
-        &old.bytes,
-        bytes,
-    ) {
+    let old = &rows[place];
+    let before = old.bytes.as_slice();
+    if has_other_taken(keys, rows, organization, number, prime, before, bytes) {
         return Ok(Outcome::Taken);
     }
     if file.next_arrival >= ARRIVALS - 1 {
         return Err(StoreFault::Full);
     }
-    let duplicate = has_other_duplicate(
-        keys,
-        &file.rows,
-        organization,
-        number,
-        prime,
-        &old.bytes,
-        bytes,
-    );
-    let changed = is_any_changed(keys, &old.bytes, bytes);
+    let duplicate = has_other_duplicate(keys, rows, organization, number, prime, before, bytes);
+    let changed = is_any_changed(keys, before, bytes);
     let row = row_after(alloc, old, bytes, file.next_arrival, keys)?;
     file.rows[place] = row;
     file.next_arrival = next_after(changed, file.next_arrival);

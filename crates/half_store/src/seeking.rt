@@ -161,7 +161,14 @@ fn comes_behind(spec: &FileSpec, key: KeyOfReference, row: &StoredRow, other: &S
     .is_gt()
 }
 
-/// The place of the first of the rows from a place on, where `best` is that of the rows after it.
+/// The rows after a place were gone through, and `best` is the place of the first of them in order.
+#[derive(Clone, Copy)]
+struct Passed {
+    place: usize,
+    best: Option<usize>,
+}
+
+/// The place of the first of the rows from the place on, in order.
 fn better(
     rows: &[StoredRow],
     spec: &FileSpec,
@@ -169,17 +176,19 @@ fn better(
     side: Side,
     value: &[u8],
     number: u64,
-    place: usize,
-    best: Option<usize>,
+    passed: Passed,
 ) -> Option<usize>
     requires key { IsKey (spec_of spec.now) key }
-    requires place { place < length rows.now }
-    requires best { IfSome best (λ i. i < length rows.now) }
+    requires place { passed.place < length rows.now }
+    requires best { IfSome passed.best (λ i. i < length rows.now) }
     ensures bound { IfSome result (λ i. i < length rows.now) }
     ensures best { IsBest
-        (spec_of spec.now) key (bound_at side value.now number) rows.now (place + 1) best
-        → IsBest (spec_of spec.now) key (bound_at side value.now number) rows.now place result }
+        (spec_of spec.now) key (bound_at side value.now number) rows.now (passed.place + 1)
+        passed.best → IsBest (spec_of spec.now) key (bound_at side value.now number) rows.now
+        passed.place result }
 {
+    let place = passed.place;
+    let best = passed.best;
     if !stands_behind(spec, key, &rows[place], side, value, number) {
         return best;
     }
@@ -212,7 +221,7 @@ fn seek_through(
     let mut best: Option<usize> = None;
     for back in 0..rows.len() {
         let place = rows.len() - 1 - back;
-        best = better(rows, spec, key, side, value, number, place, best);
+        best = better(rows, spec, key, side, value, number, Passed { place, best });
     }
     best
 }

@@ -1,6 +1,6 @@
-use Rattle.std.proofs.Common.{◌≡◌, ⊎_elim, true, false, refl, sym, ◌∙◌, ap, subst, inl, inr}
-use Rattle.std.specs.Prelude.{Ok, Some}
-use Rattle.records.specs.declared.status.Status.TheVariants.{SuccessAbsent, FileMissing, FileDiffers}
+use Rattle.std.proofs.Common.{◌≡◌, true, false, refl, sym, ◌∙◌, ap, subst, inr}
+use Rattle.std.specs.Prelude.{Some}
+use Rattle.records.specs.declared.status.Status.TheVariants.{Success, SuccessAbsent, FileMissing, FileDiffers}
 use Rattle.records.specs.declared.verb.OpenMode.{OpenMode}
 use Rattle.records.specs.declared.verb.Verb.TheVariants.{Open}
 use Rattle.records.specs.Steps.{Step}
@@ -9,10 +9,11 @@ use Rattle.records.specs.Files.{Files}
 use Rattle.records.specs.Stores.{spec_of}
 use Rattle.records.specs.Calls.{ChangesFiles}
 use Rattle.records.specs.FileStep.{area, can_change_files}
-use Rattle.records.proofs.Calls.{after_reads, reads_changes, reads_turns}
+use Rattle.records.proofs.Calls.{after_reads}
 use Rattle.file_verbs.specs.Links.{IsLinked, Gone, connector_of}
 use Rattle.file_verbs.proofs.Opened.{absent_is, output_makes, absent_makes, absent_extends, output_changes}
-use Rattle.file_verbs.proofs.Opened.{absent_changes, extend_changes, present_linked, looked, differs, misses}
+use Rattle.file_verbs.proofs.Opened.{absent_changes, extend_changes, present_linked, still_opened, begins, differs}
+use Rattle.file_verbs.proofs.Opened.{misses}
 use Rattle.file_verbs.proofs.Opened.{reads_absent}
 use Rattle.file_verbs.proofs.Taken.{ended}
 use Rattle.file_verbs.proofs.open_statement.open_file.Goals as goal
@@ -76,114 +77,67 @@ returns-in-Extend-clause-turns g c = λ files stands bytes number.
     c.open_new-in-Extend.new.device stands.honest
     (c.open_new-in-Extend.ensures.turns files (c.find.ensures.reads.still_there files stands)))
 
-pub returns-in-Different : goal.returns-in-Different
-returns-in-Different g c =
+pub returns-in-Different-clause-step : goal.returns-in-Different-clause-step
+returns-in-Different-clause-step g c = λ files stands bytes number.
     let s = c.args.select.now in
-    let l = c.args.link.now in
-    let reads = looked g.T.Keeps g.D.Device c.find.result FileDiffers c.args.store.now c.args.device.now c.find.new.self
-    c.find.new.device c.find.ensures.reads in
-    record {
-      changes = reads_changes g.T.Keeps g.D.Device (Ok FileDiffers) c.args.store.now c.args.device.now c.find.new.self
-          c.find.new.device reads;
-      step = λ files stands bytes number.
-          ended _ _ FileDiffers _ _ (differs s files (connector_of (spec_of s.file) l) (area bytes number) c.args.mode
-          c.in_default.not-Output (sym c.in-Different.is ∙ c.in_ok-there.ensures.presence files stands)) refl refl refl;
-      turns = λ files stands bytes number. subst (λ (after : Files). ChangesFiles g.T.Keeps g.D.Device (Ok FileDiffers)
-          true s.file.name.items files after c.args.store.now c.args.device.now c.find.new.self c.find.new.device)
-          (sym (ap (λ (t : Step). t.files)
-          (differs s files (connector_of (spec_of s.file) l) (area bytes number) c.args.mode c.in_default.not-Output
-          (sym c.in-Different.is ∙ c.in_ok-there.ensures.presence files stands))))
-          (reads_turns g.T.Keeps g.D.Device (Ok FileDiffers) c.args.store.now c.args.device.now c.find.new.self
-          c.find.new.device reads (g.met.T.Store.held c.args.store.now) true s.file.name.items files stands
-          (λ is. absurd cc));
-      linked = λ files stands bytes number. inl refl;
-      link = record {
-        key = c.requires.link.key;
-        value = c.requires.link.value;
-        row_length = c.requires.link.row_length;
-        sought_length = c.requires.link.sought_length;
-        written_length = c.requires.link.written_length;
-        last = c.requires.link.last;
-      };
-      full = λ files stands bytes number is. ⊎_elim (λ full. absurd cc) (λ old. absurd cc) is;
-      never_full = λ none. (λ is. absurd cc, λ is. absurd cc);
-      idle = λ honest no. reads.only.state honest;
-      same = tt;
-      rests = tt;
-    }
+    ended _ _ FileDiffers _ _
+    (differs s files (connector_of (spec_of s.file) c.args.link.now) (area bytes number) c.args.mode
+    c.in_default.not-Output (sym c.in-Different.is ∙ c.in_ok-there.ensures.presence files stands))
+    refl refl refl
 
-pub returns-else-select : goal.returns-else-select
-returns-else-select g c =
+pub returns-in-Different-clause-turns : goal.returns-in-Different-clause-turns
+returns-in-Different-clause-turns g c = λ files stands bytes number.
     let s = c.args.select.now in
-    let l = c.args.link.now in
-    let reads = looked g.T.Keeps g.D.Device c.find.result FileMissing c.args.store.now c.args.device.now c.find.new.self
-    c.find.new.device c.find.ensures.reads in
-    record {
-      changes = reads_changes g.T.Keeps g.D.Device (Ok FileMissing) c.args.store.now c.args.device.now c.find.new.self
-          c.find.new.device reads;
-      step = λ files stands bytes number. ended _ _ FileMissing _ _ (misses s files (connector_of (spec_of s.file) l)
-          (area bytes number) c.args.mode c.in_default.not-Output (absent_is _ (spec_of s.file)
-          (sym c.in-Absent.is ∙ c.in_ok-there.ensures.presence files stands)) c.if-select.false) refl refl refl;
-      turns = λ files stands bytes number. subst (λ (after : Files). ChangesFiles g.T.Keeps g.D.Device (Ok FileMissing)
-          true s.file.name.items files after c.args.store.now c.args.device.now c.find.new.self c.find.new.device)
-          (sym (ap (λ (t : Step). t.files) (misses s files (connector_of (spec_of s.file) l)
-          (area bytes number) c.args.mode c.in_default.not-Output (absent_is _ (spec_of s.file)
-          (sym c.in-Absent.is ∙ c.in_ok-there.ensures.presence files stands)) c.if-select.false)))
-          (reads_turns g.T.Keeps g.D.Device (Ok FileMissing) c.args.store.now c.args.device.now c.find.new.self
-          c.find.new.device reads (g.met.T.Store.held c.args.store.now) true s.file.name.items files stands
-          (λ is. absurd cc));
-      linked = λ files stands bytes number. inl refl;
-      link = record {
-        key = c.requires.link.key;
-        value = c.requires.link.value;
-        row_length = c.requires.link.row_length;
-        sought_length = c.requires.link.sought_length;
-        written_length = c.requires.link.written_length;
-        last = c.requires.link.last;
-      };
-      full = λ files stands bytes number is. ⊎_elim (λ full. absurd cc) (λ old. absurd cc) is;
-      never_full = λ none. (λ is. absurd cc, λ is. absurd cc);
-      idle = λ honest no. reads.only.state honest;
-      same = tt;
-      rests = tt;
-    }
+    still_opened c.find.ensures.reads (g.met.T.Store.held c.args.store.now) FileDiffers true s.file.name.items stands
+    (ap (λ (t : Step). t.files)
+    (differs s files (connector_of (spec_of s.file) c.args.link.now) (area bytes number) c.args.mode
+    c.in_default.not-Output (sym c.in-Different.is ∙ c.in_ok-there.ensures.presence files stands)))
 
-pub returns-in-Input : goal.returns-in-Input
-returns-in-Input g c =
+pub returns-else-select-clause-step : goal.returns-else-select-clause-step
+returns-else-select-clause-step g c = λ files stands bytes number.
     let s = c.args.select.now in
-    let l = c.args.link.now in
-    let reads = looked g.T.Keeps g.D.Device c.find.result SuccessAbsent c.args.store.now c.args.device.now
-    c.find.new.self c.find.new.device c.find.ensures.reads in
-    record {
-      changes = reads_changes g.T.Keeps g.D.Device (Ok SuccessAbsent) c.args.store.now c.args.device.now c.find.new.self
-          c.find.new.device reads;
-      step = λ files stands bytes number. ended _ _ SuccessAbsent
-          _ _ (reads_absent s files (connector_of (spec_of s.file) l) (area bytes number) c.args.mode c.in-Input.is
-          (absent_is _ (spec_of s.file) (sym c.in-Absent.is ∙ c.in_ok-there.ensures.presence files stands))
-          c.if-select.true) refl c.begin-in-Input.ensures.connector refl;
-      turns =
-          λ files stands bytes number. subst (λ (after : Files). ChangesFiles g.T.Keeps g.D.Device (Ok SuccessAbsent)
-          true s.file.name.items files after c.args.store.now c.args.device.now c.find.new.self c.find.new.device)
-          (sym (ap (λ (t : Step). t.files) (reads_absent s files (connector_of (spec_of s.file) l)
-          (area bytes number) c.args.mode c.in-Input.is (absent_is _ (spec_of s.file)
-          (sym c.in-Absent.is ∙ c.in_ok-there.ensures.presence files stands)) c.if-select.true)))
-          (reads_turns g.T.Keeps g.D.Device (Ok SuccessAbsent) c.args.store.now c.args.device.now c.find.new.self
-          c.find.new.device reads (g.met.T.Store.held c.args.store.now) true s.file.name.items files stands
-          (λ is. absurd cc));
-      linked = λ files stands bytes number.
-          let none = absent_is _ (spec_of s.file) (sym c.in-Absent.is ∙ c.in_ok-there.ensures.presence files stands) in
-          inr (subst (λ (f : Files). IsLinked f s c.begin-in-Input.new.link)
-          (sym (ap (λ (t : Step). t.files) (reads_absent s files (connector_of (spec_of s.file) l)
-          (area bytes number) c.args.mode c.in-Input.is (absent_is _ (spec_of s.file) (sym c.in-Absent.is
-          ∙ c.in_ok-there.ensures.presence files stands)) c.if-select.true))) (Gone c.begin-in-Input.ensures.absent
-          (c.begin-in-Input.ensures.mode ∙ ap (λ (m : OpenMode). Some m) c.in-Input.is) none));
-      link = c.begin-in-Input.ensures.link;
-      full = λ files stands bytes number is. ⊎_elim (λ full. absurd cc) (λ old. absurd cc) is;
-      never_full = λ none. (λ is. absurd cc, λ is. absurd cc);
-      idle = λ honest no. reads.only.state honest;
-      same = tt;
-      rests = tt;
-    }
+    ended _ _ FileMissing _ _
+    (misses s files (connector_of (spec_of s.file) c.args.link.now) (area bytes number) c.args.mode
+    c.in_default.not-Output (absent_is _ (spec_of s.file)
+    (sym c.in-Absent.is ∙ c.in_ok-there.ensures.presence files stands)) c.if-select.false)
+    refl refl refl
+
+pub returns-else-select-clause-turns : goal.returns-else-select-clause-turns
+returns-else-select-clause-turns g c = λ files stands bytes number.
+    let s = c.args.select.now in
+    still_opened c.find.ensures.reads (g.met.T.Store.held c.args.store.now) FileMissing true s.file.name.items stands
+    (ap (λ (t : Step). t.files)
+    (misses s files (connector_of (spec_of s.file) c.args.link.now) (area bytes number) c.args.mode
+    c.in_default.not-Output (absent_is _ (spec_of s.file)
+    (sym c.in-Absent.is ∙ c.in_ok-there.ensures.presence files stands)) c.if-select.false))
+
+pub returns-in-Input-clause-step : goal.returns-in-Input-clause-step
+returns-in-Input-clause-step g c = λ files stands bytes number.
+    let s = c.args.select.now in
+    ended _ _ SuccessAbsent _ _
+    (reads_absent s files (connector_of (spec_of s.file) c.args.link.now) (area bytes number) c.args.mode
+    c.in-Input.is (absent_is _ (spec_of s.file) (sym c.in-Absent.is ∙ c.in_ok-there.ensures.presence files stands))
+    c.if-select.true)
+    refl c.begin-in-Input.ensures.connector refl
+
+pub returns-in-Input-clause-turns : goal.returns-in-Input-clause-turns
+returns-in-Input-clause-turns g c = λ files stands bytes number.
+    let s = c.args.select.now in
+    still_opened c.find.ensures.reads (g.met.T.Store.held c.args.store.now) SuccessAbsent true s.file.name.items stands
+    (ap (λ (t : Step). t.files)
+    (reads_absent s files (connector_of (spec_of s.file) c.args.link.now) (area bytes number) c.args.mode
+    c.in-Input.is (absent_is _ (spec_of s.file) (sym c.in-Absent.is ∙ c.in_ok-there.ensures.presence files stands))
+    c.if-select.true))
+
+pub returns-in-Input-clause-linked : goal.returns-in-Input-clause-linked
+returns-in-Input-clause-linked g c = λ files stands bytes number.
+    let s = c.args.select.now in
+    let none = (absent_is _ (spec_of s.file) (sym c.in-Absent.is ∙ c.in_ok-there.ensures.presence files stands)) in
+    inr (subst (λ (f : Files). IsLinked f s c.begin-in-Input.new.link)
+    (sym (ap (λ (t : Step). t.files) (reads_absent s files (connector_of (spec_of s.file) c.args.link.now)
+    (area bytes number) c.args.mode c.in-Input.is none c.if-select.true)))
+    (Gone c.begin-in-Input.ensures.absent (c.begin-in-Input.ensures.mode ∙ ap (λ (m : OpenMode). Some m) c.in-Input.is)
+    none))
 
 pub returns-in-Output-clause-full : goal.returns-in-Output-clause-full
 returns-in-Output-clause-full g c = λ files stands bytes number is.
@@ -216,3 +170,18 @@ returns-in-InputOutput-clause-never_full g c = λ none. let clash : true ≡ fal
 pub returns-in-Extend-clause-never_full : goal.returns-in-Extend-clause-never_full
 returns-in-Extend-clause-never_full g c = λ none. let clash : true ≡ false =
     sym (ap (λ (m : OpenMode). can_change_files (Open m)) c.in-Extend.is) ∙ none in absurd cc
+
+pub returns-in-Present-clause-step : goal.returns-in-Present-clause-step
+returns-in-Present-clause-step g c = λ files stands bytes number.
+    let s = c.args.select.now in
+    ended _ _ Success _ _
+    (begins s files (connector_of (spec_of s.file) c.args.link.now) (area bytes number) c.args.mode
+    c.in_default.not-Output (sym c.in-Present.is ∙ c.in_ok-there.ensures.presence files stands)) refl
+    c.begin.ensures.connector refl
+
+pub returns-in-Present-clause-turns : goal.returns-in-Present-clause-turns
+returns-in-Present-clause-turns g c = λ files stands bytes number.
+    let s = c.args.select.now in
+    still_opened c.find.ensures.reads (g.met.T.Store.held c.args.store.now) Success true s.file.name.items stands
+    (ap (λ (t : Step). t.files) (begins s files (connector_of (spec_of s.file) c.args.link.now) (area bytes number)
+    c.args.mode c.in_default.not-Output (sym c.in-Present.is ∙ c.in_ok-there.ensures.presence files stands)))

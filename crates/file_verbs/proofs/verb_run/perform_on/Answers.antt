@@ -4,7 +4,7 @@ use Rattle.records.specs.FileStep.{area}
 use Rattle.file_verbs.specs.Connections.{May}
 use Rattle.file_verbs.proofs.Doing.{as_verb, reads_do, changes_do, opening_does, err_any, err_map, next_open, read_open}
 use Rattle.file_verbs.proofs.Doing.{start_open, write_open, change_open, open_shut, next_stays, read_stays, start_stays}
-use Rattle.file_verbs.proofs.Doing.{write_stays, rewrite_stays, delete_stays}
+use Rattle.file_verbs.proofs.Doing.{write_stays, rewrite_stays, delete_stays, change_may, change_read}
 use Rattle.file_verbs.proofs.verb_run.perform_on.Goals as goal
 
 pub returns-in-Open : goal.returns-in-Open
@@ -12,16 +12,15 @@ returns-in-Open g c =
     let old = c.args.linked.now in
     let bytes = c.args.bytes.now in
     let number = c.args.number.now in
+    let opens = c.open_file.ensures in
+    let shut = open_shut old c.in-Open.mode (subst (May old) c.in-Open.is c.requires.may) in
     record {
       does = as_verb c.args.verb (Open c.in-Open.mode) c.in-Open.is
-          (opening_does g.T.Keeps g.D.Device (Open c.in-Open.mode) c.open_file.result c.args.store.now c.args.device.now
-          c.open_file.new.store c.open_file.new.device old _ _ _ c.open_file.ensures.changes refl
-          (open_shut old c.in-Open.mode (subst (May old) c.in-Open.is c.requires.may))
-          (λ files stands. c.open_file.ensures.step files stands bytes number)
-          (λ files stands. c.open_file.ensures.linked files stands bytes number)
-          (λ files stands. c.open_file.ensures.turns files stands bytes number) c.open_file.ensures.idle
-          c.open_file.ensures.same refl c.open_file.ensures.rests
-          (λ files stands. c.open_file.ensures.full files stands bytes number) c.open_file.ensures.never_full refl);
+          (opening_does g.T.Keeps g.D.Device (Open c.in-Open.mode) c.open_file.result _ _ _ _ old _ _ _ opens.changes
+          refl shut (λ files stands. opens.step files stands bytes number)
+          (λ files stands. opens.linked files stands bytes number)
+          (λ files stands. opens.turns files stands bytes number) opens.idle opens.same refl opens.rests
+          (λ files stands. opens.full files stands bytes number) opens.never_full refl);
     }
 
 pub returns-in-Some : goal.returns-in-Some
@@ -67,6 +66,16 @@ returns-in-Write g c =
           (write_stays old (area c.args.bytes.now c.args.number.now) may) c.write_row.ensures.full refl
           c.write_row.ensures.makes_none);
     }
+
+pub rewrite_row-requires-clause-may : goal.rewrite_row-requires-clause-may
+rewrite_row-requires-clause-may g c =
+    let may = subst (May c.args.linked.now) c.in-Rewrite.is c.requires.may in
+    (change_may c.args.linked.now may, change_read c.args.linked.now may)
+
+pub delete_row-requires-clause-may : goal.delete_row-requires-clause-may
+delete_row-requires-clause-may g c =
+    let may = subst (May c.args.linked.now) c.in-Delete.is c.requires.may in
+    (change_may c.args.linked.now may, change_read c.args.linked.now may)
 
 pub returns-in-Rewrite : goal.returns-in-Rewrite
 returns-in-Rewrite g c =

@@ -1,27 +1,15 @@
-use Rattle.std.proofs.Common.{◌≡◌, ◌<◌, List, length, get_or, map, sym, subst}
 use Rattle.std.proofs.lemmas.List.{get_or_read}
 use Rattle.records.specs.Files.{File}
 use Rattle.records.specs.Changes.{replacement}
-use Rattle.records.specs.Laws.{RowsAscend}
-use Rattle.records.proofs.Changed.{there_is_file}
-use Rattle.file_bytes.specs.Stored.{row_of, file_of, files_of}
-use Rattle.file_bytes.specs.declared.stored.StoredFile.{StoredFile}
-use Rattle.half_store.proofs.Placed.{found_there, becomes_in, held_is}
+use Rattle.half_store.proofs.Placed.{is_found_at, row_becomes_in}
 use Rattle.half_store.proofs.changing.replace_in.Goals as goal
 
 pub returns-in-Some-clause-becomes : goal.returns-in-Some-clause-becomes
 returns-in-Some-clause-becomes c = λ held has are.
     let old = c.index_mut.result.now in
     let files = c.args.files.now.items in
-    let place = c.in-Some.place in
-    let lt : place < length files =
-    subst (λ (l : List StoredFile). place < length l) c.deref.ensures.value c.in-Some.ensures.bound in
-    let here : get_or files place old ≡ old = sym (get_or_read files place old lt c.index_mut.ensures.value old) in
-    let found = found_there files c.deref.result.now c.args.spec.now.name.items c.deref-2.result.now place old
-    c.deref.ensures.value c.deref-2.ensures.value (c.in-Some.ensures.found old) in
-    let is : held ≡ file_of old = held_is files c.args.spec.now place old held here found has in
-    let ascend : RowsAscend old.spec.organization (map row_of old.rows.items) =
-    subst (λ (f : File). RowsAscend f.spec.organization f.rows) is
-    (there_is_file c.args.spec.now.name.items held (files_of files) are has.there).ascend in
-    becomes_in files c.args.spec.now place old c.replace_row.new.file held c.replace_row.result (λ (f : File).
-    replacement c.args.number c.args.bytes.now f) lt here found has are (c.replace_row.ensures.becomes ascend)
+    let at = is_found_at files c.args.spec.now c.in-Some.place old c.deref.ensures.value c.deref-2.ensures.value
+    c.in-Some.ensures.bound (λ lt. get_or_read files c.in-Some.place old lt c.index_mut.ensures.value old)
+    (c.in-Some.ensures.found old) in
+    row_becomes_in (λ (f : File). replacement c.args.number c.args.bytes.now f) at has are
+    (λ ascend same. c.replace_row.ensures.becomes ascend)

@@ -1,5 +1,4 @@
-use Rattle.std.proofs.Common.{◌≡◌, ◌<◌, ◌+◌, ◌-◌, ℕ, length, map, drop, get_or, sym, subst, arith}
-use Rattle.std.specs.List.{AllByRecursion}
+use Rattle.std.proofs.Common.{◌≡◌, ◌<◌, ◌-◌, length, drop, get_or, sym, subst, arith}
 use Rattle.std.specs.List.Sorted.{IsStrictlySortedBy}
 use Rattle.std.proofs.lemmas.List.{get_or_read}
 use Rattle.records.specs.Files.{IsRow}
@@ -8,7 +7,7 @@ use Rattle.records.specs.Stores.{spec_of}
 use Rattle.records.proofs.Ascending.{pair_total}
 use Rattle.file_bytes.specs.Stored.{row_of}
 use Rattle.file_bytes.specs.declared.stored.StoredRow.{StoredRow}
-use Rattle.half_store.proofs.Checked.{all_behind, all_none, all_there, sorted_none, sorted_behind, sorted_there}
+use Rattle.half_store.proofs.Checked.{all_more, all_none, all_there, sorted_none, sorted_more, sorted_there}
 use Rattle.half_store.proofs.Checked.{map_twice}
 use Rattle.half_store.proofs.checking.are_rows.Goals as goal
 
@@ -47,24 +46,13 @@ returns-then-not-is_before_next-clause-no c = λ is all ascend.
 pub loop-back-preserved : goal.loop-back-preserved
 loop-back-preserved c =
     let rows = c.args.rows.now in
-    let o = c.args.spec.now.organization in
     let back = c.loop-back.back in
-    let place = length rows - 1 - back in
     let row = c.index-rows-place.result in
-    let lt : place < length rows = omega (arith, c.loop-back-test.true) in
-    let here : get_or rows place row ≡ row = sym (get_or_read rows place row lt c.index-rows-place.is row) in
-    let P : Row → Type 0 = IsRow (spec_of c.args.spec.now) c.args.next in
-    let now : place ≡ length rows - (back + 1) = omega (arith, c.loop-back-test.true) in
-    let was : length rows - back ≡ place + 1 = omega (arith, c.loop-back-test.true) in
+    let here = sym c.index-rows-place.is in
     record {
-      rows = subst (λ (n : ℕ). AllByRecursion P (map row_of (drop n rows))) now (all_behind row_of P rows place row lt
-          (subst (λ (r : StoredRow). P (row_of r)) (sym here) (c.is_row.ensures.yes c.if-not-is_row.false))
-          (subst (λ (n : ℕ). AllByRecursion P (map row_of (drop n rows))) was c.loop-back.invariant.rows));
-      ascend = subst (λ (n : ℕ). IsStrictlySortedBy pair_cmp (map (prime_pair o) (map row_of (drop n rows)))) now
-          (subst (IsStrictlySortedBy pair_cmp) (sym (map_twice row_of (prime_pair o) (drop place rows)))
-          (sorted_behind pair_cmp pair_total (λ (r : StoredRow). prime_pair o (row_of r)) rows place row lt
-          (c.is_before_next.ensures.yes c.if-not-is_before_next.false row)
-          (subst (IsStrictlySortedBy pair_cmp) (map_twice row_of (prime_pair o) (drop (place + 1) rows))
-          (subst (λ (n : ℕ). IsStrictlySortedBy pair_cmp (map (prime_pair o) (map row_of (drop n rows)))) was
-          c.loop-back.invariant.ascend))));
+      rows = all_more row_of rows back c.loop-back-test.true row here (IsRow (spec_of c.args.spec.now) c.args.next)
+          (c.is_row.ensures.yes c.if-not-is_row.false) c.loop-back.invariant.rows;
+      ascend = sorted_more row_of rows back c.loop-back-test.true row here pair_cmp pair_total
+          (prime_pair c.args.spec.now.organization) (c.is_before_next.ensures.yes c.if-not-is_before_next.false row)
+          c.loop-back.invariant.ascend;
     }

@@ -1,10 +1,10 @@
-use Rattle.std.proofs.Common.{◌≡◌, ◌<◌, ◌∙◌, ℕ, true, List, length, get_or, sym, ap, subst, rules, arith}
+use Rattle.std.proofs.Common.{◌≡◌, ◌<◌, ◌∙◌, true, length, get_or, sym, ap, rules, arith}
 use Rattle.std.proofs.lemmas.List.{get_or_read}
 use Rattle.records.specs.Files.{File, with_file}
 use Rattle.records.specs.Rows.{same_bytes}
 use Rattle.file_bytes.specs.Stored.{files_of}
 use Rattle.file_bytes.specs.declared.stored.StoredFile.{StoredFile}
-use Rattle.half_store.proofs.Placed.{PassedNames, put_here}
+use Rattle.half_store.proofs.Placed.{passed_there, put_here}
 use Rattle.half_store.proofs.creating.create_in.Goals as goal
 
 pub returns-then-is_eq-clause-after : goal.returns-then-is_eq-clause-after
@@ -15,10 +15,7 @@ returns-then-is_eq-clause-after c =
     let old = c.index.result.now in
     let lt : place < length files = omega (arith, c.if-place-len.true, c.len.ensures) in
     let here : get_or files place old ≡ old = sym (get_or_read files place old lt c.index.ensures old) in
-    let passed : PassedNames name files place =
-    subst (λ (l : List StoredFile). PassedNames name l place) c.deref.ensures.value
-    (subst (λ (n : List ℕ). PassedNames n c.deref.result.now place) c.deref-2.ensures.value
-    c.place_of_name-place.ensures.place) in
+    let passed = passed_there place c.deref.ensures.value c.deref-2.ensures.value c.place_of_name-place.ensures.place in
     let same : same_bytes old.spec.name.items name ≡ true = search rules in
     put_here name files place old c.in_ok-files.field-0 lt passed
     (ap (λ (f : StoredFile). same_bytes f.spec.name.items name) here ∙ same) c.in_ok-files.ensures.file.0

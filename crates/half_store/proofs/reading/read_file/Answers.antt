@@ -1,14 +1,8 @@
-use Rattle.std.proofs.Common.{◌≡◌, ◌≤◌, ◌<◌, ◌^◌, ◌+◌, ◌*◌, length, map, drop, ap, subst, arith}
-use Rattle.std.specs.Prelude.{Option, Ok, IfSome}
+use Rattle.std.proofs.Common.{◌<◌, ◌^◌, length, ap, arith}
+use Rattle.std.specs.Prelude.{Ok}
 use Rattle.std.proofs.lemmas.List.{length-drop}
-use Rattle.records.specs.declared.file_spec.FileSpec.{FileSpec}
-use Rattle.records.specs.Stores.{spec_of}
-use Rattle.file_bytes.specs.Read.{IfRead}
-use Rattle.half_store.specs.Read.{row_size, rows_in}
-use Rattle.file_bytes.specs.Stored.{row_of}
-use Rattle.half_store.specs.declared.reading.FoundRows.{FoundRows}
 use Rattle.half_store.proofs.ReadFile.{front, long}
-use Rattle.half_store.proofs.Rested.{from_none, is_none, rows_there, file_is, end_is}
+use Rattle.half_store.proofs.Rested.{from_none, is_none, read_some, if_some, rows_there, file_is, end_is}
 use Rattle.half_store.proofs.reading.read_file.Goals as goal
 
 pub returns-then-bytes-at-lt-HEAD_BYTES-clause-file : goal.returns-then-bytes-at-lt-HEAD_BYTES-clause-file
@@ -25,10 +19,8 @@ pub returns-in_default-2-clause-file : goal.returns-in_default-2-clause-file
 returns-in_default-2-clause-file c = λ one more good is.
     let bytes = c.args.bytes.now in
     let few : length bytes < 2 ^ 64 = omega arith in
-    let told = subst
-    (λ (o : Option FileSpec). IfRead (Ok o) (λ f. (f.name.items ≡ one.name) × (spec_of f ≡ one.file.spec))) c.in-Some.is
-    (c.in_ok-spec.ensures.spec one.name one.file.spec _ good.named.name good.named.file.spec
-    (front one more _ good is)) in
+    let told = read_some c.in_ok-spec.field-0 c.in-Some.spec _ c.in-Some.is (c.in_ok-spec.ensures.spec one.name
+    one.file.spec _ good.named.name good.named.file.spec (front one more _ good is)) in
     rows_there bytes c.args.at one more good is few c.in-Some.spec told c.number_at-count.result
     c.number_at-count.ensures
     (c.in_ok-found.ensures.none (ap (λ o. Ok o) (is_none c.in_ok-found.field-0 c.in_default-2.not-Some)))
@@ -37,18 +29,13 @@ pub returns-clause-file : goal.returns-clause-file
 returns-clause-file c = λ one more good is.
     let bytes = c.args.bytes.now in
     let few : length bytes < 2 ^ 64 = omega arith in
-    let spec = c.in-Some.spec in
     let count = c.number_at-count.result in
-    let told = subst
-    (λ (o : Option FileSpec). IfRead (Ok o) (λ f. (f.name.items ≡ one.name) × (spec_of f ≡ one.file.spec))) c.in-Some.is
-    (c.in_ok-spec.ensures.spec one.name one.file.spec _ good.named.name good.named.file.spec
-    (front one more _ good is)) in
-    let rows = subst (λ (o : Option FoundRows). IfSome o (λ r. map row_of r.rows.items
-    ≡ rows_in (spec_of spec) count (drop (c.args.at + 121) bytes))) c.in-Some-2.is c.in_ok-found.ensures.rows in
-    let end =
-    subst (λ (o : Option FoundRows). IfSome o (λ r. (r.end ≡ c.args.at + 121 + row_size (spec_of spec) * count)
-    × (r.end ≤ length bytes))) c.in-Some-2.is c.in_ok-found.ensures.end in (
-      file_is bytes c.args.at one more good is few spec told count c.number_at-count.ensures
+    let told = read_some c.in_ok-spec.field-0 c.in-Some.spec _ c.in-Some.is (c.in_ok-spec.ensures.spec one.name
+    one.file.spec _ good.named.name good.named.file.spec (front one more _ good is)) in
+    let rows = if_some c.in_ok-found.field-0 c.in-Some-2.found _ c.in-Some-2.is c.in_ok-found.ensures.rows in
+    let end = if_some c.in_ok-found.field-0 c.in-Some-2.found _ c.in-Some-2.is c.in_ok-found.ensures.end in (
+      file_is bytes c.args.at one more good is few c.in-Some.spec told count c.number_at-count.ensures
           c.in-Some-2.found.rows.items c.number_at-next_arrival.result rows c.number_at-next_arrival.ensures,
-      end_is bytes c.args.at one more good is few spec told count c.number_at-count.ensures c.in-Some-2.found.end end.0,
+      end_is bytes c.args.at one more good is few c.in-Some.spec told count c.number_at-count.ensures
+          c.in-Some-2.found.end end.0,
     )

@@ -1,12 +1,9 @@
-use Rattle.std.proofs.Common.{◌≡◌, ◌≤◌, ◌<◌, ◌∙◌, [], ◌∷◌, ◌++◌, length, drop, ap, subst, arith}
-use Rattle.std.specs.Prelude.{Option, Ok, IfSome}
+use Rattle.std.proofs.Common.{◌≤◌, ◌<◌, ◌∙◌, [], ◌∷◌, ◌++◌, length, drop, ap, arith}
 use Rattle.records.specs.Files.{NamedFile}
-use Rattle.file_bytes.specs.Read.{IfRead}
-use Rattle.half_store.specs.declared.reading.FoundFile.{FoundFile}
 use Rattle.std.proofs.lemmas.List.{length-drop, map-append}
 use Rattle.half_store.specs.Spelled.{files_bytes}
 use Rattle.file_bytes.specs.Stored.{named_of, files_of}
-use Rattle.half_store.proofs.Rested.{from_none, next_of, rest_of, all_read}
+use Rattle.half_store.proofs.Rested.{from_none, read_some, if_some, next_of, rest_of, all_read}
 use Rattle.half_store.proofs.reading.read_files.Goals as goal
 
 pub returns-in_default-clause-files : goal.returns-in_default-clause-files
@@ -19,18 +16,15 @@ returns-in_default-clause-files c = λ files each is.
 
 pub loop-at-preserved : goal.loop-at-preserved
 loop-at-preserved c = record {
-  within = (subst (λ (o : Option FoundFile). IfSome o (λ f. (c.loop-at.at < f.end) × (f.end ≤ length c.args.bytes.now)))
-      c.in-Some.is c.in_ok-found.ensures.end).1;
+  within = (if_some c.in_ok-found.field-0 c.in-Some.found _ c.in-Some.is c.in_ok-found.ensures.end).1;
   rest = λ files each is.
-      let bytes = c.args.bytes.now in
-      let rest = drop c.loop-at.at bytes in
+      let rest = drop c.loop-at.at c.args.bytes.now in
       let done = files_of c.loop-at.files.items in
-      let some : 0 < length rest = omega (arith, length-drop c.loop-at.at bytes) in
+      let some : 0 < length rest = omega (arith, length-drop c.loop-at.at c.args.bytes.now) in
       let next = next_of files done rest some (c.loop-at.invariant.rest files each is) in
-      let told = subst (λ (o : Option FoundFile).
-      IfRead (Ok o) (λ f. (named_of f.file ≡ next.one) × (drop f.end bytes ≡ files_bytes next.more))) c.in-Some.is
+      let told = read_some c.in_ok-found.field-0 c.in-Some.found _ c.in-Some.is
       (c.in_ok-found.ensures.file next.one (files_bytes next.more) next.good next.spells) in
-      rest_of files done rest (drop c.in-Some.found.end bytes) next (files_of c.push.new.self.items)
+      rest_of files done rest (drop c.in-Some.found.end c.args.bytes.now) next (files_of c.push.new.self.items)
       (ap files_of c.in_ok-push.ensures.items ∙ map-append named_of c.loop-at.files.items (c.in-Some.found.file ∷ [])
       ∙ ap (λ (n : NamedFile). done ++ n ∷ []) told.0) told.1;
 }

@@ -1,13 +1,11 @@
-use Rattle.std.proofs.Common.{◌≡◌, ◌∙◌, ◌+◌, false, sym, ap, subst, rules}
-use Rattle.station.specs.History.{Through}
-use Rattle.station.specs.Blocks.{CrashLeaves}
+use Rattle.std.proofs.Common.{◌≡◌, ◌+◌, false, sym, ap, subst, rules}
 use Rattle.station.proofs.Spans.{stays}
-use Rattle.records.specs.Files.{Files}
-use Rattle.records.specs.Stores.{is_change, Either}
+use Rattle.records.specs.Stores.{is_change}
 use Rattle.file_bytes.specs.Stored.{files_of}
-use Rattle.half_store.specs.Half.{Holds, Rests, AreHalfFiles}
+use Rattle.half_store.specs.Half.{Rests, AreHalfFiles}
 use Rattle.half_store.specs.declared.store.HalfStore.{HalfStore}
 use Rattle.half_store.proofs.Written.{at_rest}
+use Rattle.half_store.proofs.Committed.{written_settles}
 use Rattle.half_store.proofs.store.HalfStore.commit_files.Goals as goal
 
 pub returns-then-not-is_done-clause-settles : goal.returns-then-not-is_done-clause-settles
@@ -27,16 +25,5 @@ returns-then-not-is_done-clause-settles g c = λ before after honest rests memor
 pub returns-clause-settles : goal.returns-clause-settles
 returns-clause-settles g c = λ before after honest rests memory are idle.
     let are' = subst (AreHalfFiles (c.args.self.now.generation + 1)) (sym memory) are in
-    let there = c.in_ok-write.ensures.rests honest before rests are' in
-    record {
-      stands = record {
-        rests = subst (Rests c.write.new.self.sectors c.write.new.self.generation
-            (g.D.Device.state c.write.new.device).disk) memory there;
-        memory = ap (λ (s : HalfStore). files_of s.files.items) c.in_ok-write.ensures.rest ∙ memory;
-      };
-      moments = subst (λ (l : Files). Through (g.D.Device.history c.args.device.now)
-          (g.D.Device.history c.write.new.device) (g.D.Device.state c.write.new.device)
-          (CrashLeaves (g.D.Device.state c.args.device.now).events (Either Holds before l))) memory
-          (c.write.ensures.moments honest before rests are');
-      full = λ e. absurd {0} cc;
-    }
+    written_settles memory (ap (λ (s : HalfStore). files_of s.files.items) c.in_ok-write.ensures.rest)
+    (c.in_ok-write.ensures.rests honest before rests are') (c.write.ensures.moments honest before rests are')
