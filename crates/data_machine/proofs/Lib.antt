@@ -11,6 +11,7 @@ pub mod PartsTogether
 pub mod PartsReady
 pub mod Characters
 pub mod FusedIs
+pub mod Families
 pub mod ReadyTogether
 pub mod ReadyBehind
 pub mod KnownIntegers

@@ -77,26 +77,8 @@ impl Areas {
     }
 
     /// Moves a sender to an item that stands at an offset. Where a number is wanted of bytes that hold none, nothing changes.
-    #[inline]
-    pub fn receive(
-        &mut self,
-        one: &DataItem,
-        offset: usize,
-        taken: Taken,
-        from: &[u8],
-    ) -> Result<(), DataFault>
-        requires stands { IsAtOffset one.now self.old offset }
-        requires sender { Receives one.now (record { taken = taken; bytes = from.now }) }
-        ensures stores { Stores result self.old self.new (move_to
-            (record { taken = taken; bytes = from.now }) (item_place one.now offset) self.old) }
-        ensures lengths { map length self.new ≡ map length self.old }
-    {
-        self.receive_from(one, offset, &taken, from)
-    }
-
-    /// The same of a sender that is seen where it stands.
     #[inline(always)]
-    pub(crate) fn receive_from(
+    pub fn receive(
         &mut self,
         one: &DataItem,
         offset: usize,

@@ -15,6 +15,7 @@ ghost use Rattle.data_machine.specs.Writing.{with_part};
 use crate::data::Data;
 use crate::measuring::{measure, measured};
 use crate::seen::{part_of, seen};
+use crate::superinstruction_work::item_of;
 use data_instructions::{DataItem, DataTables, Inspection, InspectionIndex, ProgramFault};
 use text_ops::{Entry, convert};
 
@@ -49,7 +50,7 @@ impl Data {
         ensures keeps { KeepsRoom self.old self.new }
     {
         let place = self.places.pop();
-        let to = &tables.items.as_slice()[place.item.number as usize];
+        let to = item_of(tables, place.item);
         let part = part_of(to, place.length);
         let to = seen(to, &part);
         self.line.fit(one.size as usize);

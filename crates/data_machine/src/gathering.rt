@@ -219,7 +219,7 @@ impl Data {
         ensures keeps { KeepsRoom self.old self.new }
     {
         let place = self.places.pop();
-        let one = &tables.items.as_slice()[place.item.number as usize];
+        let one = item_of(tables, place.item);
         let start = self.line.bytes().len();
         let end = start + one.item.length as usize;
         let part = part_of(one, place.length);

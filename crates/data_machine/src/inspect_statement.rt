@@ -17,6 +17,7 @@ use crate::calculating::operate;
 use crate::data::Data;
 use crate::numbers::number_in;
 use crate::seen::{part_of, seen};
+use crate::superinstruction_work::item_of;
 use data_instructions::{DataItem, DataTables, Inspection, InspectionIndex, Place, ProgramFault};
 use decimal18::Dec;
 use source_tree::Operator;
@@ -50,7 +51,7 @@ impl Data {
     {
         let counters = one.counters.as_slice();
         let subject = self.places.below(counters.len());
-        let to = &tables.items.as_slice()[subject.item.number as usize];
+        let to = item_of(tables, subject.item);
         let part = part_of(to, subject.length);
         let to = seen(to, &part);
         self.line.fit(one.size as usize);
@@ -154,7 +155,7 @@ fn add_at(
         (layout.fits_together (slice_index counts.now) from entries) areas.old) }
     ensures lengths { map length areas.new ≡ map length areas.old }
 {
-    let one = &tables.items.as_slice()[place.item.number as usize];
+    let one = item_of(tables, place.item);
     let part = part_of(one, place.length);
     add_fits(areas, seen(one, &part), place.offset, counts, from, entries)
 }

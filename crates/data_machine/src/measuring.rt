@@ -128,7 +128,10 @@ fn length_at(numbers: &[Option<Dec>], at: u32) -> Option<u128>
 pub(crate) fn natural_in(number: Option<Dec>) -> u128
     ensures { result ≡ natural_in number }
 {
-    match number.and_then(|number| number.to_integer()) {
+    let Some(number) = number else {
+        return 0;
+    };
+    match number.to_integer() {
         Some(integer) if integer > 0 => integer as u128,
         _ => 0,
     }

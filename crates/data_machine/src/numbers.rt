@@ -10,8 +10,9 @@ ghost use Rattle.data_machine.specs.Finds.{FindsItem};
 ghost use Rattle.data_machine.specs.Subscripts.{IsEvaluated, ReachesWithin};
 
 use crate::data::Data;
+use crate::parts::integer_of;
 use crate::seen::{part_of, seen};
-use crate::superinstruction_work::item_of;
+use crate::superinstruction_work::{constant_of, item_of};
 use data_instructions::{DataTables, NumberIndex, ProgramFault};
 use decimal18::Dec;
 use items::{Kind, number};
@@ -37,9 +38,7 @@ pub(crate) fn bytes_before(
     ensures { IsEvaluated result
         (spec.bytes_before (record { stride = stride; count = count }) subscript) }
 {
-    let integer = subscript
-        .and_then(|number| number.to_integer())
-        .ok_or(ProgramFault::Data)?;
+    let integer = integer_of(subscript)?;
     if integer < 1 || integer > i128::from(count) {
         return Err(ProgramFault::Subscript);
     }
@@ -55,8 +54,8 @@ impl Data {
             literal.number) (λ x. spec.push_step (Some x) (scratch_of self.old))) }
         ensures keeps { KeepsRoom self.old self.new }
     {
-        let number = tables.numbers.as_slice()[literal.number as usize];
-        self.numbers.push(Some(number));
+        let number = constant_of(tables, literal);
+        self.numbers.push(Some(*number));
         Ok(())
     }
 

@@ -13,6 +13,7 @@ ghost use Rattle.data_machine.specs.Ready.{IsReady};
 ghost use Rattle.data_machine.specs.Subscripts.{IsEvaluated, BeginsBelow};
 
 use crate::data::Data;
+use crate::superinstruction_work::item_of;
 use data_instructions::{DataTables, Part, Place, ProgramFault};
 use decimal18::Dec;
 
@@ -30,7 +31,7 @@ impl Data {
     {
         let first = self.numbers.pop();
         let place = self.places.pop();
-        let one = &tables.items.as_slice()[place.item.number as usize];
+        let one = item_of(tables, place.item);
         let part = fixed_part(place, size, one.item.length, first)?;
         self.places.push(part);
         Ok(())
@@ -91,9 +92,10 @@ impl Data {
 pub(crate) fn integer_of(number: Option<Dec>) -> Result<i128, ProgramFault>
     ensures { IsEvaluated result (evaluation_of (tree.whole_part number)) }
 {
-    number
-        .and_then(|number| number.to_integer())
-        .ok_or(ProgramFault::Data)
+    let Some(number) = number else {
+        return Err(ProgramFault::Data);
+    };
+    number.to_integer().ok_or(ProgramFault::Data)
 }
 
 /// A number from 1 to a limit, or fault 93.

@@ -2,8 +2,6 @@
 
 ghost use Rattle.std.specs.Prelude.{◌≡◌, ◌+◌, ◌≤◌, true, false, length, map, Ok, Some, None, slice_range};
 ghost use Rattle.text_ops.specs.Strings.{string_of_senders};
-ghost use Rattle.source_tree.specs.Evaluated.{evaluation_of};
-ghost use Rattle.source_tree.specs.References.{whole_part};
 ghost use Rattle.source_tree.specs.Stringing as meaning;
 ghost use Rattle.data_instructions.specs.Scratch.{step_with};
 ghost use Rattle.data_instructions.specs.Table as spec;
@@ -14,12 +12,12 @@ ghost use Rattle.data_machine.specs.Comes.{IsStepOf, KeepsRoom};
 ghost use Rattle.data_machine.specs.Finds.{FindsItem, FindsNext, IsAtOffset};
 ghost use Rattle.data_machine.specs.Ready.{IsReady};
 ghost use Rattle.data_machine.specs.Stringing.{put_from, strung_with, IsWithinReceiver, PutsText};
-ghost use Rattle.data_machine.specs.Subscripts.{IsEvaluated};
 ghost use Rattle.data_machine.specs.Writing.{with_part};
 
 use crate::areas::Areas;
 use crate::data::Data;
 use crate::numbers::number_in;
+use crate::parts::integer_of;
 use crate::seen::{part_of, seen};
 use crate::superinstruction_work::item_of;
 use data_instructions::{DataItem, DataTables, ProgramFault};
@@ -45,15 +43,6 @@ pub fn string_part(
 {
     let end = offset + one.item.length as usize;
     string_into(text, at, &mut area[offset..end])
-}
-
-/// The integer that a number is; fault 90 where it is none.
-fn integer_of(number: Option<Dec>) -> Result<i128, ProgramFault>
-    ensures { IsEvaluated result (evaluation_of (whole_part number)) }
-{
-    number
-        .and_then(|number| number.to_integer())
-        .ok_or(ProgramFault::Data)
 }
 
 /// The position that an integer tells, if it is one within so many bytes, which count from 1.

@@ -27,7 +27,8 @@ returns-in-Some c =
     let power : 10 ^ length c.args.bytes.now ≡ 10 ^ c.args.item.digits = ap (λ k. 10 ^ k) size in
     let small : c.in-Some.digits < 10 ^ c.args.item.digits = omega (arith, power, c.in-Some.ensures.bound) in
     ap Some c.whole_number.ensures
-    ∙ sym (unsigned_found c.args.item c.args.bytes.now c.requires.unsigned c.in-Some.digits c.in-Some.ensures.value small)
+    ∙ sym
+    (unsigned_found c.args.item c.args.bytes.now c.requires.unsigned c.in-Some.digits c.in-Some.ensures.value small)
 
 pub returns-in-None : goal.returns-in-None
 returns-in-None c = sym (unsigned_missed c.args.item c.args.bytes.now c.requires.unsigned c.in-None.ensures.value)

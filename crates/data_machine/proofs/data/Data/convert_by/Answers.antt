@@ -1,6 +1,5 @@
-use Rattle.std.proofs.Common.{◌≡◌, ℕ, List, length, map, sym, ap, subst, refl, ◌∙◌}
-use Rattle.std.specs.Prelude.{reverse, slice_get}
-use Rattle.std.proofs.lemmas.Option.{slice_get_read}
+use Rattle.std.proofs.Common.{◌≡◌, ℕ, List, length, map, sym, ap, subst, ◌∙◌}
+use Rattle.std.specs.Prelude.{reverse}
 use Rattle.items.specs.Texts.{padded_text}
 use Rattle.text_ops.specs.Convert.{converted_subject}
 use Rattle.text_ops.specs.declared.entry.Entry.{Entry}
@@ -13,12 +12,41 @@ use Rattle.data_instructions.specs.Tables.{shortened_item, item_place}
 use Rattle.data_instructions.proofs.Lengths.{padded_long}
 use Rattle.data_machine.specs.Data.{scratch_of}
 use Rattle.data_machine.specs.Filled.{BufferView}
-use Rattle.data_machine.specs.Finds.{IsItemAt, FindsItem}
 use Rattle.data_machine.specs.Held.{StackView}
 use Rattle.data_machine.proofs.Conversions.{convert_comes}
-use Rattle.data_machine.proofs.Inspects.{index_within}
+use Rattle.data_machine.proofs.Newest.{some_place, item_within, item_whole, part_editing, seen_stands}
 use Rattle.data_machine.proofs.TextLengths.{measured_within}
 use Rattle.data_machine.proofs.data.Data.convert_by.Goals as goal
+
+pub pop-place-requires : goal.pop-place-requires
+pop-place-requires c =
+    some_place c.args.tables.now c.args.self.now.areas c.args.self.now.places.newest_first c.requires.operand
+
+pub item_of-to-requires : goal.item_of-to-requires
+item_of-to-requires c =
+    item_within c.args.tables.now c.args.self.now.areas c.args.self.now.places.newest_first
+    c.requires.operand c.pop-place.result c.pop-place.new.self.newest_first c.pop-place.ensures.newest
+
+pub seen-to-requires-clause-whole : goal.seen-to-requires-clause-whole
+seen-to-requires-clause-whole c =
+    item_whole c.args.tables.now c.args.self.now.areas c.args.self.now.places.newest_first
+    c.requires.operand c.pop-place.result c.pop-place.new.self.newest_first c.pop-place.ensures.newest
+    c.item_of-to.result.now c.item_of-to.ensures
+
+pub seen-to-requires-clause-shortened : goal.seen-to-requires-clause-shortened
+seen-to-requires-clause-shortened c =
+    part_editing c.args.tables.now c.args.self.now.areas c.args.self.now.places.newest_first
+    c.requires.operand c.pop-place.result c.pop-place.new.self.newest_first c.pop-place.ensures.newest
+    c.item_of-to.result.now c.item_of-to.ensures c.part_of-part.result
+    (ap (λ (d : DataItem). d.item.length) c.part_of-part.ensures)
+
+pub convert-requires-clause-stands : goal.convert-requires-clause-stands
+convert-requires-clause-stands c =
+    seen_stands c.args.tables.now c.args.self.now.areas c.args.self.now.places.newest_first
+    c.requires.operand c.pop-place.result c.pop-place.new.self.newest_first c.pop-place.ensures.newest
+    c.item_of-to.result.now c.item_of-to.ensures c.part_of-part.result
+    (ap (λ (d : DataItem). d.item.length) c.part_of-part.ensures)
+    c.seen-to.result.now c.seen-to.ensures
 
 pub convert-requires-clause-entries : goal.convert-requires-clause-entries
 convert-requires-clause-entries c =
@@ -39,12 +67,7 @@ returns-clause-does c =
     let tables = c.args.tables.now in
     let one = c.args.one.now in
     let p = c.pop-place.result in
-    let to = c.index-as_slice-place.result in
-    let stands : IsItemAt tables s.storage p =
-    subst (FindsItem tables s.storage) c.pop-place.ensures.newest c.requires.operand in
-    let within = index_within tables s.storage p c.as_slice.result.now c.as_slice.ensures stands in
-    let here = ap (λ (xs : List DataItem). slice_get xs p.item.number) (sym c.as_slice.ensures)
-    ∙ slice_get_read c.as_slice.result.now _ p.item.number to refl within c.index-as_slice-place.is in
+    let to = c.item_of-to.result.now in
     let seen_is : c.seen-to.result.now ≡ shortened_item to p.length =
     c.seen-to.ensures ∙ ap (λ (d : DataItem). shortened_item to d.item.length) c.part_of-part.ensures in
     let texts_are : c.bytes.result.now ≡ padded_text one.size s.line =
@@ -57,6 +80,6 @@ returns-clause-does c =
     convert_comes tables one c.args.numbers c.newest-found.result.now p c.pop-place.new.self.newest_first to s
     c.bytes.result.now c.clear.new.self.bytes c.measured-entries.result.now c.convert.new.self
     c.leave.new.self.newest_first c.newest-found.ensures.length c.requires.numbers c.newest-found.ensures.value
-    c.pop-place.ensures.newest here texts_are entries_are stores
+    c.pop-place.ensures.newest c.item_of-to.ensures texts_are entries_are stores
     (ap (λ (f : BufferView). f.bytes) c.clear.ensures)
     (ap (λ (h : StackView ArithmeticValue). h.newest_first) c.leave.ensures)

@@ -1,6 +1,4 @@
-use Rattle.std.proofs.Common.{◌≡◌, ℕ, ◌+◌, ◌∷◌, ◌++◌, List, ◌∙◌, ap, sym, subst, refl, length}
-use Rattle.std.specs.Prelude.{slice_get}
-use Rattle.std.proofs.lemmas.Option.{slice_get_read}
+use Rattle.std.proofs.Common.{◌≡◌, ℕ, ◌+◌, ◌∷◌, ◌++◌, List, ◌∙◌, ap, length}
 use Rattle.items.specs.Texts.{padded_text}
 use Rattle.source_tree.specs.Computed.{ArithmeticValue}
 use Rattle.source_tree.specs.Inspecting.{text_at}
@@ -10,22 +8,46 @@ use Rattle.data_instructions.specs.Table.{number_of}
 use Rattle.data_instructions.specs.Tables.{shortened_item, item_place}
 use Rattle.data_machine.specs.Data.{scratch_of}
 use Rattle.data_machine.specs.Filled.{BufferView}
-use Rattle.data_machine.specs.Finds.{IsItemAt, FindsItem}
 use Rattle.data_machine.specs.Held.{StackView}
-use Rattle.data_machine.proofs.Inspects.{index_within}
+use Rattle.data_machine.proofs.Newest.{some_place, item_within, item_whole, part_editing, seen_stands}
 use Rattle.data_machine.proofs.MeasuredTexts.{measured_comes}
 use Rattle.data_machine.proofs.data.Data.gather_measured.Goals as goal
+
+pub pop-place-requires : goal.pop-place-requires
+pop-place-requires c =
+    some_place c.args.tables.now c.args.self.now.areas c.args.self.now.places.newest_first c.requires.operand
+
+pub item_of-one-requires : goal.item_of-one-requires
+item_of-one-requires c =
+    item_within c.args.tables.now c.args.self.now.areas c.args.self.now.places.newest_first
+    c.requires.operand c.pop-place.result c.pop-place.new.self.newest_first c.pop-place.ensures.newest
+
+pub seen-one-requires-clause-whole : goal.seen-one-requires-clause-whole
+seen-one-requires-clause-whole c =
+    item_whole c.args.tables.now c.args.self.now.areas c.args.self.now.places.newest_first
+    c.requires.operand c.pop-place.result c.pop-place.new.self.newest_first c.pop-place.ensures.newest
+    c.item_of-one.result.now c.item_of-one.ensures
+
+pub seen-one-requires-clause-shortened : goal.seen-one-requires-clause-shortened
+seen-one-requires-clause-shortened c =
+    part_editing c.args.tables.now c.args.self.now.areas c.args.self.now.places.newest_first
+    c.requires.operand c.pop-place.result c.pop-place.new.self.newest_first c.pop-place.ensures.newest
+    c.item_of-one.result.now c.item_of-one.ensures c.part_of-part.result
+    (ap (λ (d : DataItem). d.item.length) c.part_of-part.ensures)
+
+pub bytes-requires : goal.bytes-requires
+bytes-requires c =
+    seen_stands c.args.tables.now c.args.self.now.areas c.args.self.now.places.newest_first
+    c.requires.operand c.pop-place.result c.pop-place.new.self.newest_first c.pop-place.ensures.newest
+    c.item_of-one.result.now c.item_of-one.ensures c.part_of-part.result
+    (ap (λ (d : DataItem). d.item.length) c.part_of-part.ensures)
+    c.seen-one.result.now c.seen-one.ensures
 
 pub returns-clause-does : goal.returns-clause-does
 returns-clause-does c =
     let s = scratch_of c.args.self.now in
     let p = c.pop-place.result in
-    let one = c.index-as_slice-place.result in
-    let stands : IsItemAt c.args.tables.now s.storage p =
-    subst (FindsItem c.args.tables.now s.storage) c.pop-place.ensures.newest c.requires.operand in
-    let within = index_within c.args.tables.now s.storage p c.as_slice.result.now c.as_slice.ensures stands in
-    let here = ap (λ (xs : List DataItem). slice_get xs p.item.number) (sym c.as_slice.ensures)
-    ∙ slice_get_read c.as_slice.result.now _ p.item.number one refl within c.index-as_slice-place.is in
+    let one = c.item_of-one.result.now in
     let seen_is : c.seen-one.result.now ≡ shortened_item one p.length =
     c.seen-one.ensures ∙ ap (λ (d : DataItem). shortened_item one d.item.length) c.part_of-part.ensures in
     let text_is : c.sized.result.now ≡ text_at s.storage (item_place (shortened_item one p.length) p.offset) =
@@ -43,4 +65,4 @@ returns-clause-does c =
     ∙ ap (λ (x : ArithmeticValue). number_of p.length ∷ x ∷ s.numbers)
     (c.whole.ensures ∙ ap (λ (b : List ℕ). number_of (length b)) c.bytes-start.ensures) in
     measured_comes c.args.tables.now s p c.pop-place.new.self.newest_first one c.sized.result.now c.fit.new.self.bytes
-    c.push-2.new.self.newest_first c.pop-place.ensures.newest here text_is line_is numbers_are
+    c.push-2.new.self.newest_first c.pop-place.ensures.newest c.item_of-one.ensures text_is line_is numbers_are

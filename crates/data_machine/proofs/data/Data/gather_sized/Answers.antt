@@ -43,4 +43,5 @@ returns-clause-does c =
     c.item_of-one.result.now c.item_of-one.ensures c.part_of-part.result
     (ap (λ (d : DataItem). d.item.length) c.part_of-part.ensures)
     c.seen.result.now c.seen.ensures c.gather_sized_at.result (scratch_of c.gather_sized_at.new.self)
-    (scratch_of c.args.self.now) (λ place t. spec.append_step (text_at t.storage place) t) c.pop-place.ensures.newest c.gather_sized_at.ensures.does
+    (scratch_of c.args.self.now) (λ place t. spec.append_step (text_at t.storage place) t) c.pop-place.ensures.newest
+    c.gather_sized_at.ensures.does

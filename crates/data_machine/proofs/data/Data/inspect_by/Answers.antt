@@ -1,6 +1,5 @@
 use Rattle.std.proofs.Common.{◌≡◌, ℕ, ◌+◌, ◌<◌, length, drop, ◌++◌, map, ◌∙◌, sym, ap, subst, refl, arith, List}
 use Rattle.std.specs.Prelude.{reverse, slice_get, slice_index}
-use Rattle.std.proofs.lemmas.Option.{slice_get_read}
 use Rattle.items.specs.Texts.{padded_text}
 use Rattle.text_ops.specs.Inspect.{tally, replaced_subject}
 use Rattle.source_tree.specs.InspectLayout as layout
@@ -39,12 +38,12 @@ leave-requires-2 c =
     c.args.self.now.places.newest_first c.requires.places in
     omega (arith, many, ap (λ (xs : List ℕ). length xs) c.as_slice-counters.ensures)
 
-pub bounds-as_slice-subject : goal.bounds-as_slice-subject
-bounds-as_slice-subject c =
+pub item_of-to-requires : goal.item_of-to-requires
+item_of-to-requires c =
     let at =
     ap (λ (xs : List ℕ). slice_get c.args.self.now.places.newest_first (length xs)) (sym c.as_slice-counters.ensures)
     ∙ c.below-subject.ensures in
-    index_within c.args.tables.now c.args.self.now.areas c.below-subject.result c.as_slice.result.now c.as_slice.ensures
+    index_within c.args.tables.now c.args.self.now.areas c.below-subject.result c.args.tables.now.items refl
     (subject_stands c.args.tables.now c.args.self.now.areas (length c.args.one.now.counters)
     c.args.self.now.places.newest_first c.below-subject.result c.requires.places at)
 
@@ -55,12 +54,9 @@ seen-to-requires-clause-whole c =
     ∙ c.below-subject.ensures in
     let stands = subject_stands c.args.tables.now c.args.self.now.areas (length c.args.one.now.counters)
     c.args.self.now.places.newest_first c.below-subject.result c.requires.places at in
-    let within = index_within c.args.tables.now c.args.self.now.areas c.below-subject.result c.as_slice.result.now
-    c.as_slice.ensures stands in
-    whole_one c.args.tables.now c.args.self.now.areas c.below-subject.result c.as_slice.result.now
-    c.index-as_slice-subject.result c.as_slice.ensures
-    (slice_get_read c.as_slice.result.now _ c.below-subject.result.item.number c.index-as_slice-subject.result refl
-    within c.index-as_slice-subject.is) stands
+    whole_one c.args.tables.now c.args.self.now.areas c.below-subject.result c.args.tables.now.items
+    c.item_of-to.result.now refl
+    c.item_of-to.ensures stands
 
 pub seen-to-requires-clause-shortened : goal.seen-to-requires-clause-shortened
 seen-to-requires-clause-shortened c =
@@ -69,15 +65,12 @@ seen-to-requires-clause-shortened c =
     ∙ c.below-subject.ensures in
     let stands = subject_stands c.args.tables.now c.args.self.now.areas (length c.args.one.now.counters)
     c.args.self.now.places.newest_first c.below-subject.result c.requires.places at in
-    let within = index_within c.args.tables.now c.args.self.now.areas c.below-subject.result c.as_slice.result.now
-    c.as_slice.ensures stands in
-    let to = c.index-as_slice-subject.result in
+    let to = c.item_of-to.result.now in
     subst (λ n. IsEditing (shortened_item to n).item to.editing)
     (sym (ap (λ (d : DataItem). d.item.length) c.part_of-part.ensures))
-    (stands_one c.args.tables.now c.args.self.now.areas c.below-subject.result c.as_slice.result.now to
-    c.as_slice.ensures
-    (slice_get_read c.as_slice.result.now _ c.below-subject.result.item.number to refl within
-    c.index-as_slice-subject.is) stands).editing
+    (stands_one c.args.tables.now c.args.self.now.areas c.below-subject.result c.args.tables.now.items to
+    refl
+    c.item_of-to.ensures stands).editing
 
 pub bytes-requires-2 : goal.bytes-requires-2
 bytes-requires-2 c =
@@ -86,15 +79,12 @@ bytes-requires-2 c =
     ∙ c.below-subject.ensures in
     let stands = subject_stands c.args.tables.now c.args.self.now.areas (length c.args.one.now.counters)
     c.args.self.now.places.newest_first c.below-subject.result c.requires.places at in
-    let within = index_within c.args.tables.now c.args.self.now.areas c.below-subject.result c.as_slice.result.now
-    c.as_slice.ensures stands in
     let seen_is = c.seen-to.ensures
-    ∙ ap (λ (d : DataItem). shortened_item c.index-as_slice-subject.result d.item.length) c.part_of-part.ensures in
+    ∙ ap (λ (d : DataItem). shortened_item c.item_of-to.result.now d.item.length) c.part_of-part.ensures in
     subst (λ (o : DataItem). IsAtOffset o c.args.self.now.areas c.below-subject.result.offset) (sym seen_is)
-    (stands_one c.args.tables.now c.args.self.now.areas c.below-subject.result c.as_slice.result.now
-    c.index-as_slice-subject.result c.as_slice.ensures
-    (slice_get_read c.as_slice.result.now _ c.below-subject.result.item.number c.index-as_slice-subject.result refl
-    within c.index-as_slice-subject.is) stands)
+    (stands_one c.args.tables.now c.args.self.now.areas c.below-subject.result c.args.tables.now.items
+    c.item_of-to.result.now refl
+    c.item_of-to.ensures stands)
 
 pub inspect-requires-clause-text : goal.inspect-requires-clause-text
 inspect-requires-clause-text c =
@@ -105,7 +95,7 @@ inspect-requires-clause-text c =
     c.args.self.now.places.newest_first c.below-subject.result c.requires.places at in
     let room = c.requires.text c.below-subject.result.item.number stands.one stands.here in
     let seen_is = c.seen-to.ensures
-    ∙ ap (λ (d : DataItem). shortened_item c.index-as_slice-subject.result d.item.length) c.part_of-part.ensures in
+    ∙ ap (λ (d : DataItem). shortened_item c.item_of-to.result.now d.item.length) c.part_of-part.ensures in
     let size : c.seen-to.result.now.item.length ≡ c.below-subject.result.length =
     ap (λ (d : DataItem). d.item.length) seen_is in
     omega (arith, room, stands.short, size, c.bytes-2.ensures.of.size)
@@ -117,15 +107,12 @@ add_and_store-done-requires-clause-stands c =
     ∙ c.below-subject.ensures in
     let stands = subject_stands c.args.tables.now c.args.self.now.areas (length c.args.one.now.counters)
     c.args.self.now.places.newest_first c.below-subject.result c.requires.places at in
-    let within = index_within c.args.tables.now c.args.self.now.areas c.below-subject.result c.as_slice.result.now
-    c.as_slice.ensures stands in
     let seen_is = c.seen-to.ensures
-    ∙ ap (λ (d : DataItem). shortened_item c.index-as_slice-subject.result d.item.length) c.part_of-part.ensures in
+    ∙ ap (λ (d : DataItem). shortened_item c.item_of-to.result.now d.item.length) c.part_of-part.ensures in
     subst (λ (o : DataItem). IsAtOffset o c.args.self.now.areas c.below-subject.result.offset) (sym seen_is)
-    (stands_one c.args.tables.now c.args.self.now.areas c.below-subject.result c.as_slice.result.now
-    c.index-as_slice-subject.result c.as_slice.ensures
-    (slice_get_read c.as_slice.result.now _ c.below-subject.result.item.number c.index-as_slice-subject.result refl
-    within c.index-as_slice-subject.is) stands)
+    (stands_one c.args.tables.now c.args.self.now.areas c.below-subject.result c.args.tables.now.items
+    c.item_of-to.result.now refl
+    c.item_of-to.ensures stands)
 
 pub add_and_store-done-requires-clause-stand : goal.add_and_store-done-requires-clause-stand
 add_and_store-done-requires-clause-stand c =
@@ -140,16 +127,13 @@ pub returns-clause-does : goal.returns-clause-does
 returns-clause-does c =
     let places = c.args.self.now.places.newest_first in
     let one = c.args.one.now in
-    let to = c.index-as_slice-subject.result in
+    let to = c.item_of-to.result.now in
     let p = c.below-subject.result in
     let at =
     ap (λ (xs : List ℕ). slice_get places (length xs)) (sym c.as_slice-counters.ensures) ∙ c.below-subject.ensures in
     let stands =
     subject_stands c.args.tables.now c.args.self.now.areas (length one.counters) places p c.requires.places at in
-    let within =
-    index_within c.args.tables.now c.args.self.now.areas p c.as_slice.result.now c.as_slice.ensures stands in
-    let here = ap (λ (xs : List DataItem). slice_get xs p.item.number) (sym c.as_slice.ensures)
-    ∙ slice_get_read c.as_slice.result.now _ p.item.number to refl within c.index-as_slice-subject.is in
+    let here = c.item_of-to.ensures in
     let order = c.newest-places.ensures.value
     ∙ ap (λ (xs : List ℕ). reverse c.newest-places.result.now ++ drop (length xs) places) c.as_slice-counters.ensures in
     let many = c.newest-places.ensures.length ∙ ap (λ (xs : List ℕ). length xs) c.as_slice-counters.ensures in

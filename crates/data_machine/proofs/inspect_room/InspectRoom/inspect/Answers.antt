@@ -1,7 +1,9 @@
-use Rattle.std.proofs.Common.{List, length, map, sym, ap, subst, ◌∙◌}
-use Rattle.std.specs.Prelude.{reverse}
+use Rattle.std.proofs.Common.{◌≡◌, ℕ, List, length, map, sym, ap, subst, ◌∙◌, arith}
+use Rattle.std.specs.Prelude.{reverse, slice_index}
+use Rattle.std.proofs.lemmas.List.{length-map, with_items_is}
 use Rattle.text_ops.specs.declared.entry.Entry.{Entry}
 use Rattle.text_ops.specs.Entries.{AreWithin}
+use Rattle.text_ops.specs.Inspect.{tally}
 use Rattle.data_instructions.specs.Table.{measured_by}
 use Rattle.data_machine.proofs.TextLengths.{measured_within}
 use Rattle.data_machine.proofs.inspect_room.InspectRoom.inspect.Goals as goal
@@ -23,3 +25,14 @@ replace-requires-clause-within c =
     (sym (c.measured-replacing.ensures ∙ ap (map (measured_by found)) c.as_slice-replacing.ensures))
     (subst (AreWithin (map (measured_by found) one.replacing)) (sym c.requires.size)
     (measured_within found one.replacing one.size c.requires.form.replacing))
+
+pub returns-clause-counts : goal.returns-clause-counts
+returns-clause-counts c = λ k h.
+    let found = reverse c.args.numbers.now in
+    let entries_are = c.measured-tallying.ensures ∙ ap (map (measured_by found)) c.as_slice-tallying.ensures in
+    let long : length c.measured-tallying.result.now ≡ length c.args.one.now.tallying =
+    ap (λ (xs : List Entry). length xs) entries_are ∙ length-map c.args.one.now.tallying (measured_by found) in
+    ap (λ (xs : List ℕ). slice_index xs k) (with_items_is c.args.self.now.counts c.count_each.new.counts
+    (c.count_each.auto.counts ∙ c.as_mut_slice-2.ensures.len))
+    ∙ c.count_each.ensures k (omega (arith, long, h))
+    ∙ ap (λ (xs : List Entry). tally c.args.texts.now xs c.args.subject.now k) entries_are

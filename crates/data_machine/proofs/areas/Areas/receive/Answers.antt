@@ -2,7 +2,7 @@ use Rattle.std.proofs.Common.{arith, length, ◌∙◌, ap, subst}
 use Rattle.source_tree.specs.Moving.{moved_by}
 use Rattle.data_machine.specs.Writing.{WritesPart}
 use Rattle.data_machine.proofs.AreaBytes.{move_stores, area_lengths, as_many, seam}
-use Rattle.data_machine.proofs.areas.Areas.receive_from.Goals as goal
+use Rattle.data_machine.proofs.areas.Areas.receive.Goals as goal
 
 pub returns-clause-stores : goal.returns-clause-stores
 returns-clause-stores c =

@@ -1,0 +1,12 @@
+use Rattle.std.proofs.Common.{List, ℕ, length, ap, arith}
+use Rattle.std.proofs.lemmas.List.{length-take-le}
+use Rattle.data_machine.specs.Filled.{BufferView}
+use Rattle.data_machine.proofs.buffer.Buffer.append_shown.Goals as goal
+
+pub put_shown-requires-clause-room : goal.put_shown-requires-clause-room
+put_shown-requires-clause-room c =
+    let front = length-take-le c.self.inside.used c.self.inside.room.items c.self.invariant in
+    let bytes = ap (λ (b : BufferView). length b.bytes) c.self.view_is in
+    let room = ap (λ (b : BufferView). b.room) c.self.view_is in
+    let same = ap (λ (xs : List ℕ). length xs) c.as_mut_slice.ensures.value in
+    omega (arith, front, bytes, room, same, c.requires.room)
