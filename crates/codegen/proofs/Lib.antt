@@ -100,3 +100,4 @@ pub mod CodeFiles
 pub mod Verified
 -- The run is what the program means
 pub mod Meaning
+pub mod PlacedItems
