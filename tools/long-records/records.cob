@@ -1,0 +1,36 @@
+       IDENTIFICATION DIVISION.
+       PROGRAM-ID. LONG-RECORDS.
+       ENVIRONMENT DIVISION.
+       INPUT-OUTPUT SECTION.
+       FILE-CONTROL.
+           SELECT F ASSIGN TO "F" ORGANIZATION INDEXED
+               ACCESS DYNAMIC RECORD KEY K FILE STATUS S.
+       DATA DIVISION.
+       FILE SECTION.
+       FD F.
+       01 R.
+          05 K PIC 9(8).
+          05 T PIC X(15992).
+       WORKING-STORAGE SECTION.
+       01 S PIC XX.
+       01 WHAT PIC X.
+       01 HOW-MANY PIC 9(8).
+       01 I PIC 9(8) VALUE 0.
+       PROCEDURE DIVISION.
+       WHOLE.
+           ACCEPT WHAT.
+           ACCEPT HOW-MANY.
+           IF WHAT = "W" OPEN OUTPUT F ELSE OPEN INPUT F.
+           MOVE ALL "ABCDEFG" TO T.
+           IF WHAT = "W" PERFORM PUT-ONE HOW-MANY TIMES
+           ELSE PERFORM GET-ONE HOW-MANY TIMES.
+           CLOSE F.
+           STOP RUN.
+       PUT-ONE.
+           ADD 1 TO I.
+           MOVE I TO K.
+           WRITE R.
+           IF S NOT = "00" DISPLAY "WRITE " S STOP RUN.
+       GET-ONE.
+           READ F NEXT.
+           IF S NOT = "00" DISPLAY "READ " S STOP RUN.
