@@ -4,6 +4,7 @@ pub mod Links
 pub mod Fronts
 pub mod Loops
 pub mod Parts
+pub mod Unwritten
 pub mod Refusing
 pub mod Entries
 pub mod Rows

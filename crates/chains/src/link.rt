@@ -27,33 +27,31 @@ const NEXT_AT: usize = 4;
 const PART_AT: usize = 16;
 
 /// Reads the beginning of the part of a record that is on a page of a chain, as much as there is room for, and returns the next page.
-/// `Damaged` tells that the page is none of a chain. After a refusal nothing was read.
+/// It reads past the cache of pages, which stays. `Damaged` tells that the page is none of a chain. After a refusal nothing was read.
 pub fn read_part<D: Device>(
-    pages: &mut PageMap,
+    pages: &PageMap,
     device: &mut D,
     page: u32,
     part: &mut [u8],
 ) -> Result<u32, PagesError>
-    requires open { IsOpen pages.old }
-    requires sectors { sectors_of pages.old ≤ D.sectors device.old }
+    requires open { IsOpen pages.now }
+    requires sectors { sectors_of pages.now ≤ D.sectors device.old }
     requires part { length part.old ≤ 4080 }
     ensures only { OnlyReads D.Device (result ≡ Err PagesError.Device) device.old device.new }
-    ensures unchanged { IsUnchanged pages.old pages.new }
-    ensures agrees { IfAgrees D.Device pages.old device.old
-        (Agrees pages.new (D.state device.new).disk) }
-    ensures open { IsOpen pages.new }
-    ensures link { OnPages D.Device pages.old device.old
+    ensures link { OnPages D.Device pages.now device.old
         (λ before. IfOk result (ReadsLink before page part.new)) }
     ensures kept { OnErr result (part.new ≡ part.old) }
-    ensures damaged { OnPages D.Device pages.old device.old
+    ensures damaged { OnPages D.Device pages.now device.old
         (NoLink page (ReturnsDamaged result)) }
-    ensures spent { ExactlyIfSpent pages.old result }
+    ensures spent { ExactlyIfSpent pages.now result }
     ensures cause { IfErr result IsReadRefusal }
 {
-    if let Some(bytes) = pages.view(page) {
-        return copy_part(page, bytes, part);
+    let mut held = [0; 4096];
+    let is_there = pages.read_past(device, page, &mut held)?;
+    if !is_there {
+        return Err(PagesError::Damaged);
     }
-    part_read(pages, device, page, part)
+    copy_part(page, &held, part)
 }
 
 /// Puts a part of a record on a page that wasn't in the map, in front of the page of the next part.
@@ -102,24 +100,20 @@ fn put(bytes: &mut [u8], at: usize, part: &[u8])
 /// The page after a page of a chain, after which there are so many. The last page isn't read. `Damaged` tells that no chain of that
 /// length stands there.
 pub(crate) fn page_after<D: Device>(
-    pages: &mut PageMap,
+    pages: &PageMap,
     device: &mut D,
     page: u32,
     more: usize,
 ) -> Result<u32, PagesError>
-    requires open { IsOpen pages.old }
-    requires sectors { sectors_of pages.old ≤ D.sectors device.old }
+    requires open { IsOpen pages.now }
+    requires sectors { sectors_of pages.now ≤ D.sectors device.old }
     ensures only { OnlyReads D.Device (result ≡ Err PagesError.Device) device.old device.new }
-    ensures unchanged { IsUnchanged pages.old pages.new }
-    ensures agrees { IfAgrees D.Device pages.old device.old
-        (Agrees pages.new (D.state device.new).disk) }
-    ensures open { IsOpen pages.new }
-    ensures page { OnOk result (IsPage pages.old page) }
-    ensures next { OnChain D.Device (suc more) page pages.old device.old
+    ensures page { OnOk result (IsPage pages.now page) }
+    ensures next { OnChain D.Device (suc more) page pages.now device.old
         (λ before. IfOk result (λ next. next ≡ next_at before page)) }
-    ensures damaged { OnNoChain D.Device (suc more) page pages.old device.old
+    ensures damaged { OnNoChain D.Device (suc more) page pages.now device.old
         (ReturnsDamaged result) }
-    ensures spent { ExactlyIfSpent pages.old result }
+    ensures spent { ExactlyIfSpent pages.now result }
     ensures cause { IfErr result IsReadRefusal }
 {
     if pages.is_spent() {
@@ -135,35 +129,6 @@ pub(crate) fn page_after<D: Device>(
         return Ok(0);
     }
     read_part(pages, device, page, &mut [])
-}
-
-/// The same of a page that isn't in memory. Refusals are those of `read_part`.
-fn part_read<D: Device>(
-    pages: &mut PageMap,
-    device: &mut D,
-    page: u32,
-    part: &mut [u8],
-) -> Result<u32, PagesError>
-    requires open { IsOpen pages.old }
-    requires sectors { sectors_of pages.old ≤ D.sectors device.old }
-    requires part { length part.old ≤ 4080 }
-    ensures only { OnlyReads D.Device (result ≡ Err PagesError.Device) device.old device.new }
-    ensures unchanged { IsUnchanged pages.old pages.new }
-    ensures agrees { IfAgrees D.Device pages.old device.old
-        (Agrees pages.new (D.state device.new).disk) }
-    ensures open { IsOpen pages.new }
-    ensures link { OnPages D.Device pages.old device.old
-        (λ before. IfOk result (ReadsLink before page part.new)) }
-    ensures kept { OnErr result (part.new ≡ part.old) }
-    ensures damaged { OnPages D.Device pages.old device.old
-        (NoLink page (ReturnsDamaged result)) }
-    ensures spent { ExactlyIfSpent pages.old result }
-    ensures cause { IfErr result IsReadRefusal }
-{
-    match pages.read(device, page)? {
-        Some(bytes) => copy_part(page, &bytes, part),
-        None => Err(PagesError::Damaged),
-    }
 }
 
 /// Copies the beginning of a part from the bytes of a page, and returns the next page. Refusals are those of `read_part`.

@@ -1,8 +1,8 @@
 //! A chain is read.
 ghost use Rattle.std.specs.Prelude.{◌≡◌, ◌≤◌, ◌<◌, Err, length, IfOk, IfErr, OnOk, OnErr};
 ghost use Rattle.station.specs.Calls.{OnlyReads};
-ghost use Rattle.pages.specs.Pages.{sectors_of, Agrees, IsOpen, IsUnchanged};
-ghost use Rattle.btree.specs.Calls.{IfAgrees, OnPages};
+ghost use Rattle.pages.specs.Pages.{sectors_of, IsOpen};
+ghost use Rattle.btree.specs.Calls.{OnPages};
 ghost use Rattle.btree.specs.Reading.{IsReadRefusal};
 ghost use Rattle.btree.specs.Results.{ReturnsDamaged, ExactlyIfSpent, ExactlyIfSpentAt};
 ghost use Rattle.chains.specs.Chain.{pages_for};
@@ -18,25 +18,21 @@ use station::Device;
 /// Fills a buffer of the record's length from the chain of its first page. `Damaged` tells that no chain of that length stands there.
 /// After a refusal the buffer begins with the bytes of some pages, and the rest of it is as it was.
 pub fn read_into<D: Device>(
-    pages: &mut PageMap,
+    pages: &PageMap,
     device: &mut D,
     first: u32,
     into: &mut [u8],
 ) -> Result<(), PagesError>
-    requires open { IsOpen pages.old }
-    requires sectors { sectors_of pages.old ≤ D.sectors device.old }
+    requires open { IsOpen pages.now }
+    requires sectors { sectors_of pages.now ≤ D.sectors device.old }
     ensures only { OnlyReads D.Device (result ≡ Err PagesError.Device) device.old device.new }
-    ensures unchanged { IsUnchanged pages.old pages.new }
-    ensures agrees { IfAgrees D.Device pages.old device.old
-        (Agrees pages.new (D.state device.new).disk) }
-    ensures open { IsOpen pages.new }
-    ensures bytes { OnPages D.Device pages.old device.old
+    ensures bytes { OnPages D.Device pages.now device.old
         (λ before. OnOk result (IsRecordOf before first into.new)) }
-    ensures damaged { OnNoChain D.Device (pages_for (length into.old)) first pages.old device.old
+    ensures damaged { OnNoChain D.Device (pages_for (length into.old)) first pages.now device.old
         (ReturnsDamaged result) }
-    ensures partly { OnPages D.Device pages.old device.old
+    ensures partly { OnPages D.Device pages.now device.old
         (λ before. OnErr result (IsPartlyRead before first into.old into.new)) }
-    ensures spent { ExactlyIfSpentAt (length into.old) pages.old result }
+    ensures spent { ExactlyIfSpentAt (length into.old) pages.now result }
     ensures cause { IfErr result IsReadRefusal }
 {
     let count = page_count(into.len());
@@ -54,26 +50,22 @@ pub fn read_into<D: Device>(
 /// Reads the part of this number of a record, from its page, to its place in the buffer, and returns the next page. `Damaged` tells that
 /// the page is none of a chain. After a refusal nothing was read.
 fn read_part_at<D: Device>(
-    pages: &mut PageMap,
+    pages: &PageMap,
     device: &mut D,
     page: u32,
     into: &mut [u8],
     place: usize,
 ) -> Result<u32, PagesError>
-    requires open { IsOpen pages.old }
-    requires sectors { sectors_of pages.old ≤ D.sectors device.old }
+    requires open { IsOpen pages.now }
+    requires sectors { sectors_of pages.now ≤ D.sectors device.old }
     requires place { place < pages_for (length into.old) }
     ensures only { OnlyReads D.Device (result ≡ Err PagesError.Device) device.old device.new }
-    ensures unchanged { IsUnchanged pages.old pages.new }
-    ensures agrees { IfAgrees D.Device pages.old device.old
-        (Agrees pages.new (D.state device.new).disk) }
-    ensures open { IsOpen pages.new }
-    ensures part { OnPages D.Device pages.old device.old
+    ensures part { OnPages D.Device pages.now device.old
         (λ before. IfOk result (ReadsPart before page place into.old into.new)) }
     ensures kept { OnErr result (into.new ≡ into.old) }
-    ensures damaged { OnPages D.Device pages.old device.old
+    ensures damaged { OnPages D.Device pages.now device.old
         (NoLink page (ReturnsDamaged result)) }
-    ensures spent { ExactlyIfSpent pages.old result }
+    ensures spent { ExactlyIfSpent pages.now result }
     ensures cause { IfErr result IsReadRefusal }
 {
     let end = part_end(place, into.len());

@@ -1,5 +1,5 @@
 //! Pages as committed, so many as the cache may hold, the most recently used first.
-ghost use Rattle.std.specs.Prelude.{◌≡◌, ◌<◌, ◌↔◌, ℕ, List, [], ◌∷◌, Ok, Err, Some, None, slice_index_or, nat_eq, option_copied, Contains, IfOk, IfNone, OnErr, IsSome};
+ghost use Rattle.std.specs.Prelude.{◌≡◌, ◌<◌, ◌↔◌, if◌then◌else◌, ℕ, List, [], ◌∷◌, true, false, Ok, Err, Some, None, slice_index_or, nat_eq, option_copied, Contains, IfOk, IfNone, OnErr, IsSome};
 ghost use Rattle.std.specs.List.{All};
 ghost use Rattle.std.specs.Map.{lookup};
 ghost use Rattle.station.specs.Calls.{OnlyReads};
@@ -10,7 +10,7 @@ ghost use Rattle.pages.specs.Cache.{IsCacheOf, Recalls, CachesPage, Loads, Keeps
 use crate::change::Change;
 use crate::error::PagesError;
 use crate::page_bytes::PageBytes;
-use crate::reading::{read_page, sector_of};
+use crate::reading::{fill_page, read_page, sector_of};
 use lru::LruCache;
 use station::Device;
 use std::alloc::{AllocError, Global};
@@ -173,6 +173,48 @@ pub(crate) fn load_page<D: Device>(
     bytes.fill(device, sector)?;
     *spare = push_page(cache, page, bytes);
     Ok(())
+}
+
+/// Reads the page of a number in a table into a buffer: from the cache where it is there, and otherwise from the device. It tells
+/// whether the table has it. Where it has not, the buffer stays.
+pub(crate) fn fetch_page<D: Device>(
+    cache: &LruCache<u32, PageBytes>,
+    table: &[u32],
+    device: &mut D,
+    page: u32,
+    bytes: &mut [u8; 4096],
+) -> Result<bool, PagesError>
+    requires { All (λ s. s < D.sectors device.old) table.now }
+    ensures only { OnlyReads D.Device (result ≡ Err PagesError.Device) device.old device.new }
+
+    // The page is that of the table, where the cache's pages are.
+    ensures page { (changed : List ℕ) → D.is_honest device.old
+        → IsCacheOf (pages_in (D.state device.old).disk.present table.now) changed cache.now.entries
+        → IfOk result (λ is_there.
+        slice_index_or (pages_in (D.state device.old).disk.present table.now) page None
+        ≡ (if is_there then Some bytes.new else None)) }
+    ensures hit { IsSome (lookup (nat_eq page) cache.now.entries) → device.new ≡ device.old }
+    ensures absent { result ≡ Ok false → (device.new ≡ device.old) × (bytes.new ≡ bytes.old) }
+    ensures cause { OnErr result (result ≡ Err PagesError.Device) }
+{
+    match seen_page(cache, page) {
+        Some(held) => Ok(copy_page(Some(held), bytes)),
+        None => fill_page(table, device, page, bytes),
+    }
+}
+
+/// Copies the bytes of a page into a buffer, if there are any, and tells whether there are.
+pub(crate) fn copy_page(page: Option<&[u8; 4096]>, bytes: &mut [u8; 4096]) -> bool
+    ensures copied { option_copied page.entry ≡ (if result then Some bytes.new else None) }
+    ensures absent { result ≡ false → bytes.new ≡ bytes.old }
+{
+    match page {
+        Some(held) => {
+            *bytes = *held;
+            true
+        }
+        None => false,
+    }
 }
 
 /// A page that was changed comes into the cache, if it has bytes, so far as memory allows.

@@ -14,8 +14,8 @@ ghost use Rattle.pages.specs.Errors.{IsEditRefusal, IsAllocateRefusal, IsCommitR
 ghost use Rattle.pages.specs.Use.{free_count};
 
 use crate::cache::{
-    forget_page, keep_changes, load_page, new_cache, promote_page, recall_page, seen_page,
-    take_page,
+    copy_page, fetch_page, forget_page, keep_changes, load_page, new_cache, promote_page,
+    recall_page, seen_page, take_page,
 };
 use crate::change::{
     Change, clear_places, find_change, forget_run, is_kept, pass_runs, reserve_change, set_change,
@@ -296,6 +296,48 @@ impl PageMap {
                 self.volume.table.entries(),
                 device,
                 page,
+            ),
+        }
+    }
+
+    /// Reads a page of the map past the cache, which stays with its order of use. It tells whether the map has the page. Where it has
+    /// not, the buffer stays.
+    pub fn read_past<D: Device>(
+        &self,
+        device: &mut D,
+        page: u32,
+        bytes: &mut [u8; 4096],
+    ) -> Result<bool, PagesError>
+        requires open { IsOpen self.now }
+        requires sectors { sectors_of self.now ≤ D.sectors device.old }
+        ensures only { OnlyReads D.Device (result ≡ Err PagesError.Device) device.old device.new }
+        ensures page { D.is_honest device.old → Agrees self.now (D.state device.old).disk → IfOk
+            result (λ is_there. page_of (map_now self.now (D.state device.old).disk.present) page
+            ≡ (if is_there then Some bytes.new else None)) }
+
+        // A page in memory is read without the device, and so is none.
+        ensures changed { Contains (changed_pages_of self.now) page → device.new ≡ device.old }
+        ensures hit { IsSome (lookup (nat_eq page) (cache_of self.now).entries)
+            → device.new ≡ device.old }
+        ensures absent { result ≡ Ok false
+            → (device.new ≡ device.old) × (bytes.new ≡ bytes.old) }
+
+        // `Spent` comes exactly where the value is spent, and otherwise the device alone refuses.
+        ensures spent { result ≡ Err PagesError.Spent ↔ is_spent self.now ≡ true }
+        ensures cause { OnErr result
+            ((result ≡ Err PagesError.Device) ⊎ (result ≡ Err PagesError.Spent)) }
+    {
+        if self.spent {
+            return Err(PagesError::Spent);
+        }
+        match find_change(&self.changes, &self.places, page) {
+            Some(i) => Ok(copy_page(self.changes[i].view(), bytes)),
+            None => fetch_page(
+                &self.cache,
+                self.volume.table.entries(),
+                device,
+                page,
+                bytes,
             ),
         }
     }

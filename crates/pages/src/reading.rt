@@ -1,5 +1,5 @@
 //! The maps of a volume are read.
-ghost use Rattle.std.specs.Prelude.{◌≡◌, ◌<◌, ◌*◌, ◌↔◌, ℕ, Err, length, slice_index, slice_index_or, Option, None, Ok, IfOk, OnErr};
+ghost use Rattle.std.specs.Prelude.{◌≡◌, ◌<◌, ◌*◌, ◌↔◌, if◌then◌else◌, ℕ, Err, length, slice_index, slice_index_or, Option, true, false, Some, None, Ok, IfOk, OnErr};
 ghost use Rattle.std.specs.List.{All};
 ghost use Rattle.station.specs.Calls.{OnlyReads};
 ghost use Rattle.pages.specs.Image.{map_at, map_part, pages_in};
@@ -76,4 +76,27 @@ pub(crate) fn read_page<D: Device>(
     let mut bytes = [0; 4096];
     device.read(sector, &mut bytes)?;
     Ok(Some(bytes))
+}
+
+/// Reads the page of a number in a table into a buffer, and tells whether the table has it. Where it has not, the buffer stays.
+pub(crate) fn fill_page<D: Device>(
+    table: &[u32],
+    device: &mut D,
+    page: u32,
+    bytes: &mut [u8; 4096],
+) -> Result<bool, PagesError>
+    requires { All (λ s. s < D.sectors device.old) table.now }
+    ensures only { OnlyReads D.Device (result ≡ Err PagesError.Device) device.old device.new }
+    ensures page { D.is_honest device.old → IfOk result (λ is_there.
+        slice_index_or (pages_in (D.state device.old).disk.present table.now) page None
+        ≡ (if is_there then Some bytes.new else None)) }
+    ensures absent { result ≡ Ok false → (device.new ≡ device.old) × (bytes.new ≡ bytes.old) }
+    ensures cause { OnErr result (result ≡ Err PagesError.Device) }
+{
+    let sector = sector_of(table, page);
+    if sector == 0 {
+        return Ok(false);
+    }
+    device.read(sector, bytes)?;
+    Ok(true)
 }

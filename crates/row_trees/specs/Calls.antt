@@ -1,12 +1,11 @@
 -- What the calls on a tree of rows are asked for, said once.
-use Rattle.std.specs.Prelude.{◌≡◌, ◌≢◌, ◌<◌, ◌+◌, ℕ, List, length, Result, Err, Option}
+use Rattle.std.specs.Prelude.{◌≡◌, ◌<◌, ◌+◌, ℕ, List, length, Result, Err}
 use Rattle.station.specs.Calls.{OnlyReads}
-use Rattle.station.specs.Disk.{Sector}
 use Rattle.station.specs.declared.device.Device.{Ghosts as Devices}
 use Rattle.pages.specs.Pages.{catalog_of, committed_of, changed_pages_of, Agrees, IsOpen, SameCommitted}
 use Rattle.pages.specs.Use.{free_count}
 use Rattle.pages.specs.declared.error.PagesError.{PagesError}
-use Rattle.pages.specs.declared.error.PagesError.TheVariants.{Device, Full}
+use Rattle.pages.specs.declared.error.PagesError.TheVariants.{Full}
 use Rattle.pages.specs.declared.page_map.PageMap.{PageMap}
 use Rattle.btree.specs.Calls.{pages_on}
 use Rattle.btree.specs.Entries.{Entry}

@@ -1,5 +1,5 @@
 -- An entry with its whole record.
-use Rattle.std.specs.Prelude.{ℕ, List, Option, Some, None}
+use Rattle.std.specs.Prelude.{ℕ, Option, Some, None}
 use Rattle.std.specs.declared.vec.Vec.{Vec}
 use Rattle.btree.specs.Entries.{Entry}
 

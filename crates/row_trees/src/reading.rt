@@ -1,9 +1,9 @@
 //! The record of an entry is read.
 ghost use Rattle.std.specs.Prelude.{◌≡◌, ◌≤◌, ◌<◌, Err, length, take, OnOk, OnErr, IfErr};
+ghost use Rattle.station.specs.Calls.{OnlyReads};
 ghost use Rattle.pages.specs.Pages.{sectors_of, IsOpen};
 ghost use Rattle.btree.specs.Calls.{OnPages};
 ghost use Rattle.btree.specs.Results.{OnlyIfSpent};
-ghost use Rattle.volume_format.specs.Calls.{LooksAt};
 ghost use Rattle.row_trees.specs.Reading.{IsRecordLength, IsRecordRefusal, HasRecord, ReadsRecord};
 
 use crate::row_tree::RowTree;
@@ -15,28 +15,27 @@ use station::Device;
 use std::alloc::Global;
 
 impl RowTree {
-    /// Fills a buffer of the length of a record with the record of an entry. After a refusal the buffer is as it was. `Damaged` means
-    /// that the entry has no such record.
+    /// Fills a buffer of the length of a record with the record of an entry. A record in a chain is read past the cache of pages. After a
+    /// refusal the buffer is as it was. `Damaged` means that the entry has no such record.
     pub fn read_record<D: Device>(
         &self,
         alloc: Global,
-        pages: &mut PageMap,
+        pages: &PageMap,
         device: &mut D,
         entry: &Entry,
         into: &mut [u8],
     ) -> Result<(), PagesError>
-        requires open { IsOpen pages.old }
-        requires sectors { sectors_of pages.old ≤ D.sectors device.old }
-        ensures looks { LooksAt D.Device (result ≡ Err PagesError.Device) pages.old device.old
-            pages.new device.new }
-        ensures record { OnPages D.Device pages.old device.old
+        requires open { IsOpen pages.now }
+        requires sectors { sectors_of pages.now ≤ D.sectors device.old }
+        ensures only { OnlyReads D.Device (result ≡ Err PagesError.Device) device.old device.new }
+        ensures record { OnPages D.Device pages.now device.old
             (λ before. IsRecordLength self.now.record_bytes (length into.old) → OnOk result
             (ReadsRecord self.now.record_bytes before entry.now into.old into.new)) }
-        ensures damaged { OnPages D.Device pages.old device.old
+        ensures damaged { OnPages D.Device pages.now device.old
             (λ before. result ≡ Err PagesError.Damaged
             → HasRecord self.now.record_bytes before entry.now (length into.old) → ⊥) }
         ensures kept { OnErr result (into.new ≡ into.old) }
-        ensures spent { OnlyIfSpent pages.old result }
+        ensures spent { OnlyIfSpent pages.now result }
         ensures cause { IfErr result IsRecordRefusal }
     {
         let value = entry.value();

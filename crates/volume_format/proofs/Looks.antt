@@ -6,6 +6,7 @@ use Rattle.station.proofs.Calls.{reads_nothing, reads_then}
 use Rattle.pages.specs.Pages.{IsOpen}
 use Rattle.pages.specs.declared.page_map.PageMap.{PageMap}
 use Rattle.btree.proofs.Frames.{unchanged_still, unchanged_on}
+use Rattle.chains.proofs.Unwritten.{still_agrees}
 use Rattle.volume_format.specs.Calls.{LooksAt}
 
 pub reads_blamed : {D : Type 0} (d : Devices D) (A B : Type 0) (a b : D) → (B → A) → OnlyReads d A a b
@@ -38,4 +39,13 @@ module _ {D : Type 0} (d : Devices D) where
     unchanged = unchanged_on p q r first.unchanged second.unchanged;
     agrees = λ honest agrees. second.agrees (first.only.honest.0 honest) (first.agrees honest agrees);
     is_open = second.is_open;
+  }
+
+  -- a call that reads past the cache of pages, which stay
+  pub looks_past : (A : Type 0) (p : PageMap) (a b : D) → OnlyReads d A a b → IsOpen p → LooksAt d A p a p b
+  looks_past A p a b only is = record {
+    only = only;
+    unchanged = unchanged_still p;
+    agrees = λ honest agrees. still_agrees p (d.state a) (d.state b) (only.state honest) agrees;
+    is_open = is;
   }

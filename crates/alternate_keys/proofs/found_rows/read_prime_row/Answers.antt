@@ -13,7 +13,7 @@ use Rattle.row_trees.specs.Reading.{HasRecord, IsRecordLength}
 use Rattle.file_bytes.specs.Rows.{prime_key_length}
 use Rattle.volume_format.specs.Calls.{LooksAt}
 use Rattle.volume_format.specs.Trees.{entry_under}
-use Rattle.volume_format.proofs.Looks.{looks_blamed, looks_nowhere}
+use Rattle.volume_format.proofs.Looks.{looks_blamed, looks_nowhere, looks_past}
 use Rattle.records.specs.declared.key.KeyOfReference.TheVariants.{Prime}
 use Rattle.alternate_keys.specs.Seen.{number_in}
 use Rattle.alternate_keys.proofs.Faults.{refused_by_call}
@@ -49,7 +49,7 @@ pub returns-in_err-read_record-clause-looks : goal.returns-in_err-read_record-cl
 returns-in_err-read_record-clause-looks g c =
     looks_blamed g.D.Device (c.read_record.result ≡ Err Device) _ _ _ _ _
     (λ is. refused_by_call c.in_err-read_record.was c.from_residual-in_err-read_record.ensures.1 is)
-    c.read_record.ensures.looks
+    (looks_past g.D.Device _ c.args.pages.now _ _ c.read_record.ensures.only c.requires.open)
 
 pub returns-in_err-read_record-clause-damaged : goal.returns-in_err-read_record-clause-damaged
 returns-in_err-read_record-clause-damaged g c = λ honest agrees spec row entry_is same under fits told.
@@ -60,7 +60,7 @@ returns-in_err-read_record-clause-damaged g c = λ honest agrees spec row entry_
 
 pub returns-clause-looks : goal.returns-clause-looks
 returns-clause-looks g c = looks_blamed g.D.Device (c.read_record.result ≡ Err Device) _ _ _ _ _ (λ is. never_ok is)
-    c.read_record.ensures.looks
+    (looks_past g.D.Device _ c.args.pages.now _ _ c.read_record.ensures.only c.requires.open)
 
 pub returns-clause-found : goal.returns-clause-found
 returns-clause-found g c = λ spec row rows same key under.

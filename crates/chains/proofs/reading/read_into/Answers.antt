@@ -1,38 +1,47 @@
-use Rattle.std.proofs.Common.{◌≡◌, ◌≢◌, ◌<◌, ◌+◌, true, ℕ, List, length, refl, sym}
-use Rattle.std.proofs.Common.{subst, ◌∙◌, arith}
-use Rattle.std.specs.Prelude.{◌↔◌, Option, Err, IfErr, OnErr}
-use Rattle.std.proofs.Common.{inr}
+use Rattle.std.proofs.Common.{◌≡◌, ◌≢◌, ◌≤◌, ◌<◌, ◌+◌, true, ℕ, length, refl, sym}
+use Rattle.std.proofs.Common.{subst, ◌∙◌, arith, inr}
+use Rattle.std.specs.Prelude.{◌↔◌, Err, IfErr, OnErr}
 use Rattle.std.proofs.lemmas.Result.{err_from_is_err_and}
-use Rattle.station.specs.Disk.{Sector}
+use Rattle.station.specs.State.{State}
 use Rattle.station.specs.Calls.{OnlyReads}
 use Rattle.station.proofs.Calls.{reads_then, reads_nothing}
-use Rattle.pages.specs.Pages.{is_spent}
+use Rattle.pages.specs.Pages.{is_spent, sectors_of, Agrees}
 use Rattle.pages.specs.declared.error.PagesError.TheVariants.{Device, Damaged, Spent}
 use Rattle.btree.specs.Changes.{pages_of_map}
 use Rattle.btree.specs.Reading.{IsReadRefusal}
-use Rattle.btree.proofs.Frames.{unchanged_still, unchanged_on, same_pages, false_unless}
+use Rattle.btree.proofs.Frames.{false_unless}
 use Rattle.btree.proofs.Passing.{passed, never_ok, still_error, damaged_not_device, damaged_not_spent, reads_where}
-use Rattle.btree.proofs.Passing.{sectors_on}
 use Rattle.chains.specs.Chain.{IsLink, Stands, page_at, pages_for}
 use Rattle.chains.specs.Changes.{IsPartlyRead}
 use Rattle.chains.specs.Links.{ReadsPart}
 use Rattle.chains.proofs.Parts.{follows_start, follows_next, buffer_start}
 use Rattle.chains.proofs.Parts.{buffer_step, reads_some, reads_all, stops_at}
+use Rattle.chains.proofs.Unwritten.{still_agrees}
 use Rattle.chains.proofs.Refusing.{some_bytes}
+use Rattle.chains.proofs.reading.read_into.Given.{Over}
 use Rattle.chains.proofs.reading.read_into.Goals as goal
 
 pub loop-place-init : goal.loop-place-init
 loop-place-init g c = record {
   only = reads_nothing g.D.Device c.args.device.now;
-  unchanged = unchanged_still c.args.pages.now;
-  agrees = λ honest agrees. agrees;
-  is_open = c.requires.open;
   size = refl;
   follows = λ honest agrees.
       follows_start (pages_of_map c.args.pages.now (g.D.Device.state c.args.device.now).disk.present) c.args.first;
   bytes = λ honest agrees. buffer_start c.args.into.now;
   unspent = λ some. absurd (omega (arith, some));
 }
+
+-- the part of a page, of the pages as they were at the call
+part_of : (g : Over) (c : goal.In_ok-next g) → g.D.Device.is_honest c.args.device.now
+    → Agrees c.args.pages.now (g.D.Device.state c.args.device.now).disk
+    → ReadsPart (pages_of_map c.args.pages.now (g.D.Device.state c.args.device.now).disk.present) c.loop-place.page
+    c.loop-place.place c.loop-place.into c.read_part_at.new.into c.in_ok-next.next
+part_of g c honest agrees =
+    let only = c.loop-place.invariant.only in
+    let same = only.state honest in
+    subst (λ (s : State). ReadsPart (pages_of_map c.args.pages.now s.disk.present) c.loop-place.page
+    c.loop-place.place c.loop-place.into c.read_part_at.new.into c.in_ok-next.next) same
+    (c.in_ok-next.ensures.part (only.honest.0 honest) (still_agrees c.args.pages.now _ _ same agrees))
 
 pub loop-place-preserved : goal.loop-place-preserved
 loop-place-preserved g c =
@@ -42,37 +51,22 @@ loop-place-preserved g c =
     record {
       only = reads_then g.D.Device ⊥ _ ⊥ c.args.device.now loop.device c.read_part_at.new.device (λ e. absurd e)
           loop.invariant.only read.only;
-      unchanged =
-          unchanged_on c.args.pages.now loop.pages c.read_part_at.new.pages loop.invariant.unchanged read.unchanged;
-      agrees = λ h a. read.agrees (loop.invariant.only.honest.0 h) (loop.invariant.agrees h a);
-      is_open = read.open;
       size = c.read_part_at.auto.into ∙ loop.invariant.size;
       follows = λ h a.
-          let same = same_pages c.args.pages.now loop.pages (g.D.Device.state c.args.device.now)
-          (g.D.Device.state loop.device) loop.invariant.unchanged (loop.invariant.only.state h) in
-          let part : ReadsPart pages loop.page loop.place loop.into c.read_part_at.new.into c.in_ok-next.next =
-          subst (λ (p : List (Option Sector)). ReadsPart p loop.page loop.place loop.into c.read_part_at.new.into
-          c.in_ok-next.next) same
-          (c.in_ok-next.ensures.part (loop.invariant.only.honest.0 h) (loop.invariant.agrees h a)) in
+          let part = part_of g c h a in
           follows_next pages loop.place c.args.first loop.page c.in_ok-next.next (loop.invariant.follows h a) part.some
           part.link part.next_is part.long;
       bytes = λ h a.
-          let same = same_pages c.args.pages.now loop.pages (g.D.Device.state c.args.device.now)
-          (g.D.Device.state loop.device) loop.invariant.unchanged (loop.invariant.only.state h) in
-          let part : ReadsPart pages loop.page loop.place loop.into c.read_part_at.new.into c.in_ok-next.next =
-          subst (λ (p : List (Option Sector)). ReadsPart p loop.page loop.place loop.into c.read_part_at.new.into
-          c.in_ok-next.next) same
-          (c.in_ok-next.ensures.part (loop.invariant.only.honest.0 h) (loop.invariant.agrees h a)) in
           buffer_step pages c.args.into.now loop.into c.read_part_at.new.into loop.place c.args.first loop.page
           c.in_ok-next.next (let test = c.loop-place-test.true in let count = c.page_count-count.ensures in omega arith)
-          loop.invariant.size (loop.invariant.follows h a) (loop.invariant.bytes h a) part;
-      unspent = λ some. false_unless (is_spent c.args.pages.now) (λ was. never_ok (sym c.in_ok-next.was
-          ∙ read.spent.1 (loop.invariant.unchanged.committed.spent ∙ was)));
+          loop.invariant.size (loop.invariant.follows h a) (loop.invariant.bytes h a) (part_of g c h a);
+      unspent = λ some.
+          false_unless (is_spent c.args.pages.now) (λ was. never_ok (sym c.in_ok-next.was ∙ read.spent.1 was));
     }
 
 pub read_part_at-requires-clause-sectors : goal.read_part_at-requires-clause-sectors
-read_part_at-requires-clause-sectors g c = sectors_on c.args.pages.now c.loop-place.pages _ _
-    c.loop-place.invariant.unchanged.committed.volume c.loop-place.invariant.only.sectors c.requires.sectors
+read_part_at-requires-clause-sectors g c =
+    subst (λ (n : ℕ). sectors_of c.args.pages.now ≤ n) (sym c.loop-place.invariant.only.sectors) c.requires.sectors
 
 pub read_part_at-requires-clause-place : goal.read_part_at-requires-clause-place
 read_part_at-requires-clause-place g c =
@@ -87,28 +81,20 @@ returns-in_err-next-clause-only g c = passed c.from_residual.result c.in_err-nex
     (reads_then g.D.Device _ _ _ _ _ _ (λ is. inr (still_error is)) c.loop-place.invariant.only
     c.in_err-next.ensures.only)
 
-pub returns-in_err-next-clause-unchanged : goal.returns-in_err-next-clause-unchanged
-returns-in_err-next-clause-unchanged g c = unchanged_on c.args.pages.now c.loop-place.pages c.read_part_at.new.pages
-    c.loop-place.invariant.unchanged c.read_part_at.ensures.unchanged
-
-pub returns-in_err-next-clause-agrees : goal.returns-in_err-next-clause-agrees
-returns-in_err-next-clause-agrees g c = λ honest agrees. c.read_part_at.ensures.agrees
-    (c.loop-place.invariant.only.honest.0 honest) (c.loop-place.invariant.agrees honest agrees)
-
 pub returns-in_err-next-clause-damaged : goal.returns-in_err-next-clause-damaged
 returns-in_err-next-clause-damaged g c = λ honest agrees is stands.
     let loop = c.loop-place in
     let pages = pages_of_map c.args.pages.now (g.D.Device.state c.args.device.now).disk.present in
-    let same = same_pages c.args.pages.now loop.pages (g.D.Device.state c.args.device.now)
-    (g.D.Device.state loop.device) loop.invariant.unchanged (loop.invariant.only.state honest) in
+    let same = loop.invariant.only.state honest in
     let from = err_from_is_err_and c.from_residual.result c.from_residual.ensures.1 in
     let damaged : c.read_part_at.result ≡ Err Damaged = cc in
     let test = c.loop-place-test.true in
     let count = c.page_count-count.ensures in
     let here = stops_at pages (pages_for (length c.args.into.now)) loop.place c.args.first loop.page (omega arith)
     (loop.invariant.follows honest agrees) stands in
-    c.read_part_at.ensures.damaged (loop.invariant.only.honest.0 honest) (loop.invariant.agrees honest agrees) damaged
-    here.0 (subst (λ (p : List (Option Sector)). IsLink (page_at p loop.page)) (sym same) here.1)
+    c.read_part_at.ensures.damaged (loop.invariant.only.honest.0 honest)
+    (still_agrees c.args.pages.now _ _ same agrees) damaged here.0
+    (subst (λ (s : State). IsLink (page_at (pages_of_map c.args.pages.now s.disk.present) loop.page)) (sym same) here.1)
 
 pub returns-in_err-next-clause-partly : goal.returns-in_err-next-clause-partly
 returns-in_err-next-clause-partly g c = λ honest agrees.
@@ -123,16 +109,15 @@ returns-in_err-next-clause-partly g c = λ honest agrees.
 
 pub returns-in_err-next-clause-spent : goal.returns-in_err-next-clause-spent
 returns-in_err-next-clause-spent g c =
-    let same = c.loop-place.invariant.unchanged.committed.spent in
     let test = c.loop-place-test.true in
     let count = c.page_count-count.ensures in
     passed c.from_residual.result c.in_err-next.field-0.0 c.from_residual.ensures.1
     (λ r. (r ≡ Err Spent) ↔ ((is_spent c.args.pages.now ≡ true) × (length c.args.into.now ≢ 0))) (
       λ is. (
-        sym same ∙ c.in_err-next.ensures.spent.0 (still_error is),
+        c.in_err-next.ensures.spent.0 (still_error is),
         some_bytes (length c.args.into.now) c.loop-place.place (omega arith),
       ),
-      λ was. still_error (c.in_err-next.ensures.spent.1 (same ∙ was.0)),
+      λ was. still_error (c.in_err-next.ensures.spent.1 was.0),
     )
 
 pub returns-in_err-next-clause-cause : goal.returns-in_err-next-clause-cause

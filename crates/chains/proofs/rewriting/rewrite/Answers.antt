@@ -1,19 +1,19 @@
-use Rattle.std.proofs.Common.{◌≡◌, ◌≢◌, ◌<◌, ◌≤◌, ◌+◌, ◌-◌, true, ℕ, suc, List, [], length, set, refl, sym}
+use Rattle.std.proofs.Common.{◌≡◌, ◌≢◌, ◌<◌, ◌≤◌, ◌+◌, ◌-◌, true, ℕ, suc, List, length, set, refl, sym}
 use Rattle.std.proofs.Common.{ap, subst, ◌∙◌}
 use Rattle.std.proofs.Common.{arith, inr}
 use Rattle.std.specs.Prelude.{◌↔◌, Option, Some, Err, IfErr}
 use Rattle.station.specs.Disk.{Sector}
 use Rattle.station.specs.Calls.{OnlyReads}
 use Rattle.station.proofs.Calls.{reads_then, reads_nothing}
-use Rattle.pages.specs.Image.{Map}
 use Rattle.pages.specs.Pages.{changed_pages_of, filled_of, is_spent}
 use Rattle.pages.specs.declared.error.PagesError.TheVariants.{Device, Damaged, Spent}
 use Rattle.btree.specs.Changes.{pages_of_map}
 use Rattle.btree.specs.Refusals.{IsChangeRefusal}
 use Rattle.btree.proofs.Frames.{false_unless}
-use Rattle.btree.proofs.Passing.{passed, never_ok, still_error, reads_where, sectors_on, committed_on, page_stays}
+use Rattle.btree.proofs.Passing.{passed, never_ok, still_error, reads_where, sectors_on, committed_on}
 use Rattle.btree.proofs.Passing.{read_is_change, edit_is_put, put_is_rest, rest_is_change, put_not_device}
 use Rattle.chains.specs.Chain.{Stands, pages_for, link_bytes}
+use Rattle.chains.proofs.Unwritten.{still_agrees}
 use Rattle.chains.proofs.Refusing.{some_bytes, changed_more, filled_more, few_of_all, edit_not_damaged}
 use Rattle.station.specs.State.{State}
 use Rattle.chains.specs.Chain.{next_at}
@@ -46,13 +46,11 @@ loop-place-preserved g c =
       only = reads_then g.D.Device ⊥ _ ⊥ c.args.device.now loop.device c.page_after.new.device (λ e. absurd e)
           loop.invariant.only next.only;
       committed = committed_on c.args.pages.now loop.pages c.edit.new.self loop.invariant.committed
-          (committed_on loop.pages c.page_after.new.pages c.edit.new.self next.unchanged.committed
-          c.edit.ensures.keeps.committed);
-      catalog = c.edit.ensures.keeps.catalog ∙ ap (λ (m : Map). m.catalog) (next.unchanged.map [])
-          ∙ loop.invariant.catalog;
+          c.edit.ensures.keeps.committed;
+      catalog = c.edit.ensures.keeps.catalog ∙ loop.invariant.catalog;
       agrees = λ h a. c.edit.ensures.keeps.agrees (g.D.Device.state c.page_after.new.device).disk
-          (next.agrees (loop.invariant.only.honest.0 h) (loop.invariant.agrees h a));
-      is_open = c.edit.ensures.keeps.is_open next.open;
+          (still_agrees loop.pages _ _ (next.only.state (loop.invariant.only.honest.0 h)) (loop.invariant.agrees h a));
+      is_open = c.edit.ensures.keeps.is_open loop.invariant.is_open;
       rest = λ h a stands.
           let now = pages_of_map loop.pages image in
           let test = c.loop-place-test.true in
@@ -71,22 +69,17 @@ loop-place-preserved g c =
           (subst (λ (p : List (Option Sector)). Stands p (suc (c.page_count-count.result - 1 - loop.place)) loop.page)
           (sym there) here))) in
           let low = link_low now loop.page here.1 in
-          let same = ap (λ (m : Map). m.pages) (next.unchanged.map image) in
           let link = Some (link_bytes c.in_ok-next.next c.part_of.result.now) in
           writes_step (pages_of_map c.args.pages.now image) c.args.bytes.now c.part_of.result.now c.args.first now
           (pages_of_map c.edit.new.self image) loop.place loop.page c.in_ok-next.next c.part_of.ensures is
           (sets_once now (pages_of_map c.edit.new.self image) loop.page link low (c.in_ok-edit.ensures.map image
-          ∙ ap (λ (p : List (Option Sector)). set p loop.page (Some c.link-spelled.result)) same
           ∙ ap (λ (b : List ℕ). set now loop.page (Some b)) c.link-spelled.ensures.bytes))
           c.link-spelled.ensures.reads before;
-      changed_pages = changed_more (changed_pages_of c.args.pages.now) (changed_pages_of c.page_after.new.pages)
-          loop.page (changed_pages_of c.edit.new.self) loop.place
-          (subst (λ (l : List ℕ). length l ≤ length (changed_pages_of c.args.pages.now) + loop.place)
-          (sym next.unchanged.changed_pages) loop.invariant.changed_pages) c.in_ok-edit.ensures.changes_page;
-      filled = filled_more (filled_of c.args.pages.now) (filled_of c.page_after.new.pages) (filled_of c.edit.new.self)
-          loop.place
-          (subst (λ (n : ℕ). n ≤ filled_of c.args.pages.now + loop.place) (sym next.unchanged.filled)
-          loop.invariant.filled) c.edit.ensures.filled;
+      changed_pages = changed_more (changed_pages_of c.args.pages.now) (changed_pages_of loop.pages) loop.page
+          (changed_pages_of c.edit.new.self) loop.place loop.invariant.changed_pages
+          c.in_ok-edit.ensures.changes_page;
+      filled = filled_more (filled_of c.args.pages.now) (filled_of loop.pages) (filled_of c.edit.new.self) loop.place
+          loop.invariant.filled c.edit.ensures.filled;
       unspent = λ some. false_unless (is_spent c.args.pages.now) (λ was. never_ok (sym c.in_ok-next.was
           ∙ next.spent.1 (loop.invariant.committed.spent ∙ was)));
     }
@@ -96,8 +89,7 @@ page_after-requires-clause-sectors g c = sectors_on c.args.pages.now c.loop-plac
     c.loop-place.invariant.committed.volume c.loop-place.invariant.only.sectors c.requires.sectors
 
 pub edit-requires-clause-page : goal.edit-requires-clause-page
-edit-requires-clause-page g c = page_stays c.loop-place.pages c.page_after.new.pages c.loop-place.page
-    c.page_after.ensures.unchanged.committed c.in_ok-next.ensures.page
+edit-requires-clause-page g c = c.in_ok-next.ensures.page
 
 -- A page that isn't read.
 pub returns-in_err-next-clause-only : goal.returns-in_err-next-clause-only
@@ -128,30 +120,27 @@ pub returns-in_err-next-clause-changed_pages : goal.returns-in_err-next-clause-c
 returns-in_err-next-clause-changed_pages g c =
     let test = c.loop-place-test.true in
     let count = c.page_count-count.ensures in
-    few_of_all (length (changed_pages_of c.args.pages.now)) (length (changed_pages_of c.page_after.new.pages))
+    few_of_all (length (changed_pages_of c.args.pages.now)) (length (changed_pages_of c.loop-place.pages))
     c.loop-place.place (pages_for (length c.args.bytes.now))
-    (subst (λ (l : List ℕ). length l ≤ length (changed_pages_of c.args.pages.now) + c.loop-place.place)
-    (sym c.page_after.ensures.unchanged.changed_pages) c.loop-place.invariant.changed_pages) (omega arith)
+    c.loop-place.invariant.changed_pages (omega arith)
 
 pub returns-in_err-next-clause-filled : goal.returns-in_err-next-clause-filled
 returns-in_err-next-clause-filled g c =
     let test = c.loop-place-test.true in
     let count = c.page_count-count.ensures in
-    few_of_all (filled_of c.args.pages.now) (filled_of c.page_after.new.pages) c.loop-place.place
-    (pages_for (length c.args.bytes.now)) (subst (λ (n : ℕ). n ≤ filled_of c.args.pages.now + c.loop-place.place)
-    (sym c.page_after.ensures.unchanged.filled) c.loop-place.invariant.filled) (omega arith)
+    few_of_all (filled_of c.args.pages.now) (filled_of c.loop-place.pages) c.loop-place.place
+    (pages_for (length c.args.bytes.now)) c.loop-place.invariant.filled (omega arith)
 
 pub returns-in_err-next-clause-committed : goal.returns-in_err-next-clause-committed
-returns-in_err-next-clause-committed g c = committed_on c.args.pages.now c.loop-place.pages c.page_after.new.pages
-    c.loop-place.invariant.committed c.page_after.ensures.unchanged.committed
+returns-in_err-next-clause-committed g c = c.loop-place.invariant.committed
 
 pub returns-in_err-next-clause-catalog : goal.returns-in_err-next-clause-catalog
-returns-in_err-next-clause-catalog g c =
-    ap (λ (m : Map). m.catalog) (c.page_after.ensures.unchanged.map []) ∙ c.loop-place.invariant.catalog
+returns-in_err-next-clause-catalog g c = c.loop-place.invariant.catalog
 
 pub returns-in_err-next-clause-agrees : goal.returns-in_err-next-clause-agrees
-returns-in_err-next-clause-agrees g c = λ honest agrees. c.page_after.ensures.agrees
-    (c.loop-place.invariant.only.honest.0 honest) (c.loop-place.invariant.agrees honest agrees)
+returns-in_err-next-clause-agrees g c = λ honest agrees.
+    still_agrees c.loop-place.pages _ _ (c.page_after.ensures.only.state (c.loop-place.invariant.only.honest.0 honest))
+    (c.loop-place.invariant.agrees honest agrees)
 
 pub returns-in_err-next-clause-spent : goal.returns-in_err-next-clause-spent
 returns-in_err-next-clause-spent g c =
@@ -193,7 +182,7 @@ returns-in_err-edit-clause-changed_pages g c =
     few_of_all (length (changed_pages_of c.args.pages.now)) (length (changed_pages_of c.edit.new.self))
     c.loop-place.place (pages_for (length c.args.bytes.now))
     (subst (λ (l : List ℕ). length l ≤ length (changed_pages_of c.args.pages.now) + c.loop-place.place)
-    (sym (c.in_err-edit.ensures.unchanged ∙ c.page_after.ensures.unchanged.changed_pages))
+    (sym c.in_err-edit.ensures.unchanged)
     c.loop-place.invariant.changed_pages) (omega arith)
 
 pub returns-in_err-edit-clause-filled : goal.returns-in_err-edit-clause-filled
@@ -202,30 +191,30 @@ returns-in_err-edit-clause-filled g c =
     let count = c.page_count-count.ensures in
     few_of_all (filled_of c.args.pages.now) (filled_of c.edit.new.self) c.loop-place.place
     (pages_for (length c.args.bytes.now)) (subst (λ (n : ℕ). n ≤ filled_of c.args.pages.now + c.loop-place.place)
-    (sym (c.in_err-edit.ensures.unfilled ∙ c.page_after.ensures.unchanged.filled)) c.loop-place.invariant.filled)
+    (sym c.in_err-edit.ensures.unfilled) c.loop-place.invariant.filled)
     (omega arith)
 
 pub returns-in_err-edit-clause-committed : goal.returns-in_err-edit-clause-committed
 returns-in_err-edit-clause-committed g c = committed_on c.args.pages.now c.loop-place.pages c.edit.new.self
-    c.loop-place.invariant.committed (committed_on c.loop-place.pages c.page_after.new.pages c.edit.new.self
-    c.page_after.ensures.unchanged.committed c.edit.ensures.keeps.committed)
+    c.loop-place.invariant.committed c.edit.ensures.keeps.committed
 
 pub returns-in_err-edit-clause-catalog : goal.returns-in_err-edit-clause-catalog
 returns-in_err-edit-clause-catalog g c = c.edit.ensures.keeps.catalog
-    ∙ ap (λ (m : Map). m.catalog) (c.page_after.ensures.unchanged.map []) ∙ c.loop-place.invariant.catalog
+    ∙ c.loop-place.invariant.catalog
 
 pub returns-in_err-edit-clause-agrees : goal.returns-in_err-edit-clause-agrees
 returns-in_err-edit-clause-agrees g c = λ honest agrees.
-    c.edit.ensures.keeps.agrees (g.D.Device.state c.page_after.new.device).disk (c.page_after.ensures.agrees
-    (c.loop-place.invariant.only.honest.0 honest) (c.loop-place.invariant.agrees honest agrees))
+    c.edit.ensures.keeps.agrees (g.D.Device.state c.page_after.new.device).disk
+    (still_agrees c.loop-place.pages _ _ (c.page_after.ensures.only.state (c.loop-place.invariant.only.honest.0 honest))
+    (c.loop-place.invariant.agrees honest agrees))
 
 pub returns-in_err-edit-clause-open : goal.returns-in_err-edit-clause-open
-returns-in_err-edit-clause-open g c = c.edit.ensures.keeps.is_open c.page_after.ensures.open
+returns-in_err-edit-clause-open g c = c.edit.ensures.keeps.is_open c.loop-place.invariant.is_open
 
 pub returns-in_err-edit-clause-spent : goal.returns-in_err-edit-clause-spent
 returns-in_err-edit-clause-spent g c =
     let x = c.in_err-edit.field-0.0 in
-    let same = c.page_after.ensures.unchanged.committed.spent ∙ c.loop-place.invariant.committed.spent in
+    let same = c.loop-place.invariant.committed.spent in
     let test = c.loop-place-test.true in
     let count = c.page_count-count.ensures in
     passed c.from_residual-in_err-edit.result x c.from_residual-in_err-edit.ensures.1

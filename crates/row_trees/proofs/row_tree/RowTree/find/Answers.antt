@@ -5,7 +5,7 @@ use Rattle.pages.specs.Pages.{map_now}
 use Rattle.pages.specs.declared.error.PagesError.TheVariants.{Device}
 use Rattle.btree.proofs.Passing.{passed, never_ok, still_error}
 use Rattle.volume_format.specs.Calls.{LooksAt}
-use Rattle.volume_format.proofs.Looks.{looks_then}
+use Rattle.volume_format.proofs.Looks.{looks_then, looks_past}
 use Rattle.row_trees.specs.RowTree.{ChainedTree, IsRowTree}
 use Rattle.row_trees.proofs.Calling.{looks_by, refused_by_call}
 use Rattle.row_trees.proofs.FoundRows.{none_got, short_got, long_got, read_whole, read_on}
@@ -38,11 +38,11 @@ returns-in_err-read_into-clause-looks g c =
     let read = c.in_err-read_into.ensures in
     passed c.from_residual-in_err-read_into.result c.in_err-read_into.field-0.0
     c.from_residual-in_err-read_into.ensures.1
-    (λ r. LooksAt g.D.Device (r ≡ Err Device) c.args.pages.now c.args.device.now c.read_into.new.pages
+    (λ r. LooksAt g.D.Device (r ≡ Err Device) c.args.pages.now c.args.device.now c.get.new.pages
     c.read_into.new.device)
     (looks_then g.D.Device _ _ _ _ _ _ _ _ _ (λ is. inr (still_error is))
     (looks_by g.D.Device _ _ _ _ _ got.only got.unchanged got.agrees got.open)
-    (looks_by g.D.Device _ _ _ _ _ read.only read.unchanged read.agrees read.open))
+    (looks_past g.D.Device _ _ _ _ read.only got.open))
 
 pub returns-in_err-read_into-clause-damaged : goal.returns-in_err-read_into-clause-damaged
 returns-in_err-read_into-clause-damaged g c = λ honest agrees planted is told.
@@ -68,7 +68,7 @@ returns-in_err-extend_from_slice-clause-looks g c =
     looks_then g.D.Device _ _ _ _ _ _ _ _ _
     (λ is. inr (never_device _ c.from_residual-in_err-extend_from_slice.ensures.1 is))
     (looks_by g.D.Device _ _ _ _ _ got.only got.unchanged got.agrees got.open)
-    (looks_by g.D.Device _ _ _ _ _ read.only read.unchanged read.agrees read.open)
+    (looks_past g.D.Device _ _ _ _ read.only got.open)
 
 pub returns-clause-looks : goal.returns-clause-looks
 returns-clause-looks g c =
@@ -76,7 +76,7 @@ returns-clause-looks g c =
     let read = c.read_into.ensures in
     looks_then g.D.Device _ _ _ _ _ _ _ _ _ (λ is. never_ok is)
     (looks_by g.D.Device _ _ _ _ _ got.only got.unchanged got.agrees got.open)
-    (looks_by g.D.Device _ _ _ _ _ read.only read.unchanged read.agrees read.open)
+    (looks_past g.D.Device _ _ _ _ read.only got.open)
 
 pub returns-clause-row : goal.returns-clause-row
 returns-clause-row g c = λ honest agrees planted is.
