@@ -14,7 +14,7 @@ ghost use Rattle.file_bytes.specs.Rows.{prime_key_length};
 ghost use Rattle.volume_format.specs.Calls.{LooksAt};
 ghost use Rattle.volume_format.specs.Trees.{entry_under};
 ghost use Rattle.volume_format.specs.Pairs.{IsUnder};
-ghost use Rattle.row_trees.specs.Reading.{IsRecordRefusal};
+ghost use Rattle.chains.specs.Refusals.{IsRecordRefusal};
 ghost use Rattle.alternate_keys.specs.Aims.{found_entry};
 ghost use Rattle.alternate_keys.specs.Searches.{OnPairEntry};
 ghost use Rattle.alternate_keys.specs.Seen.{IsRowEntry, number_in, begins_with_value};

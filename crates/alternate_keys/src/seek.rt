@@ -4,7 +4,7 @@ ghost use Rattle.pages.specs.Pages.{sectors_of, IsOpen};
 ghost use Rattle.btree.specs.Results.{OnlyIfSpent};
 ghost use Rattle.records.specs.Stores.{spec_of, IsKey, record_of};
 ghost use Rattle.volume_format.specs.Calls.{LooksAt};
-ghost use Rattle.row_trees.specs.Reading.{IsRecordRefusal};
+ghost use Rattle.chains.specs.Refusals.{IsRecordRefusal};
 ghost use Rattle.alternate_keys.specs.Searches.{OnSought};
 
 use crate::found_rows::{read_alternate_row, read_prime_row};

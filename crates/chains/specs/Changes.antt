@@ -1,5 +1,5 @@
--- What the calls on a chain do to the pages of the map, and to a buffer.
-use Rattle.std.specs.Prelude.{◌≡◌, ◌≤◌, ◌*◌, ◌++◌, ℕ, List, [], length, take, drop, Option}
+-- What the calls on a chain do to the pages of the map, and what is a record of a chain.
+use Rattle.std.specs.Prelude.{◌≡◌, ℕ, List, [], length, take, Option}
 use Rattle.station.specs.Disk.{Sector}
 use Rattle.btree.specs.Moves.{Moves}
 use Rattle.chains.specs.Chain.{Stands, chain_pages, chain_bytes, pages_for, with_zeros}
@@ -29,10 +29,3 @@ Releases before count after first = Moves before (chain_pages before count first
 pub record IsRecordOf (pages : List (Option Sector)) (first : ℕ) (bytes : List ℕ) : Type 0 where
   pub stands : Stands pages (pages_for (length bytes)) first
   pub bytes_are : bytes ≡ take (length bytes) (chain_bytes pages (pages_for (length bytes)) first)
-
--- A buffer after a read that was refused: it begins with the bytes of some pages from the first one on, and the rest is
--- as it was.
-pub record IsPartlyRead (pages : List (Option Sector)) (first : ℕ) (old new : List ℕ) : Type 0 where
-  pub count : ℕ
-  pub few : count ≤ pages_for (length old)
-  pub bytes_are : new ≡ take (length old) (chain_bytes pages count first ++ drop (count * 4080) old)

@@ -4,3 +4,4 @@ pub mod Changes
 pub mod Calls
 pub mod Rows
 pub mod Laws
+pub mod Refusals

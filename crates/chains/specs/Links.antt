@@ -1,5 +1,5 @@
 -- One page of a chain: what is read of it, and what is written.
-use Rattle.std.specs.Prelude.{◌≡◌, ◌⊎◌, ◌<◌, ◌≤◌, ◌+◌, ◌*◌, ◌++◌, ℕ, List, [], length, take, drop, Option, Some, None}
+use Rattle.std.specs.Prelude.{◌≡◌, ◌⊎◌, ◌<◌, ◌≤◌, ◌++◌, ℕ, List, [], length, take, Option, Some, None}
 use Rattle.station.specs.Disk.{Sector}
 use Rattle.chains.specs.Chain.{IsLink, next_in, part_on, page_at, next_at, link_bytes}
 
@@ -25,23 +25,18 @@ pub record PutsLink (before : List (Option Sector)) (next : ℕ) (part : List �
   pub reads : next_in (link_bytes next part) ≡ next
   pub sets : Sets before page (Some (link_bytes next part)) after
 
--- a page is one of a chain, and this is its next page and the beginning of its part
-pub record ReadsLink (pages : List (Option Sector)) (page : ℕ) (part : List ℕ) (next : ℕ) : Type 0 where
+-- a page is one of a chain, and this is its next page
+pub record LinksTo (pages : List (Option Sector)) (page next : ℕ) : Type 0 where
   pub some : 0 < page
   pub link : IsLink (page_at pages page)
   pub next_is : next ≡ next_at pages page
-  pub part_is : part ≡ take (length part) (part_on (page_at pages page))
   pub long : length (part_on (page_at pages page)) ≡ 4080
 
 -- where this is told, the page is none of a chain
 abbrev pub NoLink : ℕ → Type 0 → List (Option Sector) → Type 0
 NoLink page told pages = told → 0 < page → IsLink (page_at pages page) → ⊥
 
--- the page is one of a chain, this is its next page, and its part came to its place in a buffer
-pub record ReadsPart (pages : List (Option Sector)) (page place : ℕ) (old new : List ℕ) (next : ℕ) : Type 0 where
-  pub some : 0 < page
-  pub link : IsLink (page_at pages page)
-  pub next_is : next ≡ next_at pages page
-  pub long : length (part_on (page_at pages page)) ≡ 4080
-  pub bytes_are : new
-      ≡ take (length old) (take (place * 4080) old ++ (part_on (page_at pages page) ++ drop (place * 4080 + 4080) old))
+-- it is, and so many bytes of its part came to the end of a list
+pub record AddsPart (pages : List (Option Sector)) (page size : ℕ) (old new : List ℕ) (next : ℕ) : Type 0 where
+  pub links : LinksTo pages page next
+  pub bytes_are : new ≡ old ++ take size (part_on (page_at pages page))

@@ -16,8 +16,8 @@ pub use laws::{
     rows_rewrite, rows_stay, tree_moves, values_dont_steer,
 };
 pub use laying::lay;
-pub use link::read_part;
+pub use link::next_page;
 pub use part::page_count;
-pub use reading::read_into;
+pub use reading::read_record;
 pub use releasing::release;
 pub use rewriting::rewrite;

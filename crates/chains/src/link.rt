@@ -1,16 +1,17 @@
 //! One page of a chain is read or written.
-ghost use Rattle.std.specs.Prelude.{◌≡◌, ◌≤◌, ◌<◌, ◌+◌, Err, Some, suc, List, length, take, IfOk, IfErr, OnOk, OnErr};
+ghost use Rattle.std.specs.Prelude.{◌≡◌, ◌≤◌, ◌<◌, ◌+◌, Err, Some, suc, List, length, IfOk, IfErr, OnOk, OnErr};
 ghost use Rattle.station.specs.Disk.{Sector};
 ghost use Rattle.station.specs.Calls.{OnlyReads};
-ghost use Rattle.pages.specs.Pages.{sectors_of, Agrees, IsOpen, IsPage, IsUnchanged, KeepsCommitted};
+ghost use Rattle.pages.specs.Pages.{sectors_of, IsOpen, IsPage, KeepsCommitted};
 ghost use Rattle.btree_pages.specs.Bytes.{put_at};
-ghost use Rattle.btree.specs.Calls.{IfAgrees, OnPages};
+ghost use Rattle.btree.specs.Calls.{OnPages};
 ghost use Rattle.btree.specs.Changes.{pages_of_map};
 ghost use Rattle.btree.specs.Reading.{IsReadRefusal};
 ghost use Rattle.btree.specs.Refusals.{IsWriteRefusal};
-ghost use Rattle.btree.specs.Results.{ExactlyIfSpent, FullIfUsed, FewChanged, FewFilled, ReturnsDamaged};
-ghost use Rattle.chains.specs.Chain.{IsLink, next_in, part_in, next_at, link_bytes};
-ghost use Rattle.chains.specs.Links.{PutsLink, ReadsLink, NoLink};
+ghost use Rattle.btree.specs.Results.{OnlyIfSpent, ExactlyIfSpent, FullIfUsed, FewChanged, FewFilled, ReturnsDamaged};
+ghost use Rattle.chains.specs.Chain.{IsLink, next_in, page_at, next_at, link_bytes};
+ghost use Rattle.chains.specs.Links.{PutsLink, LinksTo, AddsPart, NoLink};
+ghost use Rattle.chains.specs.Refusals.{IsRecordRefusal};
 ghost use Rattle.chains.specs.Calls.{OnChain, OnNoChain};
 
 use byteorder::{BigEndian, ByteOrder};
@@ -26,32 +27,19 @@ const NEXT_AT: usize = 4;
 /// Where the part of the record begins.
 const PART_AT: usize = 16;
 
-/// Reads the beginning of the part of a record that is on a page of a chain, as much as there is room for, and returns the next page.
-/// It reads past the cache of pages, which stays. `Damaged` tells that the page is none of a chain. After a refusal nothing was read.
-pub fn read_part<D: Device>(
-    pages: &PageMap,
-    device: &mut D,
-    page: u32,
-    part: &mut [u8],
-) -> Result<u32, PagesError>
+/// The page after a page of a chain. It is read past the cache of pages, which stays. `Damaged` tells that the page is none of a chain.
+pub fn next_page<D: Device>(pages: &PageMap, device: &mut D, page: u32) -> Result<u32, PagesError>
     requires open { IsOpen pages.now }
     requires sectors { sectors_of pages.now ≤ D.sectors device.old }
-    requires part { length part.old ≤ 4080 }
     ensures only { OnlyReads D.Device (result ≡ Err PagesError.Device) device.old device.new }
     ensures link { OnPages D.Device pages.now device.old
-        (λ before. IfOk result (ReadsLink before page part.new)) }
-    ensures kept { OnErr result (part.new ≡ part.old) }
+        (λ before. IfOk result (LinksTo before page)) }
     ensures damaged { OnPages D.Device pages.now device.old
         (NoLink page (ReturnsDamaged result)) }
     ensures spent { ExactlyIfSpent pages.now result }
     ensures cause { IfErr result IsReadRefusal }
 {
-    let mut held = [0; 4096];
-    let is_there = pages.read_past(device, page, &mut held)?;
-    if !is_there {
-        return Err(PagesError::Damaged);
-    }
-    copy_part(page, &held, part)
+    read_link(pages, device, page, &mut [0; 4096])
 }
 
 /// Puts a part of a record on a page that wasn't in the map, in front of the page of the next part.
@@ -128,26 +116,75 @@ pub(crate) fn page_after<D: Device>(
     if more == 0 {
         return Ok(0);
     }
-    read_part(pages, device, page, &mut [])
+    next_page(pages, device, page)
 }
 
-/// Copies the beginning of a part from the bytes of a page, and returns the next page. Refusals are those of `read_part`.
-fn copy_part(page: u32, bytes: &[u8; 4096], part: &mut [u8]) -> Result<u32, PagesError>
-    requires { length part.old ≤ 4080 }
+/// Adds the beginning of the part that is on a page of a chain to a list, so many bytes, and returns the next page. It reads past the
+/// cache of pages, by way of a buffer. `Damaged` tells that the page is none of a chain.
+pub(crate) fn add_part<D: Device>(
+    pages: &PageMap,
+    device: &mut D,
+    page: u32,
+    size: usize,
+    held: &mut [u8; 4096],
+    bytes: &mut Vec<u8>,
+) -> Result<u32, PagesError>
+    requires open { IsOpen pages.now }
+    requires sectors { sectors_of pages.now ≤ D.sectors device.old }
+    requires size { size ≤ 4080 }
+    ensures only { OnlyReads D.Device (result ≡ Err PagesError.Device) device.old device.new }
+    ensures part { OnPages D.Device pages.now device.old
+        (λ before. IfOk result (AddsPart before page size bytes.old.items bytes.new.items)) }
+    ensures long { OnOk result
+        (length bytes.new.items ≡ length bytes.old.items + size) }
+    ensures damaged { OnPages D.Device pages.now device.old
+        (NoLink page (ReturnsDamaged result)) }
+    ensures spent { OnlyIfSpent pages.now result }
+    ensures cause { IfErr result IsRecordRefusal }
+{
+    let next = read_link(pages, device, page, held)?;
+    bytes.extend_from_slice(&held[PART_AT..PART_AT + size])?;
+    Ok(next)
+}
+
+/// Reads a page of a chain into a buffer, and returns the next page. Refusals are those of `next_page`.
+fn read_link<D: Device>(
+    pages: &PageMap,
+    device: &mut D,
+    page: u32,
+    held: &mut [u8; 4096],
+) -> Result<u32, PagesError>
+    requires open { IsOpen pages.now }
+    requires sectors { sectors_of pages.now ≤ D.sectors device.old }
+    ensures only { OnlyReads D.Device (result ≡ Err PagesError.Device) device.old device.new }
+    ensures link { OnPages D.Device pages.now device.old
+        (λ before. IfOk result (LinksTo before page)) }
+    ensures held { OnPages D.Device pages.now device.old
+        (λ before. OnOk result (page_at before page ≡ Some held.new)) }
+    ensures damaged { OnPages D.Device pages.now device.old
+        (NoLink page (ReturnsDamaged result)) }
+    ensures spent { ExactlyIfSpent pages.now result }
+    ensures cause { IfErr result IsReadRefusal }
+{
+    let is_there = pages.read_past(device, page, held)?;
+    if !is_there {
+        return Err(PagesError::Damaged);
+    }
+    follow(page, held)
+}
+
+/// The next page that the bytes of a page of a chain name. `Damaged` tells that the page is none of a chain.
+fn follow(page: u32, bytes: &[u8; 4096]) -> Result<u32, PagesError>
     ensures long { length bytes.now ≡ 4096 }
     ensures some { OnOk result (0 < page) }
     ensures link { OnOk result (IsLink (Some bytes.now)) }
     ensures next { IfOk result (λ next. next ≡ next_in bytes.now) }
-    ensures part { OnOk result (part.new ≡ take (length part.old) (part_in bytes.now)) }
-    ensures kept { OnErr result (part.new ≡ part.old) }
     ensures damaged { OnErr result (0 < page → IsLink (Some bytes.now) → ⊥) }
     ensures cause { OnErr result (result ≡ Err PagesError.Damaged) }
 {
     if page == 0 || bytes[0] != LINK_BYTE {
         return Err(PagesError::Damaged);
     }
-    let end = PART_AT + part.len();
-    part.copy_from_slice(&bytes[PART_AT..end]);
     Ok(next_of(bytes))
 }
 

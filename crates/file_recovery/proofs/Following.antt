@@ -4,7 +4,6 @@ use Rattle.std.proofs.Common.{refl}
 use Rattle.std.proofs.Common.{sym, ap, subst, ◌∙◌, arith, append_assoc, length-append, length-drop, take, drop}
 use Rattle.std.specs.Prelude.{Option, Result, IfOk, if◌then◌else◌}
 use Rattle.std.proofs.lemmas.Bool.{ltb-true}
-use Rattle.std.proofs.lemmas.List.{take_at}
 use Rattle.std.proofs.lemmas.Result.{IfOk-weaker}
 use Rattle.station.specs.Disk.{Sector}
 use Rattle.btree.specs.Entries.{Entry}
@@ -210,13 +209,9 @@ long_other spec next pages entry old long key value passed whole new key_is valu
     (λ row is key_too value_too. never row is (key_too ∙ sym key_is) (value_too ∙ sym passed_is)))
 
 -- The value with its record in place.
-pub whole_made : (n : ℕ) (record_bytes old value made : List ℕ)
-    → made ≡ take n (record_bytes ++ drop (length record_bytes) old) ++ take (length value - 4) (drop 4 value)
-    → length record_bytes ≡ n → made ≡ record_bytes ++ drop 4 value
-whole_made n record_bytes old value made is long =
-    is ∙ ap (λ (l : List ℕ). l ++ take (length value - 4) (drop 4 value))
-    (take_at record_bytes (drop (length record_bytes) old) n long)
-    ∙ ap (λ (l : List ℕ). record_bytes ++ l) (rest_is 4 value)
+pub whole_made : (record_bytes value made : List ℕ)
+    → made ≡ record_bytes ++ take (length value - 4) (drop 4 value) → made ≡ record_bytes ++ drop 4 value
+whole_made record_bytes value made is = is ∙ ap (λ (l : List ℕ). record_bytes ++ l) (rest_is 4 value)
 
 pub whole_long : (record_bytes value made : List ℕ) (size : ℕ) → made ≡ record_bytes ++ drop 4 value
     → length record_bytes ≡ size → 4 ≤ length value → length made + 4 ≡ size + length value

@@ -1,5 +1,6 @@
 //! A record that is in a chain of pages is read, and the pages of its chain are marked.
-ghost use Rattle.std.specs.Prelude.{◌≡◌, ◌≤◌, ◌+◌, false, Err, length, IfOk, IfErr, IsOkUnless, OnOk};
+ghost use Rattle.std.specs.Prelude.{◌≡◌, ◌≤◌, ◌+◌, false, Err, length, IfOk, IfErr, OnOk};
+ghost use Rattle.station.specs.Calls.{OnlyReads};
 ghost use Rattle.pages.specs.Pages.{is_spent, sectors_of, IsOpen};
 ghost use Rattle.btree.specs.Calls.{OnPages};
 ghost use Rattle.chains.specs.Chain.{pages_for};
@@ -11,7 +12,7 @@ ghost use Rattle.file_recovery.specs.Chained.{MarksChain, MarksLink, NoMarkedCha
 
 use btree_check::mark;
 use byteorder::{BigEndian, ByteOrder};
-use chains::{page_count, read_into, read_part};
+use chains::{next_page, page_count, read_record};
 use pages::PageMap;
 use records::{FileSpec, StoreFault};
 use station::Device;
@@ -49,21 +50,11 @@ pub(crate) fn whole_value<D: Device>(
 {
     let size = file.record_length as usize;
     let first = BigEndian::read_u32(value);
-    let mut whole = zeros(alloc, size)?;
+    let rest = &value[PAGE_NUMBER_BYTES..];
     check_chain(pages, device, first, size, seen)?;
-    read_record(pages, device, first, &mut whole)?;
-    whole.extend_from_slice(&value[PAGE_NUMBER_BYTES..])?;
+    let mut whole = record_of(alloc, pages, device, first, size, rest.len())?;
+    whole.extend_from_slice(rest)?;
     Ok(whole)
-}
-
-/// So many zeros.
-fn zeros(alloc: Global, count: usize) -> Result<Vec<u8>, StoreFault>
-    ensures long { IfOk result (λ zeros. length zeros.items ≡ count) }
-    ensures memory { IsOkUnless result StoreFault.Memory }
-{
-    let mut zeros = Vec::new(alloc);
-    zeros.resize(count, 0)?;
-    Ok(zeros)
 }
 
 /// Whether a chain of a record of so many bytes stands from a page on. Its pages are marked. `Damaged` means that there is none that can
@@ -120,32 +111,34 @@ fn mark_link<D: Device>(
     if !mark(seen, page) {
         return Err(StoreFault::Damaged);
     }
-    match read_part(pages, device, page, &mut []) {
+    match next_page(pages, device, page) {
         Ok(next) => Ok(next),
         Err(error) => Err(to_fault(error)),
     }
 }
 
-/// Fills a buffer of the record's length from the chain of its first page.
-fn read_record<D: Device>(
-    pages: &mut PageMap,
+/// The record of so many bytes in the chain of its first page, in a list with room for so many bytes more.
+fn record_of<D: Device>(
+    alloc: Global,
+    pages: &PageMap,
     device: &mut D,
     first: u32,
-    into: &mut [u8],
-) -> Result<(), StoreFault>
-    requires open { IsOpen pages.old }
-    requires unspent { is_spent pages.old ≡ false }
-    requires sectors { sectors_of pages.old ≤ D.sectors device.old }
-    ensures looks { LooksAt D.Device (result ≡ Err StoreFault.Device) pages.old device.old pages.new
-        device.new }
-    ensures record { OnPages D.Device pages.old device.old
-        (λ before. OnOk result (IsRecordOf before first into.new)) }
-    ensures damaged { OnNoChain D.Device (pages_for (length into.old)) first pages.old device.old
+    size: usize,
+    more: usize,
+) -> Result<Vec<u8>, StoreFault>
+    requires open { IsOpen pages.now }
+    requires unspent { is_spent pages.now ≡ false }
+    requires sectors { sectors_of pages.now ≤ D.sectors device.old }
+    ensures only { OnlyReads D.Device (result ≡ Err StoreFault.Device) device.old device.new }
+    ensures bytes { OnPages D.Device pages.now device.old
+        (λ before. IfOk result (λ read. IsRecordOf before first read.items)) }
+    ensures long { IfOk result (λ read. length read.items ≡ size) }
+    ensures damaged { OnNoChain D.Device (pages_for size) first pages.now device.old
         (result ≡ Err StoreFault.Damaged) }
     ensures cause { IfErr result IsReadFault }
 {
-    match read_into(pages, device, first, into) {
-        Ok(()) => Ok(()),
+    match read_record(alloc, pages, device, first, size, more) {
+        Ok(bytes) => Ok(bytes),
         Err(error) => Err(to_fault(error)),
     }
 }

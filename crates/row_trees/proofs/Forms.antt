@@ -102,12 +102,10 @@ fits_long zero layout long fits = absurd (long refl)
 fits_long (suc more) layout long fits = fits
 
 -- A value that was put together of a record and the rest of another value.
-pub value_made : (n : ℕ) (bytes old two value made : List ℕ)
-    → made ≡ take n (bytes ++ drop (length bytes) old) ++ take (length two - 4) (drop 4 two) → n ≡ length bytes
-    → two ≡ value → made ≡ bytes ++ drop 4 value
-value_made n bytes old two value made is many same =
-    is ∙ ap (λ (l : List ℕ). l ++ take (length two - 4) (drop 4 two)) (record_back n bytes _ (sym many))
-    ∙ ap (λ (l : List ℕ). bytes ++ l) (take_all (length two - 4) (drop 4 two) (sym (length-drop 4 two)))
+pub value_made : (bytes two value made : List ℕ) → made ≡ bytes ++ take (length two - 4) (drop 4 two) → two ≡ value
+    → made ≡ bytes ++ drop 4 value
+value_made bytes two value made is same =
+    is ∙ ap (λ (l : List ℕ). bytes ++ l) (take_all (length two - 4) (drop 4 two) (sym (length-drop 4 two)))
     ∙ ap (λ (l : List ℕ). bytes ++ drop 4 l) same
 
 pub rest_is : (two value rest : List ℕ) → take (length two - 4) (drop 4 two) ≡ rest → two ≡ value

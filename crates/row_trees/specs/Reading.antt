@@ -1,8 +1,6 @@
--- What a read of a record is asked for, and why it is refused.
+-- What a read of a record is asked for.
 use Rattle.std.specs.Prelude.{◌≡◌, ◌≤◌, ℕ, zero, suc, List, length, take, Option, ⊤}
 use Rattle.station.specs.Disk.{Sector}
-use Rattle.pages.specs.declared.error.PagesError.{PagesError}
-use Rattle.pages.specs.declared.error.PagesError.TheVariants.{Device, Full, Damaged, Memory, Spent, ForeignMark}
 use Rattle.btree.specs.Entries.{Entry}
 use Rattle.chains.specs.Rows.{HasChain, unrolled_entry}
 use Rattle.volume_format.specs.Chained.{form_of}
@@ -23,12 +21,3 @@ pub record ReadsRecord (record_bytes : ℕ) (pages : List (Option Sector)) (entr
   where
     pub has : HasRecord record_bytes pages entry (length old)
     pub bytes_are : new ≡ take (length old) (unrolled_entry (form_of record_bytes) pages entry).value
-
--- a page is refused by the device, by a spent map, or as damaged, or memory runs out
-abbrev pub IsRecordRefusal : PagesError → Type 0
-IsRecordRefusal Device = ⊤
-IsRecordRefusal Full = ⊥
-IsRecordRefusal Damaged = ⊤
-IsRecordRefusal Memory = ⊤
-IsRecordRefusal Spent = ⊤
-IsRecordRefusal ForeignMark = ⊥

@@ -5,13 +5,13 @@ ghost use Rattle.btree.specs.Entries.{entry_with};
 ghost use Rattle.btree.specs.Results.{OnlyIfSpent};
 ghost use Rattle.volume_format.specs.Calls.{LooksAt};
 ghost use Rattle.row_trees.specs.Calls.{OnRowTree};
-ghost use Rattle.row_trees.specs.Reading.{IsRecordRefusal};
+ghost use Rattle.chains.specs.Refusals.{IsRecordRefusal};
 ghost use Rattle.row_trees.specs.RowTree.{HasWholeLengths};
 
 use crate::row::Row;
 use crate::row_tree::RowTree;
 use crate::stored_value::{PAGE_NUMBER_BYTES, first_page};
-use chains::read_into;
+use chains::read_record;
 use pages::{PageMap, PagesError};
 use station::Device;
 use std::alloc::Global;
@@ -45,10 +45,11 @@ impl RowTree {
         if self.record_bytes == 0 {
             return Ok(Some(Row { entry, long: None }));
         }
-        let mut value = Vec::new(alloc);
-        value.resize(self.record_bytes as usize, 0)?;
-        read_into(pages, device, first_page(entry.value()), &mut value)?;
-        value.extend_from_slice(&entry.value()[PAGE_NUMBER_BYTES..])?;
+        let first = first_page(entry.value());
+        let rest = &entry.value()[PAGE_NUMBER_BYTES..];
+        let size = self.record_bytes as usize;
+        let mut value = read_record(alloc, pages, device, first, size, rest.len())?;
+        value.extend_from_slice(rest)?;
         Ok(Some(Row {
             entry,
             long: Some(value),

@@ -4,12 +4,13 @@ ghost use Rattle.station.specs.Calls.{OnlyReads};
 ghost use Rattle.pages.specs.Pages.{sectors_of, IsOpen};
 ghost use Rattle.btree.specs.Calls.{OnPages};
 ghost use Rattle.btree.specs.Results.{OnlyIfSpent};
-ghost use Rattle.row_trees.specs.Reading.{IsRecordLength, IsRecordRefusal, HasRecord, ReadsRecord};
+ghost use Rattle.chains.specs.Refusals.{IsRecordRefusal};
+ghost use Rattle.row_trees.specs.Reading.{IsRecordLength, HasRecord, ReadsRecord};
 
 use crate::row_tree::RowTree;
 use crate::stored_value::{PAGE_NUMBER_BYTES, first_page};
 use btree::Entry;
-use chains::read_into;
+use chains::read_record;
 use pages::{PageMap, PagesError};
 use station::Device;
 use std::alloc::Global;
@@ -46,9 +47,7 @@ impl RowTree {
         if is_short {
             return Err(PagesError::Damaged);
         }
-        let mut record = Vec::new(alloc);
-        record.resize(into.len(), 0)?;
-        read_into(pages, device, first_page(value), &mut record)?;
+        let record = read_record(alloc, pages, device, first_page(value), into.len(), 0)?;
         into.copy_from_slice(&record);
         Ok(())
     }

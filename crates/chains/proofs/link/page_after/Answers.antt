@@ -46,7 +46,7 @@ returns-then-more-eq0-clause-damaged g c = λ honest agrees is stands. never_ok 
 
 pub returns-clause-damaged : goal.returns-clause-damaged
 returns-clause-damaged g c = λ honest agrees is stands.
-    c.read_part.ensures.damaged honest agrees is stands.0 stands.1
+    c.next_page.ensures.damaged honest agrees is stands.0 stands.1
 
 pub returns-then-more-eq0-clause-next : goal.returns-then-more-eq0-clause-next
 returns-then-more-eq0-clause-next g c = λ honest agrees stands.
@@ -56,8 +56,8 @@ returns-then-more-eq0-clause-next g c = λ honest agrees stands.
 pub returns-clause-next : goal.returns-clause-next
 returns-clause-next g c = λ honest agrees stands.
     let pages = pages_of_map c.args.pages.now (g.D.Device.state c.args.device.now).disk.present in
-    IfOk-weaker c.read_part.result _ (λ next. next ≡ next_at pages c.args.page) (λ next link. link.next_is)
-    (c.read_part.ensures.link honest agrees)
+    IfOk-weaker c.next_page.result _ (λ next. next ≡ next_at pages c.args.page) (λ next link. link.next_is)
+    (c.next_page.ensures.link honest agrees)
 
 pub returns-then-is_spent-clause-spent : goal.returns-then-is_spent-clause-spent
 returns-then-is_spent-clause-spent g c = (λ is. sym c.is_spent.ensures ∙ c.if-is_spent.true, λ was. refl)
@@ -85,4 +85,4 @@ returns-clause-page g c =
     let low : c.args.page < length c.args.pages.now.volume.table =
     let count = c.page_count.ensures.count in let inside = c.if-page_count-page.false in omega arith in
     let some : 0 < c.args.page = let none = c.if-page-eq0.false in omega arith in
-    on_ok_anyway c.read_part.result (some, low)
+    on_ok_anyway c.next_page.result (some, low)

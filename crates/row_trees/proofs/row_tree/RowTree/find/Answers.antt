@@ -1,4 +1,4 @@
-use Rattle.std.proofs.Common.{◌≡◌, inr, Err, List, length, sym, ap, subst, ◌∙◌, arith}
+use Rattle.std.proofs.Common.{◌≡◌, inr, Err, List, refl, sym, ap, subst, ◌∙◌}
 use Rattle.std.specs.Prelude.{Option}
 use Rattle.station.specs.Disk.{Sector}
 use Rattle.pages.specs.Pages.{map_now}
@@ -32,39 +32,37 @@ returns-then-self-eq0-clause-row g c = λ honest agrees planted is.
     (subst (λ (t : ChainedTree). IsRowTree pages t planted) (sym c.self.view_is) is)
     (c.in_ok-entry.ensures.entry honest agrees) c.in-Some.is c.if-self-eq0.true
 
-pub returns-in_err-read_into-clause-looks : goal.returns-in_err-read_into-clause-looks
-returns-in_err-read_into-clause-looks g c =
+pub returns-in_err-value-clause-looks : goal.returns-in_err-value-clause-looks
+returns-in_err-value-clause-looks g c =
     let got = c.get.ensures in
-    let read = c.in_err-read_into.ensures in
-    passed c.from_residual-in_err-read_into.result c.in_err-read_into.field-0.0
-    c.from_residual-in_err-read_into.ensures.1
+    let read = c.in_err-value.ensures in
+    passed c.from_residual-in_err-value.result c.in_err-value.field-0.0
+    c.from_residual-in_err-value.ensures.1
     (λ r. LooksAt g.D.Device (r ≡ Err Device) c.args.pages.now c.args.device.now c.get.new.pages
-    c.read_into.new.device)
+    c.read_record.new.device)
     (looks_then g.D.Device _ _ _ _ _ _ _ _ _ (λ is. inr (still_error is))
     (looks_by g.D.Device _ _ _ _ _ got.only got.unchanged got.agrees got.open)
     (looks_past g.D.Device _ _ _ _ read.only got.open))
 
-pub returns-in_err-read_into-clause-damaged : goal.returns-in_err-read_into-clause-damaged
-returns-in_err-read_into-clause-damaged g c = λ honest agrees planted is told.
+pub returns-in_err-value-clause-damaged : goal.returns-in_err-value-clause-damaged
+returns-in_err-value-clause-damaged g c = λ honest agrees planted is told.
     let pages : List (Option Sector) =
     (map_now c.args.pages.now (g.D.Device.state c.args.device.now).disk.present).pages in
     let view : ChainedTree = record { tree = c.self.inside.tree; record_bytes = c.self.inside.record_bytes } in
     let got = c.get.ensures in
-    let size = c.deref_mut.ensures.len in
-    let resized = c.in_ok-resize.ensures.len in
     read_whole g.D.Device _ c.args.pages.now c.get.new.pages c.args.device.now c.get.new.device view planted
-    c.args.key.now c.in_ok-entry.field-0 c.in-Some.entry (length c.deref_mut.result.now) c.first_page.result _
-    (looks_by g.D.Device _ _ _ _ _ got.only got.unchanged got.agrees got.open) c.read_into.ensures.damaged
-    (omega (arith, size, resized)) (c.first_page.ensures ∙ ap (big_number 4) c.value.ensures) c.if-self-eq0.false
+    c.args.key.now c.in_ok-entry.field-0 c.in-Some.entry c.self.inside.record_bytes c.first_page-first.result _
+    (looks_by g.D.Device _ _ _ _ _ got.only got.unchanged got.agrees got.open) c.read_record.ensures.damaged
+    refl (c.first_page-first.ensures ∙ ap (big_number 4) c.value.ensures) c.if-self-eq0.false
     c.in-Some.is honest agrees (subst (λ (t : ChainedTree). IsRowTree pages t planted) (sym c.self.view_is) is)
     (c.in_ok-entry.ensures.entry honest agrees)
-    (refused_by_call c.in_err-read_into.was c.from_residual-in_err-read_into.ensures.1 told)
+    (refused_by_call c.in_err-value.was c.from_residual-in_err-value.ensures.1 told)
 
 pub returns-in_err-extend_from_slice-clause-looks :
     goal.returns-in_err-extend_from_slice-clause-looks
 returns-in_err-extend_from_slice-clause-looks g c =
     let got = c.get.ensures in
-    let read = c.read_into.ensures in
+    let read = c.read_record.ensures in
     looks_then g.D.Device _ _ _ _ _ _ _ _ _
     (λ is. inr (never_device _ c.from_residual-in_err-extend_from_slice.ensures.1 is))
     (looks_by g.D.Device _ _ _ _ _ got.only got.unchanged got.agrees got.open)
@@ -73,7 +71,7 @@ returns-in_err-extend_from_slice-clause-looks g c =
 pub returns-clause-looks : goal.returns-clause-looks
 returns-clause-looks g c =
     let got = c.get.ensures in
-    let read = c.read_into.ensures in
+    let read = c.read_record.ensures in
     looks_then g.D.Device _ _ _ _ _ _ _ _ _ (λ is. never_ok is)
     (looks_by g.D.Device _ _ _ _ _ got.only got.unchanged got.agrees got.open)
     (looks_past g.D.Device _ _ _ _ read.only got.open)
@@ -84,16 +82,13 @@ returns-clause-row g c = λ honest agrees planted is.
     (map_now c.args.pages.now (g.D.Device.state c.args.device.now).disk.present).pages in
     let view : ChainedTree = record { tree = c.self.inside.tree; record_bytes = c.self.inside.record_bytes } in
     let got = c.get.ensures in
-    let size = c.deref_mut.ensures.len in
-    let resized = c.in_ok-resize.ensures.len in
-    let same = c.read_into.auto.into in
-    long_got pages view planted c.args.key.now c.in_ok-entry.field-0 c.in-Some.entry c.read_into.new.into
-    c.extend_from_slice.new.self.items c.first_page.result
+    let bytes = c.in_ok-value.value.items in
+    long_got pages view planted c.args.key.now c.in_ok-entry.field-0 c.in-Some.entry bytes
+    c.extend_from_slice.new.self.items c.first_page-first.result
     (subst (λ (t : ChainedTree). IsRowTree pages t planted) (sym c.self.view_is) is)
-    (c.in_ok-entry.ensures.entry honest agrees) c.in-Some.is c.if-self-eq0.false (omega (arith, size, resized, same))
-    (c.first_page.ensures ∙ ap (big_number 4) c.value.ensures)
-    (value_made _ c.read_into.new.into _ c.value-2.result.now _ _ c.in_ok-extend_from_slice.ensures.items
-    (omega (arith, size, resized, same)) c.value-2.ensures)
-    (read_on g.D.Device _ c.args.pages.now c.get.new.pages c.args.device.now c.get.new.device c.read_into.new.into
-    c.first_page.result (looks_by g.D.Device _ _ _ _ _ got.only got.unchanged got.agrees got.open)
-    c.in_ok-read_into.ensures.bytes honest agrees)
+    (c.in_ok-entry.ensures.entry honest agrees) c.in-Some.is c.if-self-eq0.false c.in_ok-value.ensures.long
+    (c.first_page-first.ensures ∙ ap (big_number 4) c.value.ensures)
+    (value_made bytes c.value-2.result.now _ _ c.in_ok-extend_from_slice.ensures.items c.value-2.ensures)
+    (read_on g.D.Device _ c.args.pages.now c.get.new.pages c.args.device.now c.get.new.device bytes
+    c.first_page-first.result (looks_by g.D.Device _ _ _ _ _ got.only got.unchanged got.agrees got.open)
+    c.in_ok-value.ensures.bytes honest agrees)

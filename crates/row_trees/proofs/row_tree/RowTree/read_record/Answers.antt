@@ -1,10 +1,9 @@
-use Rattle.std.proofs.Common.{length, sym, ap, ◌∙◌, arith}
+use Rattle.std.proofs.Common.{length, refl, sym, ap, ◌∙◌, arith}
 use Rattle.byteorder.specs.Endian.{big_number}
 use Rattle.pages.specs.declared.error.PagesError.TheVariants.{Damaged}
 use Rattle.btree.specs.Changes.{pages_of_map}
 use Rattle.row_trees.specs.RowTree.{ChainedTree}
 use Rattle.row_trees.proofs.Calling.{refused_by_call}
-use Rattle.row_trees.proofs.Forms.{record_back}
 use Rattle.row_trees.proofs.Passing.{on_ok, err_told}
 use Rattle.row_trees.proofs.ReadRows.{short_read, short_has, long_has, long_chain, long_read}
 use Rattle.row_trees.proofs.row_tree.RowTree.read_record.Goals as goal
@@ -37,17 +36,15 @@ returns-then-is_short-clause-damaged g c = λ honest agrees told has.
     let short = c.if-is_short.true in
     omega (arith, some, same, short)
 
-pub returns-in_err-read_into-clause-damaged : goal.returns-in_err-read_into-clause-damaged
-returns-in_err-read_into-clause-damaged g c = λ honest agrees told has.
+pub returns-in_err-record-clause-damaged : goal.returns-in_err-record-clause-damaged
+returns-in_err-record-clause-damaged g c = λ honest agrees told has.
     let pages = pages_of_map c.args.pages.now (g.D.Device.state c.args.device.now).disk.present in
     let n_is = ap (λ (t : ChainedTree). t.record_bytes) c.self.view_is in
-    let size = c.deref_mut.ensures.len in
-    let resized = c.in_ok-resize.ensures.len in
-    c.read_into.ensures.damaged honest agrees
-    (refused_by_call c.in_err-read_into.was c.from_residual-in_err-read_into.ensures.1 told)
+    c.read_record.ensures.damaged honest agrees
+    (refused_by_call c.in_err-record.was c.from_residual.ensures.1 told)
     (long_chain c.args.self.now.record_bytes pages c.args.entry.now (length c.args.into.now)
-    (length c.deref_mut.result.now) c.first_page.result (λ none. c.if-self-eq0.false (n_is ∙ none))
-    (c.first_page.ensures ∙ ap (big_number 4) c.value-value.ensures) (omega (arith, size, resized)) has)
+    (length c.args.into.now) c.first_page.result (λ none. c.if-self-eq0.false (n_is ∙ none))
+    (c.first_page.ensures ∙ ap (big_number 4) c.value-value.ensures) refl has)
 
 pub returns-clause-record : goal.returns-clause-record
 returns-clause-record g c = λ honest agrees size.
@@ -55,12 +52,10 @@ returns-clause-record g c = λ honest agrees size.
     let n_is = ap (λ (t : ChainedTree). t.record_bytes) c.self.view_is in
     let long = c.if-is_short.false in
     let same = ap (λ l. length l) c.value-value.ensures in
-    let given = c.deref_mut.ensures.len in
-    let resized = c.in_ok-resize.ensures.len in
-    let kept = c.read_into.auto.into in
-    long_read c.args.self.now.record_bytes pages c.args.entry.now c.args.into.now _ c.read_into.new.into
+    let bytes = c.in_ok-record.record.items in
+    let many = c.in_ok-record.ensures.long in
+    long_read c.args.self.now.record_bytes pages c.args.entry.now c.args.into.now _ bytes
     c.first_page.result (λ none. c.if-self-eq0.false (n_is ∙ none)) size (omega (arith, long, same))
-    (c.first_page.ensures ∙ ap (big_number 4) c.value-value.ensures) (omega (arith, given, resized, kept))
-    (c.copy_from_slice.ensures.after ∙ c.deref.ensures.value
-    ∙ record_back _ c.read_into.new.into _ (omega (arith, given, resized, kept)))
-    (c.in_ok-read_into.ensures.bytes honest agrees)
+    (c.first_page.ensures ∙ ap (big_number 4) c.value-value.ensures) many
+    (c.copy_from_slice.ensures.after ∙ c.deref.ensures.value)
+    (c.in_ok-record.ensures.bytes honest agrees)
