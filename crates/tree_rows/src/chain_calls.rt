@@ -66,9 +66,8 @@ fn compare_record(
 ) -> Result<String, Fault> {
     let first = number(words)?;
     let record = record_in(alloc, words)?;
-    let mut found = vec![in alloc; 0u8; record.len()]?;
-    match volume.read_record(first, &mut found)? {
-        Ok(()) => whether(alloc, found.as_slice() == record.as_slice()),
+    match volume.record(first, record.len())? {
+        Ok(found) => whether(alloc, found.as_slice() == record.as_slice()),
         Err(error) => Ok(refusal(alloc, error)?),
     }
 }

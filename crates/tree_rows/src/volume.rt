@@ -5,7 +5,7 @@
 use btree::{Entry, Tree};
 use btree_check::check_tree;
 use btree_pages::{RowLayout, TreePage};
-use chains::{lay, read_into, release, rewrite};
+use chains::{lay, read_record, release, rewrite};
 use pages::{PageMap, PagesError, format};
 use row_scripts::Fault;
 use station::{Device, MemoryStation};
@@ -278,12 +278,12 @@ impl Volume {
         lay(&mut self.pages, record)
     }
 
-    /// Reads the record of a chain.
-    pub fn read_record(&mut self, first: u32, into: &mut [u8]) -> Result<Answer<()>, Fault> {
+    /// The record of so many bytes in a chain.
+    pub fn record(&mut self, first: u32, size: usize) -> Result<Answer<Vec<u8>>, Fault> {
         if self.pages.sectors() > self.station.count() {
             return Err(small());
         }
-        Ok(read_into(&mut self.pages, &mut self.station, first, into))
+        Ok(read_record(self.alloc, &self.pages, &mut self.station, first, size, 0))
     }
 
     /// Puts another record into a chain.
