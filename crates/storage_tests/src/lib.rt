@@ -18,3 +18,5 @@ mod page_tests;
 mod root_tests;
 #[cfg(test)]
 mod station_tests;
+#[cfg(test)]
+mod steps;

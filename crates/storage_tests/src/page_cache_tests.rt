@@ -1,17 +1,21 @@
 //! Rows of the cache of pages: how often the device is read.
 use crate::asserted::{same, same_in};
 use crate::opened::{Volume, works};
+use crate::steps::{Step, take_steps};
 use std::alloc::Global;
 use std::process::Abort;
 
 // The pages 1, 2 and 3, filled with their number, in a volume that is opened with a cache of so many pages.
 fn three_pages(rt: &impl Abort, alloc: Global, capacity: usize) -> Volume {
     let mut volume = Volume::empty(rt, alloc, 1024);
-    works(rt, volume.edit(rt, 1, 1));
-    works(rt, volume.edit(rt, 2, 2));
-    works(rt, volume.edit(rt, 3, 3));
-    works(rt, volume.commit(rt));
-    volume.reopen(rt, alloc, capacity);
+    let steps = [
+        Step::Edit(1, 1),
+        Step::Edit(2, 2),
+        Step::Edit(3, 3),
+        Step::Commit(5, 2),
+        Step::Reopen(capacity),
+    ];
+    take_steps(rt, alloc, &mut volume, &steps);
     volume
 }
 
@@ -22,6 +26,12 @@ fn reads_of(rt: &impl Abort, volume: &mut Volume, numbers: &[u8; 5]) -> u64 {
         same(rt, volume.has(rt, *number as u32), Some(*number));
     }
     volume.since(before).0
+}
+
+// The same of three pages that were just opened.
+fn reads_in(rt: &impl Abort, alloc: Global, capacity: usize, numbers: &[u8; 5]) -> u64 {
+    let mut volume = three_pages(rt, alloc, capacity);
+    reads_of(rt, &mut volume, numbers)
 }
 
 // The page that was used least lately gives its place away.
@@ -37,8 +47,7 @@ fn reads_of_the_device(rt: HostRuntime) {
         (2, [1, 2, 1, 3, 2], 4),
         (3, [3, 3, 3, 3, 3], 1),
     ] {
-        let mut volume = three_pages(&rt, rt.alloc(), capacity);
-        let count = reads_of(&rt, &mut volume, &numbers);
+        let count = reads_in(&rt, rt.alloc(), capacity, &numbers);
         same_in(&rt, &(capacity, numbers), count, reads);
     }
 }
@@ -53,6 +62,12 @@ fn loads_of(rt: &impl Abort, volume: &mut Volume, numbers: &[u8; 5]) -> u64 {
     volume.since(before).0
 }
 
+// The same of three pages that were just opened.
+fn loads_in(rt: &impl Abort, alloc: Global, capacity: usize, numbers: &[u8; 5]) -> u64 {
+    let mut volume = three_pages(rt, alloc, capacity);
+    loads_of(rt, &mut volume, numbers)
+}
+
 // A page that is brought into memory is seen there. If it is there already, its use isn't noted.
 #[test]
 fn pages_are_brought_into_memory(rt: HostRuntime) {
@@ -65,8 +80,7 @@ fn pages_are_brought_into_memory(rt: HostRuntime) {
         (2, [1, 2, 1, 3, 2], 3),
         (3, [3, 3, 3, 3, 3], 1),
     ] {
-        let mut volume = three_pages(&rt, rt.alloc(), capacity);
-        let count = loads_of(&rt, &mut volume, &numbers);
+        let count = loads_in(&rt, rt.alloc(), capacity, &numbers);
         same_in(&rt, &(capacity, numbers), count, reads);
     }
 }
@@ -77,10 +91,15 @@ fn a_noted_page_stays(rt: HostRuntime) {
     let mut volume = three_pages(&rt, rt.alloc(), 2);
     same(&rt, volume.cached(), 0);
     same(&rt, reads_of(&rt, &mut volume, &[1, 2, 2, 2, 2]), 2);
-    volume.note_use(1);
-    same(&rt, volume.has(&rt, 3), Some(3));
-    same(&rt, (volume.seen(1), volume.seen(2)), (Some(1), None));
-    works(&rt, volume.edit(&rt, 2, 22));
-    works(&rt, volume.commit(&rt));
-    same(&rt, (volume.cached(), volume.seen(2)), (2, Some(22)));
+    let steps = [
+        Step::NoteUse(1),
+        Step::Has(3, Some(3)),
+        Step::Seen(1, Some(1)),
+        Step::Seen(2, None),
+        Step::Edit(2, 22),
+        Step::Commit(3, 2),
+        Step::Cached(2),
+        Step::Seen(2, Some(22)),
+    ];
+    take_steps(&rt, rt.alloc(), &mut volume, &steps);
 }

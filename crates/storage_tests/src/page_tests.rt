@@ -2,9 +2,28 @@
 use crate::asserted::{holds, same, same_in};
 use crate::image::{SECTORS, filled, map_of, root, sector_bytes, station_of_format, word_at};
 use crate::opened::{Volume, counts_of, new_volume, works};
+use crate::steps::{Step, take_steps};
 use pages::{PagesError, VolumeMark};
 use std::alloc::Global;
 use std::process::Abort;
+
+// The numbers of a volume: its sectors, how many are free, its page numbers, and the page of the catalog.
+fn has_figures(rt: &impl Abort, volume: &Volume, expected: [u32; 4]) {
+    let pages = u32::try_from(volume.page_count()).unwrap_or(0);
+    let figures = [
+        volume.sectors(),
+        volume.free_sectors(),
+        pages,
+        volume.catalog(),
+    ];
+    same(rt, figures, expected);
+}
+
+// A volume of generation 0 without pages.
+fn is_untouched(rt: &impl Abort, volume: &Volume) {
+    same(rt, (volume.changed_pages(), volume.generation()), (0, 0));
+    holds(rt, !volume.has_page(rt, 1));
+}
 
 // The bytes of both root sectors: 1,025 sectors and two map sectors that aren't written yet. Two sectors are the roots. An opening
 // syncs once and reads the roots.
@@ -17,23 +36,17 @@ fn a_new_volume(rt: HostRuntime) {
     let before = counts_of(&station);
     let volume = Volume::open(&rt, rt.alloc(), station);
     same(&rt, volume.since(before), (2, 0, 1));
-    same(&rt, (volume.sectors(), volume.free_sectors()), (1025, 1023));
-    same(
-        &rt,
-        (volume.page_count(), volume.changed_pages()),
-        (2048, 0),
-    );
-    same(&rt, (volume.catalog(), volume.generation()), (0, 0));
-    holds(&rt, !volume.has_page(&rt, 1));
+    has_figures(&rt, &volume, [1025, 1023, 2048, 0]);
+    is_untouched(&rt, &volume);
 }
 
 // The two sectors that a first commit of page 5 takes, the lower first: the page's and its map's.
 fn placed(rt: &impl Abort, alloc: Global) -> (u32, u32) {
     let mut volume = Volume::empty(rt, alloc, 1024);
-    works(rt, volume.edit(rt, 5, 7));
-    works(rt, volume.commit(rt));
-    let map = word_at(&volume.sector(rt, 1), 28);
-    let page = word_at(&volume.sector(rt, map), 20);
+    let steps = [Step::Edit(5, 7), Step::Commit(3, 2)];
+    take_steps(rt, alloc, &mut volume, &steps);
+    let map = number_in(rt, &mut volume, 1, 28);
+    let page = number_in(rt, &mut volume, map, 20);
     (map.min(page), map.max(page))
 }
 
@@ -73,38 +86,43 @@ fn a_commit_of_one_page(rt: HostRuntime) {
     stopped_commit(&rt, rt.alloc(), 6, Ok(()), (0, 3, 2), &[1, low, high]);
 }
 
+// Asserts that a sector has these bytes.
+fn has_bytes(rt: &impl Abort, volume: &mut Volume, sector: u32, expected: &[u8; 4096]) {
+    holds(rt, volume.sector(rt, sector) == *expected);
+}
+
+// The number at a place of a sector.
+fn number_in(rt: &impl Abort, volume: &mut Volume, sector: u32, place: usize) -> u32 {
+    word_at(&volume.sector(rt, sector), place)
+}
+
 // The bytes that it writes: the page, the map whose entry 5 is the page's sector, the root of generation 1.
 #[test]
 fn bytes_of_a_commit(rt: HostRuntime) {
     let mut volume = Volume::empty(&rt, rt.alloc(), 1024);
-    works(&rt, volume.edit(&rt, 5, 7));
-    volume.set_catalog(5);
-    works(&rt, volume.commit(&rt));
-    let newest = volume.sector(&rt, 1);
-    let map_sector = word_at(&newest, 28);
-    holds(&rt, newest == root(b"COBVOL02", 1, 1024, 5, &[map_sector]));
-    let map = volume.sector(&rt, map_sector);
-    let sector = word_at(&map, 20);
-    holds(&rt, map == map_of(5, sector));
-    holds(&rt, volume.sector(&rt, sector) == filled(7));
-    let older = volume.sector(&rt, 0);
-    holds(&rt, older == root(b"COBVOL02", 0, 1024, 0, &[0]));
+    let steps = [Step::Edit(5, 7), Step::Catalog(5), Step::Commit(3, 2)];
+    take_steps(&rt, rt.alloc(), &mut volume, &steps);
+    let map = number_in(&rt, &mut volume, 1, 28);
+    let page = number_in(&rt, &mut volume, map, 20);
+    has_bytes(&rt, &mut volume, 1, &root(b"COBVOL02", 1, 1024, 5, &[map]));
+    has_bytes(&rt, &mut volume, map, &map_of(5, page));
+    has_bytes(&rt, &mut volume, page, &filled(7));
+    has_bytes(&rt, &mut volume, 0, &root(b"COBVOL02", 0, 1024, 0, &[0]));
 }
 
 // If the catalog's page alone changed, the root alone is written. With nothing changed the device isn't called.
 #[test]
 fn a_commit_of_the_catalog(rt: HostRuntime) {
     let mut volume = Volume::empty(&rt, rt.alloc(), 1024);
-    volume.set_catalog(9);
-    let before = volume.counts();
-    works(&rt, volume.commit(&rt));
-    same(&rt, volume.since(before), (0, 1, 2));
-    same(&rt, volume.free_sectors(), 1022);
-    let before = volume.counts();
-    volume.set_catalog(2);
-    volume.set_catalog(9);
-    works(&rt, volume.commit(&rt));
-    same(&rt, volume.since(before), (0, 0, 0));
+    let steps = [
+        Step::Catalog(9),
+        Step::Commit(1, 2),
+        Step::Free(1022),
+        Step::Catalog(2),
+        Step::Catalog(9),
+        Step::Commit(0, 0),
+    ];
+    take_steps(&rt, rt.alloc(), &mut volume, &steps);
 }
 
 // A volume that was written by the description of the format. An opening syncs, and reads the two roots and the two maps. Two roots,
@@ -115,18 +133,14 @@ fn a_volume_of_the_format(rt: HostRuntime) {
     let before = counts_of(&station);
     let mut volume = Volume::open(&rt, rt.alloc(), station);
     same(&rt, volume.since(before), (4, 0, 1));
-    same(&rt, (volume.sectors(), volume.free_sectors()), (1500, 1494));
-    same(&rt, (volume.page_count(), volume.catalog()), (2048, 1));
-    same(
-        &rt,
-        (volume.has(&rt, 1), volume.has(&rt, 1024)),
-        (Some(1), Some(24)),
-    );
-    same(
-        &rt,
-        (volume.has(&rt, 2), volume.has(&rt, 2047)),
-        (None, None),
-    );
+    has_figures(&rt, &volume, [1500, 1494, 2048, 1]);
+    let steps = [
+        Step::Has(1, Some(1)),
+        Step::Has(1024, Some(24)),
+        Step::Has(2, None),
+        Step::Has(2047, None),
+    ];
+    take_steps(&rt, rt.alloc(), &mut volume, &steps);
 }
 
 // If the mark alone became the second, the root alone is written, and the root before it keeps the first mark.
@@ -136,44 +150,41 @@ fn a_commit_of_the_mark(rt: HostRuntime) {
     let mut volume = Volume::open(&rt, rt.alloc(), station);
     holds(&rt, volume.mark() == VolumeMark::First);
     volume.set_second_mark();
-    let before = volume.counts();
-    works(&rt, volume.commit(&rt));
-    same(&rt, volume.since(before), (0, 1, 2));
-    let (older, newest) = (volume.sector(&rt, 1), volume.sector(&rt, 0));
-    holds(&rt, older == root(b"COBVOL01", 1, SECTORS, 1, &[4, 5]));
-    holds(&rt, newest == root(b"COBVOL02", 2, SECTORS, 1, &[4, 5]));
+    take_steps(&rt, rt.alloc(), &mut volume, &[Step::Commit(1, 2)]);
+    let older = root(b"COBVOL01", 1, SECTORS, 1, &[4, 5]);
+    has_bytes(&rt, &mut volume, 1, &older);
+    let newest = root(b"COBVOL02", 2, SECTORS, 1, &[4, 5]);
+    has_bytes(&rt, &mut volume, 0, &newest);
 }
 
 // A page that is released frees its sector by a commit; a map of zeros takes none.
 #[test]
 fn a_page_is_released(rt: HostRuntime) {
     let mut volume = Volume::empty(&rt, rt.alloc(), 1024);
-    volume.edit_all(&rt, 1, 3, 1);
-    works(&rt, volume.commit(&rt));
-    same(&rt, volume.free_sectors(), 1019);
-    works(&rt, volume.release(&rt, 1));
-    let before = volume.counts();
-    works(&rt, volume.commit(&rt));
-    same(&rt, volume.since(before), (0, 2, 2));
-    same(&rt, volume.free_sectors(), 1020);
-    works(&rt, volume.release(&rt, 2));
-    let before = volume.counts();
-    works(&rt, volume.commit(&rt));
-    same(&rt, volume.since(before), (0, 1, 2));
-    same(&rt, volume.free_sectors(), 1022);
+    let steps = [
+        Step::EditAll(1, 3, 1),
+        Step::Commit(4, 2),
+        Step::Free(1019),
+        Step::Release(1),
+        Step::Commit(2, 2),
+        Step::Free(1020),
+        Step::Release(2),
+        Step::Commit(1, 2),
+        Step::Free(1022),
+    ];
+    take_steps(&rt, rt.alloc(), &mut volume, &steps);
 }
 
 // A page of each of two maps, and the sectors of both.
 #[test]
 fn pages_of_two_maps(rt: HostRuntime) {
     let mut volume = Volume::empty(&rt, rt.alloc(), 2048);
-    volume.edit_all(&rt, 1023, 1025, 3);
-    let before = volume.counts();
-    works(&rt, volume.commit(&rt));
-    same(&rt, volume.since(before), (0, 5, 2));
-    works(&rt, volume.edit(&rt, 2047, 5));
-    let before = volume.counts();
-    works(&rt, volume.commit(&rt));
-    same(&rt, volume.since(before), (0, 3, 2));
-    same(&rt, volume.free_sectors(), 2041);
+    let steps = [
+        Step::EditAll(1023, 1025, 3),
+        Step::Commit(5, 2),
+        Step::Edit(2047, 5),
+        Step::Commit(3, 2),
+        Step::Free(2041),
+    ];
+    take_steps(&rt, rt.alloc(), &mut volume, &steps);
 }
