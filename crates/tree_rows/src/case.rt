@@ -57,13 +57,26 @@ fn compare(words: &mut Words<'_>, answer: String) -> Result<(), Fault> {
     Err(Fault::Differs(answer))
 }
 
+/// The answer of a row's call. A refusal is an answer.
+fn answer_of(
+    alloc: Global,
+    run: &mut TreeRun,
+    call: &[u8],
+    words: &mut Words<'_>,
+) -> Result<String, Fault> {
+    match run.call(call, words) {
+        Err(Fault::Refused(number)) => Ok(format!(in alloc; "refused {number}")?),
+        answer => answer,
+    }
+}
+
 /// Does a row.
-fn do_row(run: &mut TreeRun, row: &[u8]) -> Result<(), Fault> {
+fn do_row(alloc: Global, run: &mut TreeRun, row: &[u8]) -> Result<(), Fault> {
     let mut words = Words::of(row);
-    let answer = match words.word() {
-        Some(call) => run.call(call, &mut words)?,
-        None => return Err(Fault::Spelling("this is no row")),
+    let Some(call) = words.word() else {
+        return Err(Fault::Spelling("this is no row"));
     };
+    let answer = answer_of(alloc, run, call, &mut words)?;
     compare(&mut words, answer)
 }
 
@@ -81,7 +94,7 @@ fn do_rows(
         Err(fault) => return Ok(Some(Difference::at(alloc, first.line, fault)?)),
     };
     for row in rows.iter() {
-        if let Err(fault) = do_row(&mut run, &row.text) {
+        if let Err(fault) = do_row(alloc, &mut run, &row.text) {
             return Ok(Some(Difference::at(alloc, row.line, fault)?));
         }
         tally.pass();

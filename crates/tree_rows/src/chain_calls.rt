@@ -1,6 +1,7 @@
 //! The rows of calls on chains of pages. The record of a number has at each place the sum of the number and the place, less all 251s.
-use crate::tree_run::{number, refusal};
-use crate::volume::{Answer, Volume};
+use crate::calls::ChainCall;
+use crate::tree_run::{number, whether};
+use crate::volume::Volume;
 use row_scripts::{Fault, Words, unquote};
 use std::alloc::{AllocError, Global};
 
@@ -8,16 +9,16 @@ use std::alloc::{AllocError, Global};
 pub fn chain_call(
     alloc: Global,
     volume: &mut Volume,
-    call: &[u8],
+    call: ChainCall,
     words: &mut Words<'_>,
 ) -> Result<String, Fault> {
     match call {
-        b"lay" => lay_record(alloc, volume, words),
-        b"record" => compare_record(alloc, volume, words),
-        b"rewrite" => rewrite_record(alloc, volume, words),
-        b"release" => release_record(alloc, volume, words),
-        b"bytes" => compare_bytes(alloc, volume, words),
-        _ => compare_zeros(alloc, volume, words),
+        ChainCall::Lay => lay_record(alloc, volume, words),
+        ChainCall::Record => compare_record(alloc, volume, words),
+        ChainCall::Rewrite => rewrite_record(alloc, volume, words),
+        ChainCall::Release => release_record(alloc, volume, words),
+        ChainCall::Bytes => compare_bytes(alloc, volume, words),
+        ChainCall::Zeros => compare_zeros(alloc, volume, words),
     }
 }
 
@@ -37,25 +38,11 @@ fn record_in(alloc: Global, words: &mut Words<'_>) -> Result<Vec<u8>, Fault> {
     Ok(record_of(alloc, one, count)?)
 }
 
-fn done(alloc: Global, answer: Answer<()>) -> Result<String, Fault> {
-    match answer {
-        Ok(()) => Ok("done".to_string(alloc)?),
-        Err(error) => Ok(refusal(alloc, error)?),
-    }
-}
-
-fn whether(alloc: Global, fact: bool) -> Result<String, Fault> {
-    let word = if fact { "so" } else { "otherwise" };
-    Ok(word.to_string(alloc)?)
-}
-
 /// `lay N COUNT`: the first page of a new chain.
 fn lay_record(alloc: Global, volume: &mut Volume, words: &mut Words<'_>) -> Result<String, Fault> {
     let record = record_in(alloc, words)?;
-    match volume.lay(&record) {
-        Ok(first) => Ok(format!(in alloc; "{first}")?),
-        Err(error) => Ok(refusal(alloc, error)?),
-    }
+    let first = volume.lay(&record)?;
+    Ok(format!(in alloc; "{first}")?)
 }
 
 /// `record PAGE N COUNT`: whether the chain from a page on has this record.
@@ -66,10 +53,8 @@ fn compare_record(
 ) -> Result<String, Fault> {
     let first = number(words)?;
     let record = record_in(alloc, words)?;
-    match volume.record(first, record.len())? {
-        Ok(found) => whether(alloc, found.as_slice() == record.as_slice()),
-        Err(error) => Ok(refusal(alloc, error)?),
-    }
+    let found = volume.record(first, record.len())?;
+    whether(alloc, found.as_slice() == record.as_slice())
 }
 
 /// `rewrite PAGE N COUNT`: the chain gets this record.
@@ -80,7 +65,8 @@ fn rewrite_record(
 ) -> Result<String, Fault> {
     let first = number(words)?;
     let record = record_in(alloc, words)?;
-    done(alloc, volume.rewrite(first, &record)?)
+    volume.rewrite(first, &record)?;
+    Ok("done".to_string(alloc)?)
 }
 
 /// `release PAGE COUNT`: the chain of a record of so many bytes goes.
@@ -91,7 +77,8 @@ fn release_record(
 ) -> Result<String, Fault> {
     let first = number(words)?;
     let count = number(words)? as usize;
-    done(alloc, volume.release(first, count)?)
+    volume.release(first, count)?;
+    Ok("done".to_string(alloc)?)
 }
 
 /// `bytes PAGE PLACE TEXT`: whether a page has these bytes from a place on.

@@ -1,6 +1,7 @@
 //! Runs scripts of calls on trees of pages, and prints the rows whose answer differs from the script.
 #![tactic(auto)]
 
+mod calls;
 mod case;
 mod chain_calls;
 mod drawings;

@@ -1,10 +1,10 @@
 //! The rows of a case over a tree: `CALL OPERANDS -> ANSWER`. Beside the tree is the list of the numbers that it has to hold.
+use crate::calls::{Call, CountCall, EntryCall, TreeCall, VolumeCall, call_of};
 use crate::chain_calls::chain_call;
 use crate::drawings::{draw, entries_in, leaves_in, plant};
-use crate::volume::{Answer, Volume, key_of, tree_of, value_of};
+use crate::volume::{Volume, key_of, tree_of, value_of};
 use btree::{Entry, Tree};
 use btree_pages::RowLayout;
-use pages::PagesError;
 use row_scripts::{Fault, Words, put_text, unquote};
 use std::alloc::{AllocError, Global};
 use std::mem;
@@ -37,23 +37,15 @@ pub fn number(words: &mut Words<'_>) -> Result<u32, Fault> {
     }
 }
 
-/// What is said of a refusal.
-pub fn refusal(alloc: Global, error: PagesError) -> Result<String, AllocError> {
-    let number = error.number();
-    format!(in alloc; "refused {number}")
+/// One of two words for a fact.
+pub fn word_of(alloc: Global, fact: bool, yes: &str, no: &str) -> Result<String, Fault> {
+    let word = if fact { yes } else { no };
+    Ok(word.to_string(alloc)?)
 }
 
-fn answer_words(
-    alloc: Global,
-    answer: Answer<bool>,
-    yes: &str,
-    no: &str,
-) -> Result<String, AllocError> {
-    match answer {
-        Ok(true) => yes.to_string(alloc),
-        Ok(false) => no.to_string(alloc),
-        Err(error) => refusal(alloc, error),
-    }
+/// `so`, or `otherwise`.
+pub fn whether(alloc: Global, fact: bool) -> Result<String, Fault> {
+    word_of(alloc, fact, "so", "otherwise")
 }
 
 impl TreeRun {
@@ -76,58 +68,95 @@ impl TreeRun {
 
     /// Makes a call with the operands of its row, and answers in words.
     pub fn call(&mut self, call: &[u8], words: &mut Words<'_>) -> Result<String, Fault> {
+        let Some(call) = call_of(call) else {
+            return Err(Fault::Spelling("this is no row"));
+        };
         match call {
-            b"insert" => self.insert(words),
-            b"remove" => self.remove(words),
-            b"drop" => self.drop_entry(words),
-            b"value" => self.value(words),
-            b"get" => self.get(words),
-            b"valued" => self.valued(words),
-            b"seek" => self.seek(words),
-            b"next" => self.next(words),
-            b"first" => self.first(),
-            b"reads" => self.reads(words),
-            b"walk" => self.walk(),
-            b"right" => self.right(),
-            b"check" => self.check(words),
-            b"pages" => self.pages(),
-            b"leaves" => self.leaves(words),
-            b"thinner" => self.thinner(words),
-            b"clear" => self.clear(),
-            b"commit" => self.commit(),
-            b"try" => self.try_commit(),
-            b"drawn" => self.drawing_words(),
-            b"lay" | b"record" | b"rewrite" | b"release" | b"bytes" | b"zeros" => {
-                chain_call(self.alloc, &mut self.volume, call, words)
+            Call::Entry(call) => self.entry_call(call, words),
+            Call::Tree(call) => self.tree_call(call, words),
+            Call::Chain(call) => chain_call(self.alloc, &mut self.volume, call, words),
+            Call::Volume(call) => {
+                self.volume_call(call, words)?;
+                Ok(String::new(self.alloc))
             }
-            other => self.volume_call(other, words),
+            Call::Count(call) => self.number_words(self.count(call)),
         }
     }
 
-    fn volume_call(&mut self, call: &[u8], words: &mut Words<'_>) -> Result<String, Fault> {
+    /// A call on entries.
+    fn entry_call(&mut self, call: EntryCall, words: &mut Words<'_>) -> Result<String, Fault> {
         match call {
-            b"reopen" => self.reopen(words)?,
-            b"crash" => self.volume.crash(number(words)?),
-            b"fail" => self.volume.disturb(u64::from(number(words)?), false),
-            b"stop" => self.volume.disturb(u64::from(number(words)?), true),
-            b"plant" => self.plant(words)?,
-            b"allocate" => self.allocate(words)?,
-            b"page" => self.page(words)?,
-            b"root" => {
-                self.tree = tree_of(self.alloc, self.layout, number(words)?)?;
-                self.there.clear();
-            }
-            b"swap" => self.swap(),
-            b"count" => self.calls = self.volume.calls(),
-            b"read" => return self.number_words(self.volume.calls().0.saturating_sub(self.calls.0)),
-            b"written" => return self.number_words(
-                self.volume.calls().1.saturating_sub(self.calls.1),
-            ),
-            b"changed" => return self.number_words(self.volume.changed_pages() as u64),
-            b"free" => return self.number_words(u64::from(self.volume.free_sectors())),
-            _ => return Err(Fault::Spelling("this is no row")),
+            EntryCall::Insert => self.insert(words),
+            EntryCall::Remove => self.remove(words),
+            EntryCall::Drop => self.drop_entry(words),
+            EntryCall::Value => self.value(words),
+            EntryCall::Get => self.get(words),
+            EntryCall::Valued => self.valued(words),
+            EntryCall::Seek => self.seek(words),
+            EntryCall::Next => self.next(words),
+            EntryCall::First => self.first(),
+            EntryCall::Reads => self.reads(words),
         }
-        Ok(String::new(self.alloc))
+    }
+
+    /// A call on the whole tree.
+    fn tree_call(&mut self, call: TreeCall, words: &mut Words<'_>) -> Result<String, Fault> {
+        match call {
+            TreeCall::Walk => self.walk(),
+            TreeCall::Right => self.right(),
+            TreeCall::Check => self.check(words),
+            TreeCall::Pages => self.pages(),
+            TreeCall::Leaves => self.leaves(words),
+            TreeCall::Thinner => self.thinner(words),
+            TreeCall::Clear => self.clear(),
+            TreeCall::Commit => self.commit(),
+            TreeCall::Try => self.try_commit(),
+            TreeCall::Drawn => self.drawing_words(),
+        }
+    }
+
+    /// A call that answers nothing.
+    fn volume_call(&mut self, call: VolumeCall, words: &mut Words<'_>) -> Result<(), Fault> {
+        match call {
+            VolumeCall::Reopen => self.reopen(words),
+            VolumeCall::Crash => self.crash(words),
+            VolumeCall::Fail => self.disturb(words, false),
+            VolumeCall::Stop => self.disturb(words, true),
+            VolumeCall::Plant => self.plant(words),
+            VolumeCall::Allocate => self.allocate(words),
+            VolumeCall::Page => self.page(words),
+            VolumeCall::Root => self.take_root(words),
+            VolumeCall::Swap => Ok(self.swap()),
+            VolumeCall::Begin => Ok(self.calls = self.volume.calls()),
+        }
+    }
+
+    fn crash(&mut self, words: &mut Words<'_>) -> Result<(), Fault> {
+        self.volume.crash(number(words)?);
+        Ok(())
+    }
+
+    fn disturb(&mut self, words: &mut Words<'_>, is_stop: bool) -> Result<(), Fault> {
+        self.volume.disturb(u64::from(number(words)?), is_stop);
+        Ok(())
+    }
+
+    /// `root PAGE`: the tree below a page.
+    fn take_root(&mut self, words: &mut Words<'_>) -> Result<(), Fault> {
+        self.tree = tree_of(self.alloc, self.layout, number(words)?)?;
+        self.there.clear();
+        Ok(())
+    }
+
+    /// What is counted.
+    fn count(&self, call: CountCall) -> u64 {
+        let (reads, writes) = self.volume.calls();
+        match call {
+            CountCall::Read => reads.saturating_sub(self.calls.0),
+            CountCall::Written => writes.saturating_sub(self.calls.1),
+            CountCall::Changed => self.volume.changed_pages() as u64,
+            CountCall::Free => u64::from(self.volume.free_sectors()),
+        }
     }
 
     fn number_words(&self, number: u64) -> Result<String, Fault> {
@@ -136,8 +165,7 @@ impl TreeRun {
 
     /// `so`, or `otherwise`.
     fn whether(&self, fact: bool) -> Result<String, Fault> {
-        let word = if fact { "so" } else { "otherwise" };
-        Ok(word.to_string(self.alloc)?)
+        whether(self.alloc, fact)
     }
 
     /// Where a number is among those that have to be there, or where it belongs.
@@ -152,40 +180,42 @@ impl TreeRun {
 
     fn insert(&mut self, words: &mut Words<'_>) -> Result<String, Fault> {
         let number = number(words)?;
-        let answer = self.volume.insert(&mut self.tree, number)?;
-        if answer == Ok(true) {
-            let place = self.place(number);
-            if place <= self.there.len() {
-                self.there.insert(place, number)?;
-            }
+        let is_new = self.volume.insert(&mut self.tree, number)?;
+        let place = self.place(number);
+        if is_new && place <= self.there.len() {
+            self.there.insert(place, number)?;
         }
-        Ok(answer_words(self.alloc, answer, "new", "there")?)
+        word_of(self.alloc, is_new, "new", "there")
+    }
+
+    /// Takes an entry out. The answer is whether it was there.
+    fn take_out(&mut self, number: u32) -> Result<bool, Fault> {
+        let was_there = self.volume.remove(&mut self.tree, number)?;
+        if was_there {
+            self.there.retain(|one| *one != number);
+        }
+        Ok(was_there)
     }
 
     fn remove(&mut self, words: &mut Words<'_>) -> Result<String, Fault> {
-        let number = number(words)?;
-        let answer = self.volume.remove(&mut self.tree, number)?;
-        if answer == Ok(true) {
-            self.there.retain(|one| *one != number);
-        }
-        Ok(answer_words(self.alloc, answer, "gone", "missing")?)
+        let was_there = self.take_out(number(words)?)?;
+        word_of(self.alloc, was_there, "gone", "missing")
     }
 
     /// `drop N`: it goes if it has to be there, and else it isn't there.
     fn drop_entry(&mut self, words: &mut Words<'_>) -> Result<String, Fault> {
-        let mut again = *words;
-        let number = number(&mut again)?;
+        let number = number(words)?;
         let is_there = self.from(number) == Some(number);
-        let answer = self.remove(words)?;
-        self.whether(answer.as_str() == if is_there { "gone" } else { "missing" })
+        let was_there = self.take_out(number)?;
+        self.whether(was_there == is_there)
     }
 
     /// `value N M`: the value of M for the entry N.
     fn value(&mut self, words: &mut Words<'_>) -> Result<String, Fault> {
         let one = number(words)?;
         let other = number(words)?;
-        let answer = self.volume.replace(&mut self.tree, one, other)?;
-        Ok(answer_words(self.alloc, answer, "new", "missing")?)
+        let is_there = self.volume.replace(&mut self.tree, one, other)?;
+        word_of(self.alloc, is_there, "new", "missing")
     }
 
     /// Whether this is the entry of a number.
@@ -196,19 +226,13 @@ impl TreeRun {
     }
 
     /// The number of the entry that was found, if it is the expected one.
-    fn entry_words(
-        &self,
-        answer: Answer<Option<Entry>>,
-        expected: Option<u32>,
-    ) -> Result<String, Fault> {
-        let entry = match answer {
-            Err(error) => return Ok(refusal(self.alloc, error)?),
-            Ok(None) => return Ok("none".to_string(self.alloc)?),
-            Ok(Some(entry)) => entry,
+    fn entry_words(&self, found: Option<Entry>, expected: Option<u32>) -> Result<String, Fault> {
+        let Some(entry) = found else {
+            return Ok("none".to_string(self.alloc)?);
         };
         let number = expected.unwrap_or(0);
         if self.is_entry(&entry, number)? {
-            return Ok(format!(in self.alloc; "{number}")?);
+            return self.number_words(u64::from(number));
         }
         Ok("another".to_string(self.alloc)?)
     }
@@ -226,60 +250,60 @@ impl TreeRun {
         let other = number(words)?;
         let value = value_of(self.alloc, self.layout, other)?;
         match self.volume.get(&self.tree, one)? {
-            Ok(Some(entry)) => self.whether(entry.value() == value.as_slice()),
-            _ => self.whether(false),
+            Some(entry) => self.whether(entry.value() == value.as_slice()),
+            None => self.whether(false),
         }
     }
 
     fn get(&mut self, words: &mut Words<'_>) -> Result<String, Fault> {
-        let number = number(words)?;
-        let answer = self.volume.get(&self.tree, number)?;
-        self.entry_words(answer, TreeRun::expected(words))
+        let found = self.volume.get(&self.tree, number(words)?)?;
+        self.entry_words(found, TreeRun::expected(words))
     }
 
     fn seek(&mut self, words: &mut Words<'_>) -> Result<String, Fault> {
-        let number = number(words)?;
-        let answer = self.volume.seek(&self.tree, number)?;
-        self.entry_words(answer, TreeRun::expected(words))
+        let found = self.volume.seek(&self.tree, number(words)?)?;
+        self.entry_words(found, TreeRun::expected(words))
     }
 
     fn next(&mut self, words: &mut Words<'_>) -> Result<String, Fault> {
-        let number = number(words)?;
-        let answer = self.volume.next(&self.tree, number)?;
-        self.entry_words(answer, TreeRun::expected(words))
+        let found = self.volume.next(&self.tree, number(words)?)?;
+        self.entry_words(found, TreeRun::expected(words))
     }
 
     fn first(&mut self) -> Result<String, Fault> {
-        let expected = self.from(0);
-        let answer = self.volume.first(&self.tree)?;
-        self.entry_words(answer, expected)
+        let found = self.volume.first(&self.tree)?;
+        self.entry_words(found, self.from(0))
     }
 
-    /// Whether a search answers the entry of a number, or none.
-    fn is_found(
-        &self,
-        answer: Answer<Option<Entry>>,
-        expected: Option<u32>,
-    ) -> Result<bool, Fault> {
-        match (answer, expected) {
-            (Ok(None), None) => Ok(true),
-            (Ok(Some(entry)), Some(number)) => Ok(self.is_entry(&entry, number)?),
+    /// Whether a search found the entry of a number, or none.
+    fn is_found(&self, found: Option<Entry>, expected: Option<u32>) -> Result<bool, Fault> {
+        match (found, expected) {
+            (None, None) => Ok(true),
+            (Some(entry), Some(number)) => Ok(self.is_entry(&entry, number)?),
             _ => Ok(false),
         }
     }
 
+    /// Whether the entry of a number is got, if it has to be there.
+    fn is_got(&mut self, number: u32) -> Result<bool, Fault> {
+        let found = self.volume.get(&self.tree, number)?;
+        self.is_found(found, self.from(number).filter(|from| *from == number))
+    }
+
+    fn is_sought(&mut self, number: u32) -> Result<bool, Fault> {
+        let found = self.volume.seek(&self.tree, number)?;
+        self.is_found(found, self.from(number))
+    }
+
+    fn is_followed(&mut self, number: u32) -> Result<bool, Fault> {
+        let found = self.volume.next(&self.tree, number)?;
+        self.is_found(found, self.from(number.wrapping_add(1)))
+    }
+
     /// Asks for a number by each call that takes a key.
     fn is_read(&mut self, number: u32) -> Result<bool, Fault> {
-        let from = self.from(number);
-        let after = self.from(number.wrapping_add(1));
-        let got = self.volume.get(&self.tree, number)?;
-        let sought = self.volume.seek(&self.tree, number)?;
-        let following = self.volume.next(&self.tree, number)?;
-        Ok(
-            self.is_found(got, from.filter(|from| *from == number))?
-                && self.is_found(sought, from)?
-                && self.is_found(following, after)?,
-        )
+        let is_read = self.is_got(number)? && self.is_sought(number)?;
+        Ok(is_read && self.is_followed(number)?)
     }
 
     /// `reads FROM TO`: asks for each number.
@@ -288,69 +312,80 @@ impl TreeRun {
         let to = number(words)?;
         for number in from..to {
             if !self.is_read(number)? {
-                return Ok(format!(in self.alloc; "another at {number}")?);
+                return self.another_at(number);
             }
         }
         Ok("right".to_string(self.alloc)?)
     }
 
-    /// Goes from the first entry to after the last, each time by the key of the entry that was answered.
+    fn another_at(&self, number: u32) -> Result<String, Fault> {
+        Ok(format!(in self.alloc; "another at {number}")?)
+    }
+
+    /// Goes from the first entry to after the last, each time by the key of the entry that was answered. The answer is the number of the
+    /// entry that is another one. One behind the last has the last's number.
+    fn first_wrong(&mut self) -> Result<Option<u32>, Fault> {
+        let count = self.there.len();
+        let mut found = self.volume.first(&self.tree)?;
+        let mut number = 0;
+        for place in 0..count {
+            number = self.there.get(place).copied().unwrap_or(0);
+            if !self.is_found(found, Some(number))? {
+                return Ok(Some(number));
+            }
+            found = self.volume.next(&self.tree, number)?;
+        }
+        if self.is_found(found, None)? {
+            Ok(None)
+        } else {
+            Ok(Some(number))
+        }
+    }
+
     fn walk(&mut self) -> Result<String, Fault> {
         let count = self.there.len();
-        let mut answer = self.volume.first(&self.tree)?;
-        for place in 0..count {
-            let number = self.there.get(place).copied().unwrap_or(0);
-            if !self.is_found(answer, Some(number))? {
-                return Ok(format!(in self.alloc; "another at {number}")?);
+        match self.first_wrong()? {
+            Some(number) => self.another_at(number),
+            None => Ok(format!(in self.alloc; "{count} entries")?),
+        }
+    }
+
+    /// The number of the first entry, counted by tens, that is not got as it has to be.
+    fn first_not_got(&mut self) -> Result<Option<u32>, Fault> {
+        let most = self.there.last().copied().unwrap_or(0) / 10;
+        for tenth in 0..=most {
+            let number = tenth.wrapping_mul(10);
+            if !self.is_got(number)? {
+                return Ok(Some(number));
             }
-            answer = self.volume.next(&self.tree, number)?;
         }
-        if !self.is_found(answer, None)? {
-            return Ok("one behind the last".to_string(self.alloc)?);
-        }
-        Ok(format!(in self.alloc; "{count} entries")?)
+        Ok(None)
     }
 
     /// All entries in their order, each by its key, and the pages, which are counted.
     fn right(&mut self) -> Result<String, Fault> {
-        let count = self.there.len();
-        let answer = self.walk()?;
-        if answer.as_str() != format!(in self.alloc; "{count} entries")?.as_str() {
-            return Ok(answer);
+        if let Some(number) = self.first_wrong()? {
+            return self.another_at(number);
         }
-        let most = self.there.last().copied().unwrap_or(0) / 10;
-        for tenth in 0..=most {
-            let number = tenth.wrapping_mul(10);
-            let expected = self.from(number).filter(|from| *from == number);
-            let got = self.volume.get(&self.tree, number)?;
-            if !self.is_found(got, expected)? {
-                return Ok(format!(in self.alloc; "another at {number}")?);
-            }
+        if let Some(number) = self.first_not_got()? {
+            return self.another_at(number);
         }
-        match self.check_marks(&mut [false; 1024])? {
-            Ok(_) => Ok("right".to_string(self.alloc)?),
-            Err(error) => Ok(refusal(self.alloc, error)?),
-        }
+        self.check_marks(&mut [false; 1024])?;
+        Ok("right".to_string(self.alloc)?)
     }
 
     /// How many pages a check marks.
-    fn check_marks(&mut self, seen: &mut [bool]) -> Result<Answer<usize>, Fault> {
+    fn check_marks(&mut self, seen: &mut [bool]) -> Result<usize, Fault> {
         let before = seen.iter().filter(|mark| **mark).count();
-        match self.volume.check(&self.tree, seen)? {
-            Ok(()) => {
-                let marked = seen.iter().filter(|mark| **mark).count();
-                Ok(Ok(marked.saturating_sub(before)))
-            }
-            Err(error) => Ok(Err(error)),
-        }
+        self.volume.check(&self.tree, seen)?;
+        let marked = seen.iter().filter(|mark| **mark).count();
+        Ok(marked.saturating_sub(before))
     }
 
     /// How many pages the tree has.
     fn pages(&mut self) -> Result<String, Fault> {
-        match self.check_marks(&mut [false; 1024])? {
-            Ok(count) => Ok(format!(in self.alloc; "{count}")?),
-            Err(error) => Ok(refusal(self.alloc, error)?),
-        }
+        let count = self.check_marks(&mut [false; 1024])?;
+        self.number_words(count as u64)
     }
 
     /// How many leaves there are, and how many have fewer rows than so many.
@@ -397,38 +432,39 @@ impl TreeRun {
         let Some(seen) = seen.get_mut(..count) else {
             return Err(Fault::Spelling("there are 1024 marks"));
         };
-        match self.check_marks(seen)? {
-            Ok(_) => Ok("a tree".to_string(self.alloc)?),
-            Err(error) => Ok(refusal(self.alloc, error)?),
-        }
+        self.check_marks(seen)?;
+        Ok("a tree".to_string(self.alloc)?)
+    }
+
+    fn done(&self) -> Result<String, Fault> {
+        Ok("done".to_string(self.alloc)?)
     }
 
     fn clear(&mut self) -> Result<String, Fault> {
-        match self.volume.clear(&mut self.tree)? {
-            Ok(()) => {
-                self.there.clear();
-                Ok("done".to_string(self.alloc)?)
-            }
-            Err(error) => Ok(refusal(self.alloc, error)?),
-        }
+        self.volume.clear(&mut self.tree)?;
+        self.there.clear();
+        self.done()
+    }
+
+    /// The numbers of the last commit are those that are there.
+    fn keep(&mut self) -> Result<(), Fault> {
+        self.committed.clear();
+        self.committed.extend_from_slice(&self.there)?;
+        Ok(())
     }
 
     fn commit(&mut self) -> Result<String, Fault> {
-        let root = self.tree.root();
-        match self.volume.commit(root)? {
-            Ok(()) => {
-                self.committed.clear();
-                self.committed.extend_from_slice(&self.there)?;
-                Ok("done".to_string(self.alloc)?)
-            }
-            Err(error) => Ok(refusal(self.alloc, error)?),
-        }
+        self.volume.commit(self.tree.root())?;
+        self.keep()?;
+        self.done()
     }
 
     /// `try`: a commit that may be stopped.
     fn try_commit(&mut self) -> Result<String, Fault> {
-        let answer = self.commit()?;
-        self.whether(answer.as_str() == "done" || answer.as_str() == "refused 80")
+        match self.commit() {
+            Ok(_) | Err(Fault::Refused(80)) => self.whether(true),
+            Err(fault) => Err(fault),
+        }
     }
 
     /// `reopen`, with so many pages in memory if a number follows: the entries of the last commit are there. By `reopen new` they are those
@@ -443,16 +479,15 @@ impl TreeRun {
         self.volume.reopen(cached)?;
         self.tree = tree_of(self.alloc, self.layout, self.volume.root())?;
         if is_either {
-            let count = self.there.len();
-            is_new = self.walk()?.as_str() == format!(in self.alloc; "{count} entries")?.as_str();
+            is_new = self.first_wrong()?.is_none();
         }
-        if is_new {
-            self.committed.clear();
-            self.committed.extend_from_slice(&self.there)?;
-        } else {
-            self.there.clear();
-            self.there.extend_from_slice(&self.committed)?;
-        }
+        if is_new { self.keep() } else { self.go_back() }
+    }
+
+    /// The numbers that are there are those of the last commit.
+    fn go_back(&mut self) -> Result<(), Fault> {
+        self.there.clear();
+        self.there.extend_from_slice(&self.committed)?;
         Ok(())
     }
 

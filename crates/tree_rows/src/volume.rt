@@ -32,9 +32,6 @@ impl Model for Volume {
     ghost invariant = { λ volume. IsOpen volume.pages };
 }
 
-/// The answer of a call on a tree.
-pub type Answer<T> = Result<T, PagesError>;
-
 /// The bytes of a key.
 pub fn key_of(alloc: Global, layout: RowLayout, number: u32) -> Result<Vec<u8>, AllocError> {
     let mut key = vec![in alloc; 7u8; layout.key_length]?;
@@ -53,6 +50,11 @@ pub fn value_of(alloc: Global, layout: RowLayout, number: u32) -> Result<Vec<u8>
 
 fn small() -> Fault {
     Fault::Spelling("the station is too small")
+}
+
+/// The refusal of a call on pages.
+fn refused(error: PagesError) -> Fault {
+    Fault::Refused(u64::from(error.number()))
 }
 
 /// The tree of a layout below a root.
@@ -141,12 +143,12 @@ impl Volume {
     }
 
     /// Commits what was changed, with a tree's root.
-    pub fn commit(&mut self, root: u32) -> Result<Answer<()>, Fault> {
+    pub fn commit(&mut self, root: u32) -> Result<(), Fault> {
         if self.pages.sectors() > self.station.count() {
             return Err(small());
         }
         self.pages.set_catalog(root);
-        Ok(self.pages.commit(&mut self.station))
+        self.pages.commit(&mut self.station).map_err(refused)
     }
 
     /// A page of zeros that wasn't used.
@@ -192,7 +194,7 @@ impl Volume {
     }
 
     /// Puts the entry of a number into a tree. The answer is whether it is new.
-    pub fn insert(&mut self, tree: &mut Tree, number: u32) -> Result<Answer<bool>, Fault> {
+    pub fn insert(&mut self, tree: &mut Tree, number: u32) -> Result<bool, Fault> {
         let layout = tree.layout();
         let key = key_of(self.alloc, layout, number)?;
         let value = value_of(self.alloc, layout, number)?;
@@ -202,111 +204,114 @@ impl Volume {
         {
             return Err(small());
         }
-        Ok(tree.insert(&mut self.pages, &mut self.station, &key, &value))
+        tree.insert(&mut self.pages, &mut self.station, &key, &value)
+            .map_err(refused)
     }
 
     /// Gives the entry of a number the value of another. The answer is whether it is there.
-    pub fn replace(
-        &mut self,
-        tree: &mut Tree,
-        number: u32,
-        other: u32,
-    ) -> Result<Answer<bool>, Fault> {
+    pub fn replace(&mut self, tree: &mut Tree, number: u32, other: u32) -> Result<bool, Fault> {
         let layout = tree.layout();
         let key = key_of(self.alloc, layout, number)?;
         let value = value_of(self.alloc, layout, other)?;
         if self.pages.sectors() > self.station.count() || value.len() != layout.value_length {
             return Err(small());
         }
-        Ok(tree.replace(&mut self.pages, &mut self.station, &key, &value))
+        tree.replace(&mut self.pages, &mut self.station, &key, &value)
+            .map_err(refused)
     }
 
     /// Takes the entry of a number out of a tree. The answer is whether it was there.
-    pub fn remove(&mut self, tree: &mut Tree, number: u32) -> Result<Answer<bool>, Fault> {
+    pub fn remove(&mut self, tree: &mut Tree, number: u32) -> Result<bool, Fault> {
         let key = key_of(self.alloc, tree.layout(), number)?;
         if self.pages.sectors() > self.station.count() {
             return Err(small());
         }
-        Ok(tree.remove(&mut self.pages, &mut self.station, &key))
+        tree.remove(&mut self.pages, &mut self.station, &key)
+            .map_err(refused)
     }
 
     /// The entry of a number.
-    pub fn get(&mut self, tree: &Tree, number: u32) -> Result<Answer<Option<Entry>>, Fault> {
+    pub fn get(&mut self, tree: &Tree, number: u32) -> Result<Option<Entry>, Fault> {
         let key = key_of(self.alloc, tree.layout(), number)?;
         if self.pages.sectors() > self.station.count() {
             return Err(small());
         }
-        Ok(tree.get(&mut self.pages, &mut self.station, &key))
+        tree.get(&mut self.pages, &mut self.station, &key)
+            .map_err(refused)
     }
 
     /// The first entry from a number on.
-    pub fn seek(&mut self, tree: &Tree, number: u32) -> Result<Answer<Option<Entry>>, Fault> {
+    pub fn seek(&mut self, tree: &Tree, number: u32) -> Result<Option<Entry>, Fault> {
         let key = key_of(self.alloc, tree.layout(), number)?;
         if self.pages.sectors() > self.station.count() {
             return Err(small());
         }
-        Ok(tree.seek(&mut self.pages, &mut self.station, &key))
+        tree.seek(&mut self.pages, &mut self.station, &key)
+            .map_err(refused)
     }
 
     /// The first entry after a number.
-    pub fn next(&mut self, tree: &Tree, number: u32) -> Result<Answer<Option<Entry>>, Fault> {
+    pub fn next(&mut self, tree: &Tree, number: u32) -> Result<Option<Entry>, Fault> {
         let key = key_of(self.alloc, tree.layout(), number)?;
         if self.pages.sectors() > self.station.count() {
             return Err(small());
         }
-        Ok(tree.next(&mut self.pages, &mut self.station, &key))
+        tree.next(&mut self.pages, &mut self.station, &key)
+            .map_err(refused)
     }
 
     /// The first entry.
-    pub fn first(&mut self, tree: &Tree) -> Result<Answer<Option<Entry>>, Fault> {
+    pub fn first(&mut self, tree: &Tree) -> Result<Option<Entry>, Fault> {
         if self.pages.sectors() > self.station.count() {
             return Err(small());
         }
-        Ok(tree.first(&mut self.pages, &mut self.station))
+        tree.first(&mut self.pages, &mut self.station)
+            .map_err(refused)
     }
 
     /// Checks a tree, and marks its pages.
-    pub fn check(&mut self, tree: &Tree, seen: &mut [bool]) -> Result<Answer<()>, Fault> {
+    pub fn check(&mut self, tree: &Tree, seen: &mut [bool]) -> Result<(), Fault> {
         if self.pages.sectors() > self.station.count() {
             return Err(small());
         }
-        Ok(check_tree(self.alloc, tree, &mut self.pages, &mut self.station, seen))
+        check_tree(self.alloc, tree, &mut self.pages, &mut self.station, seen).map_err(refused)
     }
 
     /// Puts a record into a new chain. The answer is its first page.
-    pub fn lay(&mut self, record: &[u8]) -> Answer<u32> {
-        lay(&mut self.pages, record)
+    pub fn lay(&mut self, record: &[u8]) -> Result<u32, Fault> {
+        lay(&mut self.pages, record).map_err(refused)
     }
 
     /// The record of so many bytes in a chain.
-    pub fn record(&mut self, first: u32, size: usize) -> Result<Answer<Vec<u8>>, Fault> {
+    pub fn record(&mut self, first: u32, size: usize) -> Result<Vec<u8>, Fault> {
         if self.pages.sectors() > self.station.count() {
             return Err(small());
         }
-        Ok(read_record(self.alloc, &self.pages, &mut self.station, first, size, 0))
+        read_record(self.alloc, &self.pages, &mut self.station, first, size, 0).map_err(refused)
     }
 
     /// Puts another record into a chain.
-    pub fn rewrite(&mut self, first: u32, record: &[u8]) -> Result<Answer<()>, Fault> {
+    pub fn rewrite(&mut self, first: u32, record: &[u8]) -> Result<(), Fault> {
         if self.pages.sectors() > self.station.count() {
             return Err(small());
         }
-        Ok(rewrite(&mut self.pages, &mut self.station, first, record))
+        rewrite(&mut self.pages, &mut self.station, first, record).map_err(refused)
     }
 
     /// Gives up the pages of the chain of a record of so many bytes.
-    pub fn release(&mut self, first: u32, size: usize) -> Result<Answer<()>, Fault> {
+    pub fn release(&mut self, first: u32, size: usize) -> Result<(), Fault> {
         if self.pages.sectors() > self.station.count() {
             return Err(small());
         }
-        Ok(release(&mut self.pages, &mut self.station, first, size))
+        release(&mut self.pages, &mut self.station, first, size).map_err(refused)
     }
 
     /// Gives up all pages of a tree.
-    pub fn clear(&mut self, tree: &mut Tree) -> Result<Answer<()>, Fault> {
+    pub fn clear(&mut self, tree: &mut Tree) -> Result<(), Fault> {
         if self.pages.sectors() > self.station.count() {
             return Err(small());
         }
-        Ok(tree.clear(&mut self.pages, &mut self.station))
+        tree.clear(&mut self.pages, &mut self.station)
+            .map_err(refused)
     }
 }
