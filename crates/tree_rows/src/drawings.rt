@@ -9,7 +9,10 @@ use std::alloc::{AllocError, Global};
 /// How many entries the tree of a drawing has.
 pub fn entries_in(drawing: &[u8]) -> u32 {
     let mut entries = 0u32;
-    for byte in drawing.iter().take_while(|byte| **byte != b'/') {
+    for byte in drawing.iter() {
+        if *byte == b'/' {
+            break;
+        }
         entries = entries.wrapping_add(u32::from(byte.wrapping_sub(b'0')));
     }
     entries
@@ -19,7 +22,10 @@ pub fn entries_in(drawing: &[u8]) -> u32 {
 pub fn leaves_in(drawing: &[u8], least: usize) -> (usize, usize) {
     let mut leaves = 0usize;
     let mut thin = 0usize;
-    for byte in drawing.iter().take_while(|byte| **byte != b'/') {
+    for byte in drawing.iter() {
+        if *byte == b'/' {
+            break;
+        }
         leaves = leaves.saturating_add(1);
         if rows_in(*byte) < least {
             thin = thin.saturating_add(1);
@@ -190,8 +196,9 @@ fn plant_level(
 /// Adds the children of an inner page after other pages, from right to left.
 fn push_children(pages: &mut Vec<u32>, page: &TreePage) -> Result<(), AllocError> {
     if page.kind() == Kind::Inner {
-        for place in (0..page.count()).rev() {
-            pages.push(page.child(place))?;
+        let count = page.count();
+        for place in 0..count {
+            pages.push(page.child(count - 1 - place))?;
         }
     }
     Ok(())

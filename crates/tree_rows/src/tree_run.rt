@@ -48,6 +48,17 @@ pub fn whether(alloc: Global, fact: bool) -> Result<String, Fault> {
     word_of(alloc, fact, "so", "otherwise")
 }
 
+/// How many marks are set.
+fn marks_in(seen: &[bool]) -> usize {
+    let mut count = 0usize;
+    for mark in seen.iter() {
+        if *mark {
+            count = count.saturating_add(1);
+        }
+    }
+    count
+}
+
 impl TreeRun {
     /// A new volume, with a tree without entries.
     pub fn new(alloc: Global, layout: RowLayout, cached: usize) -> Result<TreeRun, Fault> {
@@ -376,10 +387,9 @@ impl TreeRun {
 
     /// How many pages a check marks.
     fn check_marks(&mut self, seen: &mut [bool]) -> Result<usize, Fault> {
-        let before = seen.iter().filter(|mark| **mark).count();
+        let before = marks_in(seen);
         self.volume.check(&self.tree, seen)?;
-        let marked = seen.iter().filter(|mark| **mark).count();
-        Ok(marked.saturating_sub(before))
+        Ok(marks_in(seen).saturating_sub(before))
     }
 
     /// How many pages the tree has.
