@@ -80,65 +80,56 @@ fn set_length<R: Files<File = File> + AllocGlobal + Abort>(rt: &R, path: &str, b
     value_of(rt, file.set_len(bytes));
 }
 
+/// Asserts that an opening fails with an error of this kind.
+fn is_refused<R: Files<File = File> + AllocGlobal + Abort>(
+    rt: &R,
+    path: &str,
+    access: Access,
+    kind: ErrorKind,
+) {
+    fails_as(rt, HostVolume::open(rt, path, access), kind);
+}
+
+/// Asserts that a new volume isn't made at a path, with an error of this kind.
+fn is_not_made<R: Files<File = File> + AllocGlobal + Abort>(rt: &R, path: &str, kind: ErrorKind) {
+    fails_as(rt, NewVolume::open(rt, path), kind);
+}
+
 #[test]
 fn openings_that_are_refused(rt: HostRuntime) {
     value_of(&rt, fs::create_dir(&rt, "refused"));
     for access in [Access::Read, Access::ReadWrite] {
-        fails_as(
-            &rt,
-            HostVolume::open(&rt, "refused/V", access),
-            ErrorKind::NotFound,
-        );
-        fails_as(
-            &rt,
-            HostVolume::open(&rt, "refused", access),
-            ErrorKind::InvalidInput,
-        );
-        fails_as(
-            &rt,
-            HostVolume::open(&rt, "/dev/zero", access),
-            ErrorKind::InvalidInput,
-        );
+        is_refused(&rt, "refused/V", access, ErrorKind::NotFound);
+        is_refused(&rt, "refused", access, ErrorKind::InvalidInput);
+        is_refused(&rt, "/dev/zero", access, ErrorKind::InvalidInput);
     }
     holds(&rt, !value_of(&rt, fs::exists(&rt, "refused/V")));
-    fails_as(
-        &rt,
-        NewVolume::open(&rt, "refused"),
-        ErrorKind::InvalidInput,
-    );
-    fails_as(
-        &rt,
-        NewVolume::open(&rt, "refused/N/V"),
-        ErrorKind::NotFound,
-    );
+    is_not_made(&rt, "refused", ErrorKind::InvalidInput);
+    is_not_made(&rt, "refused/N/V", ErrorKind::NotFound);
     value_of(&rt, fs::remove_dir_all(&rt, "refused"));
+}
+
+/// With a writer there is neither a reader nor a second writer.
+fn has_one_writer<R: Files<File = File> + AllocGlobal + Abort>(rt: &R, path: &str) {
+    let _writer = opened(rt, path, Access::ReadWrite);
+    is_refused(rt, path, Access::Read, ErrorKind::WouldBlock);
+    is_refused(rt, path, Access::ReadWrite, ErrorKind::WouldBlock);
+    is_not_made(rt, path, ErrorKind::WouldBlock);
+}
+
+/// With a reader there may be another one, but no writer. A reader doesn't write.
+fn has_some_readers<R: Files<File = File> + AllocGlobal + Abort>(rt: &R, path: &str) {
+    let reader = opened(rt, path, Access::Read);
+    drop(opened(rt, path, Access::Read));
+    is_refused(rt, path, Access::ReadWrite, ErrorKind::WouldBlock);
+    holds(rt, reader.write(0, &[8; 4096]).is_err());
 }
 
 #[test]
 fn one_writer_or_some_readers(rt: HostRuntime) {
     make_file(&rt, "locks.V", 4096);
-    let writer = opened(&rt, "locks.V", Access::ReadWrite);
-    fails_as(
-        &rt,
-        HostVolume::open(&rt, "locks.V", Access::Read),
-        ErrorKind::WouldBlock,
-    );
-    fails_as(
-        &rt,
-        HostVolume::open(&rt, "locks.V", Access::ReadWrite),
-        ErrorKind::WouldBlock,
-    );
-    fails_as(&rt, NewVolume::open(&rt, "locks.V"), ErrorKind::WouldBlock);
-    drop(writer);
-    let reader = opened(&rt, "locks.V", Access::Read);
-    drop(opened(&rt, "locks.V", Access::Read));
-    fails_as(
-        &rt,
-        HostVolume::open(&rt, "locks.V", Access::ReadWrite),
-        ErrorKind::WouldBlock,
-    );
-    holds(&rt, reader.write(0, &[8; 4096]).is_err());
-    drop(reader);
+    has_one_writer(&rt, "locks.V");
+    has_some_readers(&rt, "locks.V");
     let volume = opened(&rt, "locks.V", Access::ReadWrite);
     let mut bytes = [0; 4096];
     value_of(&rt, volume.read(0, &mut bytes));
@@ -200,6 +191,13 @@ fn sectors_of_a_file(rt: HostRuntime) {
     remove(&rt, "length.V");
 }
 
+/// Asserts that a file has so many bytes, which are zeros.
+fn has_zeros<R: Files<File = File> + AllocGlobal + Abort>(rt: &R, path: &str, count: usize) {
+    let bytes = content(rt, path);
+    same(rt, bytes.len(), count);
+    holds(rt, bytes.iter().all(|byte| *byte == 0));
+}
+
 /// What a new volume held is gone, and progress is reported after each MiB.
 #[test]
 fn bytes_of_a_new_volume(rt: HostRuntime) {
@@ -215,9 +213,7 @@ fn bytes_of_a_new_volume(rt: HostRuntime) {
     });
     same(&rt, value_of(&rt, filled).count(), 513);
     same(&rt, (calls, reported), (3, [256, 512, 513]));
-    let bytes = content(&rt, "new.V");
-    same(&rt, bytes.len(), 513 * 4096);
-    holds(&rt, bytes.iter().all(|byte| *byte == 0));
+    has_zeros(&rt, "new.V", 513 * 4096);
     remove(&rt, "new.V");
 }
 
@@ -226,8 +222,14 @@ fn has_sector(rt: &impl Abort, device: &mut HostDevice, sector: u32, byte: Optio
     let mut bytes = [0; 4096];
     assert!(rt; sector < device.count());
     let is_read = device.read(sector, &mut bytes).is_ok();
-    assert!(rt; is_read == byte.is_some(), "{sector}");
-    assert!(rt; bytes == [byte.unwrap_or(0); 4096], "{sector}");
+    same(rt, (sector, is_read), (sector, byte.is_some()));
+    holds(rt, bytes == [byte.unwrap_or(0); 4096]);
+}
+
+/// Writes these sectors and syncs, which has to work.
+fn writes_all(rt: &impl Abort, device: &mut HostDevice, sectors: &[(u32, u8)]) {
+    holds(rt, write_all(device, sectors));
+    holds(rt, device.sync().is_ok());
 }
 
 /// Asserts that a device has sectors of these bytes.
@@ -293,11 +295,8 @@ fn has_first_bytes<R: Files<File = File> + AllocGlobal + Abort>(
 fn roots_that_wait(rt: HostRuntime) {
     let volume = new_volume(&rt, "wait.V", 4);
     let mut device = HostDevice::with_roots_last(rt.alloc(), volume);
-    holds(
-        &rt,
-        write_all(&mut device, &[(1, 1), (0, 2), (2, 3), (1, 4), (3, 5)]),
-    );
-    holds(&rt, device.sync().is_ok());
+    let sectors = [(1, 1), (0, 2), (2, 3), (1, 4), (3, 5)];
+    writes_all(&rt, &mut device, &sectors);
     has_first_bytes(&rt, "wait.V", &[0, 0, 3, 5]);
     has_sectors_of(&rt, &mut device, &[(0, 2), (1, 4), (2, 3), (3, 5)]);
     drop(value_of(&rt, device.into_volume()));
@@ -392,8 +391,7 @@ fn writes_before_a_sync(rt: HostRuntime) {
         (&[(0, 7), (2, 8), (3, 9)], [7, 0, 8, 9, 3, 5, 4, 6]),
         (&[(1, 1), (1, 2), (2, 3)], [7, 2, 3, 9, 3, 5, 4, 6]),
     ] {
-        holds(&rt, write_all(&mut device, sectors));
-        holds(&rt, device.sync().is_ok());
+        writes_all(&rt, &mut device, sectors);
         has_first_bytes(&rt, "sync.V", &expected);
     }
     same(&rt, device.failures(), 0);
@@ -433,6 +431,20 @@ fn volume_of_a_device_that_wrote(rt: HostRuntime) {
     remove(&rt, "given.V");
 }
 
+/// Asserts that two syncs fail, which are the first failures.
+fn fails_to_sync(rt: &impl Abort, device: &mut HostDevice) {
+    holds(rt, device.sync().is_err());
+    holds(rt, device.sync().is_err());
+    same(rt, device.failures(), 2);
+}
+
+/// Asserts that a read and a write fail after two failures.
+fn fails_to_read_and_write(rt: &impl Abort, device: &mut HostDevice) {
+    has_sector(rt, device, 2, None);
+    holds(rt, !write_all(device, &[(0, 1)]));
+    same(rt, device.failures(), 4);
+}
+
 /// A volume that is open to read refuses writes. The failure is answered at the latest by the sync, and by each call from then on.
 #[test]
 fn writes_that_the_host_refuses(rt: HostRuntime) {
@@ -440,12 +452,8 @@ fn writes_that_the_host_refuses(rt: HostRuntime) {
     let volume = opened(&rt, "refused.V", Access::Read);
     let mut device = HostDevice::new(rt.alloc(), volume);
     let _ = write_all(&mut device, &[(2, 1)]);
-    holds(&rt, device.sync().is_err());
-    holds(&rt, device.sync().is_err());
-    same(&rt, device.failures(), 2);
-    has_sector(&rt, &mut device, 2, None);
-    holds(&rt, !write_all(&mut device, &[(0, 1)]));
-    same(&rt, device.failures(), 4);
+    fails_to_sync(&rt, &mut device);
+    fails_to_read_and_write(&rt, &mut device);
     holds(&rt, device.into_volume().is_err());
     remove(&rt, "refused.V");
 }
