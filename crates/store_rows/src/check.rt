@@ -53,7 +53,7 @@ fn do_row(
     run.row(&row.text)?;
     run.volume.forget_calls();
     let after = run.volume.files()?;
-    let disturbance = Disturbance {
+    let mut disturbance = Disturbance {
         alloc: run.alloc,
         case: run.case,
         kind,
@@ -63,6 +63,7 @@ fn do_row(
         row: &row.text,
         before,
         after,
+        spare: Vec::new(run.alloc),
     };
     disturbance.at_each_call()
 }

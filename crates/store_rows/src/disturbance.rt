@@ -36,7 +36,12 @@ pub struct Disturbance<'a> {
     pub row: &'a [u8],
     pub before: Vec<u8>,
     pub after: Vec<u8>,
+    /// Volumes that were crashed. New ones take longer to make.
+    pub spare: Vec<Volume>,
 }
+
+/// A volume whose station kept a record of more writes isn't used again.
+const MOST_WRITES: u64 = 1000;
 
 /// Whether a failed statement spends the store. `None`: it may.
 fn spends(verb: Verb) -> Option<bool> {
@@ -61,9 +66,27 @@ fn is_needed(row: &[u8]) -> bool {
 }
 
 impl<'a> Disturbance<'a> {
+    /// A volume with the sectors at the row `disturbed`.
+    fn volume(&mut self) -> Result<Volume, Fault> {
+        let Some(mut volume) = self.spare.pop() else {
+            return Volume::with(self.alloc, self.kind, self.sectors);
+        };
+        volume.restore(self.sectors)?;
+        Ok(volume)
+    }
+
+    /// Keeps a volume that was crashed.
+    fn spare(&mut self, volume: Volume) -> Result<(), Fault> {
+        if volume.writes() <= MOST_WRITES {
+            self.spare.push(volume)?;
+        }
+        Ok(())
+    }
+
     /// The case before the statement.
-    fn replay(&self) -> Result<Run<'a>, Fault> {
-        let mut run = Run::from(self.alloc, self.case, self.kind, self.sectors)?;
+    fn replay(&mut self) -> Result<Run<'a>, Fault> {
+        let volume = self.volume()?;
+        let mut run = Run::from(self.alloc, self.case, volume)?;
         for row in self.case.rows.iter().take(self.place).skip(self.start) {
             if is_needed(&row.text) {
                 run.row(&row.text)?;
@@ -74,7 +97,7 @@ impl<'a> Disturbance<'a> {
 
     /// The statement, disturbed at a call, and whether it ended before that call.
     fn perform_disturbed(
-        &self,
+        &mut self,
         n: u64,
         is_stop: bool,
     ) -> Result<(Run<'a>, Statement, bool), Fault> {
@@ -114,7 +137,7 @@ impl<'a> Disturbance<'a> {
     }
 
     /// A stop at a call, and each image that it may leave.
-    fn check_stop(&self, n: u64) -> Result<(), Fault> {
+    fn check_stop(&mut self, n: u64) -> Result<(), Fault> {
         let (stable, _, is_done) = self.perform_disturbed(n, true)?;
         let (last, _, _) = self.perform_disturbed(n, true)?;
         let mut stable = stable.volume;
@@ -126,21 +149,24 @@ impl<'a> Disturbance<'a> {
             images.leave(&mut stable, image)?;
             self.check_files(&mut stable, is_done)?;
         }
-        Ok(())
+        self.spare(stable)?;
+        self.spare(last)
     }
 
     /// A failure at a call. The answer is whether the statement ended before that call.
-    fn check_failure(&self, n: u64) -> Result<bool, Fault> {
+    fn check_failure(&mut self, n: u64) -> Result<bool, Fault> {
         let (mut run, statement, is_done) = self.perform_disturbed(n, false)?;
         let mut is_after = is_done;
         if !is_done {
             is_after = self.perform_again(&mut run, &statement)?;
         }
+        let mut volume = run.volume;
+        let choice = u32::try_from(n % 3).unwrap_or(0);
+        volume.crash(&[choice; 64]);
         if !is_after {
-            let choice = u32::try_from(n % 3).unwrap_or(0);
-            run.volume.crash(&[choice; 64]);
-            self.check_files(&mut run.volume, is_done)?;
+            self.check_files(&mut volume, is_done)?;
         }
+        self.spare(volume)?;
         Ok(is_done)
     }
 
@@ -183,7 +209,7 @@ impl<'a> Disturbance<'a> {
 
     /// `migrate`, disturbed at a call, and a crash. Then the files are there, a second `migrate` ends, and a third one writes nothing.
     /// The answer is whether the first one ended before that call.
-    fn migrate_disturbed(&self, n: u64, is_stop: bool, choices: &[u32]) -> Result<bool, Fault> {
+    fn migrate_disturbed(&mut self, n: u64, is_stop: bool, choices: &[u32]) -> Result<bool, Fault> {
         let mut volume = self.replay()?.volume;
         volume.disturb(n, is_stop);
         let is_done = match volume.migrate() {
@@ -200,11 +226,12 @@ impl<'a> Disturbance<'a> {
         if volume.writes() != writes {
             return Err(Fault::Spelling("a migrated volume is written"));
         }
+        self.spare(volume)?;
         Ok(is_done)
     }
 
     /// `migrate`, stopped and failed at a call. The answer is whether it ended before that call.
-    fn migrate_to_call(&self, n: u64) -> Result<bool, Fault> {
+    fn migrate_to_call(&mut self, n: u64) -> Result<bool, Fault> {
         let mut is_done = false;
         for choices in CHOICES {
             self.migrate_disturbed(n, true, &choices)?;
@@ -213,7 +240,7 @@ impl<'a> Disturbance<'a> {
         Ok(is_done)
     }
 
-    fn migrate_to_each_call(&self) -> Result<(), Fault> {
+    fn migrate_to_each_call(&mut self) -> Result<(), Fault> {
         for n in 1..MOST_CALLS {
             if self.migrate_to_call(n)? {
                 return Ok(());
@@ -223,7 +250,7 @@ impl<'a> Disturbance<'a> {
     }
 
     /// Disturbs the statement at each of its calls.
-    pub fn at_each_call(&self) -> Result<(), Fault> {
+    pub fn at_each_call(&mut self) -> Result<(), Fault> {
         if is_migration(self.row) {
             return self.migrate_to_each_call();
         }

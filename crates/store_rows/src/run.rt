@@ -90,14 +90,8 @@ impl<'a> Run<'a> {
         Ok(run)
     }
 
-    /// A case whose rows go on over a volume with these sectors, in which no file is open.
-    pub fn from(
-        alloc: Global,
-        case: &'a Case,
-        kind: Kind,
-        sectors: &[[u8; 4096]],
-    ) -> Result<Run<'a>, Fault> {
-        let volume = Volume::with(alloc, kind, sectors)?;
+    /// A case whose rows go on over a volume in which no file is open.
+    pub fn from(alloc: Global, case: &'a Case, volume: Volume) -> Result<Run<'a>, Fault> {
         let mut run = Run::over(alloc, case, volume);
         run.open()?;
         Ok(run)

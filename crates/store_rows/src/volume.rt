@@ -92,6 +92,21 @@ impl Volume {
         })
     }
 
+    /// Gives the volume these sectors. It isn't open then.
+    pub fn restore(&mut self, sectors: &[[u8; 4096]]) -> Result<(), Fault> {
+        self.verbs = Verbs::Closed;
+        let mut bytes = [0; 4096];
+        let mut number = 0u32;
+        for saved in sectors.iter() {
+            self.read(number, &mut bytes)?;
+            if bytes.as_slice() != saved.as_slice() {
+                self.put(number, saved)?;
+            }
+            number = number.saturating_add(1);
+        }
+        Ok(())
+    }
+
     /// Makes a volume without files of the station. It isn't open then.
     pub fn format(&mut self) -> Result<(), Fault> {
         self.verbs = Verbs::Closed;
@@ -184,15 +199,18 @@ impl Volume {
         self.station.count()
     }
 
-    /// A sector.
-    pub fn sector(&mut self, number: u32) -> Result<[u8; 4096], Fault> {
+    /// Reads a sector into these bytes.
+    pub fn read(&mut self, number: u32, bytes: &mut [u8; 4096]) -> Result<(), Fault> {
         if number >= self.station.count() {
             return Err(Fault::Spelling("there is no such sector"));
         }
+        self.station.read(number, bytes).map_err(device_refusal)
+    }
+
+    /// A sector.
+    pub fn sector(&mut self, number: u32) -> Result<[u8; 4096], Fault> {
         let mut bytes = [0; 4096];
-        self.station
-            .read(number, &mut bytes)
-            .map_err(device_refusal)?;
+        self.read(number, &mut bytes)?;
         Ok(bytes)
     }
 
