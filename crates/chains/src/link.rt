@@ -8,7 +8,7 @@ ghost use Rattle.btree.specs.Calls.{OnPages};
 ghost use Rattle.btree.specs.Changes.{pages_of_map};
 ghost use Rattle.btree.specs.Reading.{IsReadRefusal};
 ghost use Rattle.btree.specs.Refusals.{IsWriteRefusal};
-ghost use Rattle.btree.specs.Results.{OnlyIfSpent, ExactlyIfSpent, FullIfUsed, FewChanged, FewFilled, ReturnsDamaged};
+ghost use Rattle.btree.specs.Results.{ExactlyIfSpent, FullIfUsed, FewChanged, FewFilled, ReturnsDamaged};
 ghost use Rattle.chains.specs.Chain.{IsLink, next_in, page_at, next_at, link_bytes};
 ghost use Rattle.chains.specs.Links.{PutsLink, LinksTo, AddsPart, NoLink};
 ghost use Rattle.chains.specs.Refusals.{IsRecordRefusal};
@@ -27,7 +27,7 @@ const NEXT_AT: usize = 4;
 /// Where the part of the record begins.
 const PART_AT: usize = 16;
 
-/// The page after a page of a chain. It is read past the cache of pages, which stays. `Damaged` tells that the page is none of a chain.
+/// The page after a page of a chain. It is read past the cache of pages, which stays. `Damaged` means that the page is none of a chain.
 pub fn next_page<D: Device>(pages: &PageMap, device: &mut D, page: u32) -> Result<u32, PagesError>
     requires open { IsOpen pages.now }
     requires sectors { sectors_of pages.now ≤ D.sectors device.old }
@@ -120,7 +120,7 @@ pub(crate) fn page_after<D: Device>(
 }
 
 /// Adds the beginning of the part that is on a page of a chain to a list, so many bytes, and returns the next page. It reads past the
-/// cache of pages, by way of a buffer. `Damaged` tells that the page is none of a chain.
+/// cache of pages, into a buffer first. `Damaged` means that the page is none of a chain.
 pub(crate) fn add_part<D: Device>(
     pages: &PageMap,
     device: &mut D,
@@ -139,7 +139,7 @@ pub(crate) fn add_part<D: Device>(
         (length bytes.new.items ≡ length bytes.old.items + size) }
     ensures damaged { OnPages D.Device pages.now device.old
         (NoLink page (ReturnsDamaged result)) }
-    ensures spent { OnlyIfSpent pages.now result }
+    ensures spent { ExactlyIfSpent pages.now result }
     ensures cause { IfErr result IsRecordRefusal }
 {
     let next = read_link(pages, device, page, held)?;
@@ -173,7 +173,7 @@ fn read_link<D: Device>(
     follow(page, held)
 }
 
-/// The next page that the bytes of a page of a chain name. `Damaged` tells that the page is none of a chain.
+/// The next page that the bytes of a page of a chain name. `Damaged` means that the page is none of a chain.
 fn follow(page: u32, bytes: &[u8; 4096]) -> Result<u32, PagesError>
     ensures long { length bytes.now ≡ 4096 }
     ensures some { OnOk result (0 < page) }

@@ -1,7 +1,7 @@
 //! The record of a chain is read.
-ghost use Rattle.std.specs.Prelude.{◌≡◌, ◌≤◌, Err, length, IfOk, IfErr};
+ghost use Rattle.std.specs.Prelude.{◌≡◌, ◌≢◌, ◌≤◌, ◌⊎◌, true, Err, length, IfOk, IfErr};
 ghost use Rattle.station.specs.Calls.{OnlyReads};
-ghost use Rattle.pages.specs.Pages.{sectors_of, IsOpen};
+ghost use Rattle.pages.specs.Pages.{is_spent, sectors_of, IsOpen};
 ghost use Rattle.btree.specs.Calls.{OnPages};
 ghost use Rattle.btree.specs.Results.{ReturnsDamaged, OnlyIfSpent};
 ghost use Rattle.chains.specs.Chain.{pages_for};
@@ -16,7 +16,7 @@ use station::Device;
 use std::alloc::Global;
 
 /// The record of so many bytes in the chain of its first page, in a list with room for so many bytes more. Its pages are read past the
-/// cache, which stays. `Damaged` tells that no chain of that length stands there.
+/// cache, which stays. `Damaged` means that no chain of that length stands there. A map that is spent gives no bytes.
 pub fn read_record<D: Device>(
     alloc: Global,
     pages: &PageMap,
@@ -34,6 +34,8 @@ pub fn read_record<D: Device>(
     ensures damaged { OnNoChain D.Device (pages_for size) first pages.now device.old
         (ReturnsDamaged result) }
     ensures spent { OnlyIfSpent pages.now result }
+    ensures told { is_spent pages.now ≡ true → size ≢ 0
+        → (result ≡ Err PagesError.Spent) ⊎ (result ≡ Err PagesError.Memory) }
     ensures cause { IfErr result IsRecordRefusal }
 {
     let count = page_count(size);

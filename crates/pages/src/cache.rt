@@ -175,8 +175,8 @@ pub(crate) fn load_page<D: Device>(
     Ok(())
 }
 
-/// Reads the page of a number in a table into a buffer: from the cache where it is there, and otherwise from the device. It tells
-/// whether the table has it. Where it has not, the buffer stays.
+/// Reads the page of a number in a table into a buffer: from the cache where it is there, and otherwise from the device. It returns
+/// whether the table has it. The buffer stays if the table hasn't.
 pub(crate) fn fetch_page<D: Device>(
     cache: &LruCache<u32, PageBytes>,
     table: &[u32],
@@ -203,7 +203,7 @@ pub(crate) fn fetch_page<D: Device>(
     }
 }
 
-/// Copies the bytes of a page into a buffer, if there are any, and tells whether there are.
+/// Copies the bytes of a page into a buffer, if there are any, and returns whether there are.
 pub(crate) fn copy_page(page: Option<&[u8; 4096]>, bytes: &mut [u8; 4096]) -> bool
     ensures copied { option_copied page.entry ≡ (if result then Some bytes.new else None) }
     ensures absent { result ≡ false → bytes.new ≡ bytes.old }

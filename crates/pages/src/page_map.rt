@@ -300,8 +300,8 @@ impl PageMap {
         }
     }
 
-    /// Reads a page of the map past the cache, which stays with its order of use. It tells whether the map has the page. Where it has
-    /// not, the buffer stays.
+    /// Reads a page of the map past the cache, which stays with its order of use. It returns whether the map has the page. The buffer
+    /// stays if the map hasn't, and if the value is spent. It may have any bytes after the device refused.
     pub fn read_past<D: Device>(
         &self,
         device: &mut D,
@@ -324,6 +324,8 @@ impl PageMap {
 
         // `Spent` comes exactly where the value is spent, and otherwise the device alone refuses.
         ensures spent { result ≡ Err PagesError.Spent ↔ is_spent self.now ≡ true }
+        ensures kept { result ≡ Err PagesError.Spent
+            → (device.new ≡ device.old) × (bytes.new ≡ bytes.old) }
         ensures cause { OnErr result
             ((result ≡ Err PagesError.Device) ⊎ (result ≡ Err PagesError.Spent)) }
     {

@@ -78,7 +78,7 @@ pub(crate) fn read_page<D: Device>(
     Ok(Some(bytes))
 }
 
-/// Reads the page of a number in a table into a buffer, and tells whether the table has it. Where it has not, the buffer stays.
+/// Reads the page of a number in a table into a buffer, and returns whether the table has it. The buffer stays if the table hasn't.
 pub(crate) fn fill_page<D: Device>(
     table: &[u32],
     device: &mut D,

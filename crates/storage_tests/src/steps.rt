@@ -1,4 +1,4 @@
-//! Rows of calls on an open volume, one after the other. A row is data, so that a test of ten calls costs the proof of none.
+//! Calls on an open volume, one after the other. They are data, which takes no proof.
 use crate::asserted::same_in;
 use crate::opened::{Volume, works};
 use pages::PagesError;

@@ -1,4 +1,4 @@
-//! The calls that rows make, by their words.
+//! The calls of rows, by their words.
 
 /// A call.
 #[derive(Clone, Copy)]
@@ -51,7 +51,7 @@ pub enum ChainCall {
     Zeros,
 }
 
-/// That answers nothing.
+/// A change of the volume, which has no answer.
 #[derive(Clone, Copy)]
 pub enum VolumeCall {
     Reopen,
@@ -63,10 +63,10 @@ pub enum VolumeCall {
     Page,
     Root,
     Swap,
-    Begin,
+    Count,
 }
 
-/// For a count.
+/// A count.
 #[derive(Clone, Copy)]
 pub enum CountCall {
     Read,
@@ -120,7 +120,7 @@ const VOLUME_CALLS: [(&[u8], VolumeCall); 10] = [
     (b"page", VolumeCall::Page),
     (b"root", VolumeCall::Root),
     (b"swap", VolumeCall::Swap),
-    (b"count", VolumeCall::Begin),
+    (b"count", VolumeCall::Count),
 ];
 
 const COUNT_CALLS: [(&[u8], CountCall); 4] = [
@@ -130,25 +130,25 @@ const COUNT_CALLS: [(&[u8], CountCall); 4] = [
     (b"free", CountCall::Free),
 ];
 
-/// The value beside a word.
-fn beside<T: Copy>(table: &[(&[u8], T)], word: &[u8]) -> Option<T> {
+/// The call that a table has for a word.
+fn look_up<T: Copy>(table: &[(&[u8], T)], word: &[u8]) -> Option<T> {
     let row = table.iter().find(|row| row.0 == word)?;
     Some(row.1)
 }
 
 /// The call of a word.
 pub fn call_of(word: &[u8]) -> Option<Call> {
-    if let Some(call) = beside(&ENTRY_CALLS, word) {
+    if let Some(call) = look_up(&ENTRY_CALLS, word) {
         return Some(Call::Entry(call));
     }
-    if let Some(call) = beside(&TREE_CALLS, word) {
+    if let Some(call) = look_up(&TREE_CALLS, word) {
         return Some(Call::Tree(call));
     }
-    if let Some(call) = beside(&CHAIN_CALLS, word) {
+    if let Some(call) = look_up(&CHAIN_CALLS, word) {
         return Some(Call::Chain(call));
     }
-    if let Some(call) = beside(&VOLUME_CALLS, word) {
+    if let Some(call) = look_up(&VOLUME_CALLS, word) {
         return Some(Call::Volume(call));
     }
-    beside(&COUNT_CALLS, word).map(Call::Count)
+    look_up(&COUNT_CALLS, word).map(Call::Count)
 }

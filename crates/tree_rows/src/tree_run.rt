@@ -126,7 +126,7 @@ impl TreeRun {
         }
     }
 
-    /// A call that answers nothing.
+    /// A change of the volume.
     fn volume_call(&mut self, call: VolumeCall, words: &mut Words<'_>) -> Result<(), Fault> {
         match call {
             VolumeCall::Reopen => self.reopen(words),
@@ -137,8 +137,14 @@ impl TreeRun {
             VolumeCall::Allocate => self.allocate(words),
             VolumeCall::Page => self.page(words),
             VolumeCall::Root => self.take_root(words),
-            VolumeCall::Swap => Ok(self.swap()),
-            VolumeCall::Begin => Ok(self.calls = self.volume.calls()),
+            VolumeCall::Swap => {
+                self.swap();
+                Ok(())
+            }
+            VolumeCall::Count => {
+                self.calls = self.volume.calls();
+                Ok(())
+            }
         }
     }
 
@@ -334,7 +340,7 @@ impl TreeRun {
     }
 
     /// Goes from the first entry to after the last, each time by the key of the entry that was answered. The answer is the number of the
-    /// entry that is another one. One behind the last has the last's number.
+    /// entry that is another one. An entry after the last one has the last one's number.
     fn first_wrong(&mut self) -> Result<Option<u32>, Fault> {
         let count = self.there.len();
         let mut found = self.volume.first(&self.tree)?;

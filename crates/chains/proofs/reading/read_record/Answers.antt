@@ -1,11 +1,13 @@
-use Rattle.std.proofs.Common.{◌≡◌, ◌<◌, ◌+◌, ◌-◌, ◌*◌, ℕ, length, sym, subst, arith}
+use Rattle.std.proofs.Common.{◌≡◌, ◌<◌, ◌+◌, ◌-◌, ◌*◌, ℕ, length, sym, subst, ◌∙◌, arith}
 use Rattle.std.specs.Prelude.{Err}
 use Rattle.std.proofs.lemmas.Result.{err_from_is_err_and}
 use Rattle.station.specs.State.{State}
 use Rattle.station.proofs.Calls.{reads_then}
-use Rattle.pages.specs.Pages.{Agrees}
+use Rattle.pages.specs.Pages.{is_spent, Agrees}
 use Rattle.pages.specs.declared.error.PagesError.TheVariants.{Damaged}
 use Rattle.btree.specs.Changes.{pages_of_map}
+use Rattle.btree.proofs.Frames.{false_unless}
+use Rattle.btree.proofs.Passing.{never_ok}
 use Rattle.chains.specs.Chain.{IsLink, Stands, page_at, pages_for}
 use Rattle.chains.specs.Links.{AddsPart}
 use Rattle.chains.proofs.Parts.{follows_next, record_step, record_whole, stops_at, part_ends}
@@ -17,7 +19,8 @@ use Rattle.chains.proofs.reading.read_record.Goals as goal
 added : (g : Over) (c : goal.In_ok-next g) → g.D.Device.is_honest c.args.device.now
     → Agrees c.args.pages.now (g.D.Device.state c.args.device.now).disk
     → AddsPart (pages_of_map c.args.pages.now (g.D.Device.state c.args.device.now).disk.present) c.loop-place.page
-    (c.part_end.result - c.loop-place.place * 4080) c.loop-place.bytes.items c.add_part.new.bytes.items c.in_ok-next.next
+    (c.part_end.result - c.loop-place.place * 4080) c.loop-place.bytes.items c.add_part.new.bytes.items
+    c.in_ok-next.next
 added g c honest agrees =
     let only = c.loop-place.invariant.only in
     let same = only.state honest in
@@ -46,6 +49,8 @@ loop-place-preserved g c =
           c.part_end.result c.args.first loop.page c.in_ok-next.next (loop.invariant.follows h a) bounds.low
           bounds.within bounds.last (loop.invariant.bytes h a) (added g c h a);
       some = ends.0;
+      unspent = λ some. false_unless (is_spent c.args.pages.now)
+          (λ was. never_ok (sym c.in_ok-next.was ∙ c.add_part.ensures.spent.1 was));
       whole = ends.1;
     }
 
