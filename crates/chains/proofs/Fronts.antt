@@ -1,15 +1,21 @@
 -- A page comes in front of a chain, gets another part of the record, or leaves.
-use Rattle.std.proofs.Common.{◌≡◌, ⊎_elim, inl, inr, ◌<◌, ℕ, suc, List, [], ◌∷◌, ◌++◌, length, set}
+use Rattle.std.proofs.Common.{◌≡◌, ⊎_elim, inl, inr, ◌<◌, ◌≤◌, ◌+◌, ℕ, suc, List, [], ◌∷◌, ◌++◌, length, set}
 use Rattle.std.proofs.Common.{refl, sym, ap, subst, ◌∙◌, arith, length-set, get_or-set_same, get_or-set_other}
-use Rattle.std.specs.Prelude.{Contains, Option, Some, None}
+use Rattle.std.specs.Prelude.{Contains, Option, Some, None, Result, Ok, Err, IfOk, OnErr}
 use Rattle.station.specs.Disk.{Sector}
+use Rattle.pages.specs.Changes.{ChangesPage}
+use Rattle.pages.specs.Pages.{IsPage, page_count}
+use Rattle.pages.specs.declared.error.PagesError.{PagesError}
+use Rattle.pages.specs.declared.page_map.PageMap.{PageMap}
+use Rattle.btree.specs.Changes.{pages_of_map}
 use Rattle.btree.specs.Moves.{Moves}
+use Rattle.btree.proofs.ChangedPages.{changes_count}
 use Rattle.btree.proofs.Runs.{in_none, in_cases, in_head, in_tail}
 use Rattle.btree.proofs.Clearing.{moves_one, moves_both}
 use Rattle.chains.specs.Chain.{IsLink, next_in, next_on, part_on, page_at, next_at, Stands, chain_pages, chain_bytes}
 use Rattle.chains.specs.Chain.{pages_for}
 use Rattle.chains.specs.Chain.{with_zeros, link_bytes}
-use Rattle.chains.specs.Links.{IsCut, Sets}
+use Rattle.chains.specs.Links.{IsCut, Sets, PutsLink}
 use Rattle.chains.specs.Changes.{Lays, Rewrites, Releases}
 use Rattle.chains.proofs.Following.{first_once, never_none}
 use Rattle.chains.proofs.Staying.{Same, stands_still, pages_still, bytes_still}
@@ -25,16 +31,30 @@ sets_once before after page now low is = record {
       ap (λ (p : List (Option Sector)). page_at p other) is ∙ get_or-set_other before page other now None apart;
 }
 
-pub sets_twice : (before after : List (Option Sector)) (page : ℕ) (one two : Option Sector) → page < length before
-    → after ≡ set (set before page one) page two → Sets before page two after
-sets_twice before after page one two low is =
-    let wide : page < length (set before page one) = omega (arith, length-set before page one) in
-    let second = sets_once (set before page one) after page two wide is in
+-- A page that wasn't in the map gets a part of a record.
+pub puts_link : (result : Result ℕ PagesError) (old new : PageMap) (next : ℕ) (part bytes : List ℕ)
+    → ((image : List Sector) → length (pages_of_map old image) ≡ page_count old) → IfOk result (IsPage old)
+    → IfOk result (λ page. (image : List Sector) → page_at (pages_of_map old image) page ≡ None)
+    → IfOk result (λ page. (image : List Sector) → pages_of_map new image
+    ≡ set (pages_of_map old image) page (Some bytes)) → bytes ≡ link_bytes next part
+    → next_in (link_bytes next part) ≡ next → IfOk result
+    (λ page. (image : List Sector) → PutsLink (pages_of_map old image) next part (pages_of_map new image) page)
+puts_link (Ok page) old new next part bytes count within none map is reads = λ image.
     record {
-      count = second.count ∙ length-set before page one;
-      here = second.here;
-      others = λ other apart. second.others other apart ∙ get_or-set_other before page other one None apart;
+      some = within.0;
+      none = none image;
+      reads = reads;
+      sets = sets_once (pages_of_map old image) (pages_of_map new image) page (Some (link_bytes next part))
+          (omega (arith, within.1, count image))
+          (map image ∙ ap (λ (b : Sector). set (pages_of_map old image) page (Some b)) is);
     }
+puts_link (Err error) old new next part bytes count within none map is reads = tt
+
+-- At most one page more was changed.
+pub changes_one : (result : Result ℕ PagesError) (old new : List ℕ)
+    → IfOk result (λ page. ChangesPage old page new) → OnErr result (new ≡ old) → length new ≤ length old + 1
+changes_one (Ok page) old new changes_page same = changes_count old page new changes_page
+changes_one (Err error) old new changes_page same = omega (arith, ap length same)
 
 -- a chain without the page is as it was
 pub sets_apart : (before after : List (Option Sector)) (page : ℕ) (now : Option Sector) (numbers : List ℕ)

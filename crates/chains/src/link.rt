@@ -58,10 +58,8 @@ pub(crate) fn put_link(pages: &mut PageMap, next: u32, part: &[u8]) -> Result<u3
 {
     // How many page numbers there are is needed below.
     let _page_count = pages.page_count();
-    let page = pages.allocate()?;
     let spelled = link(next, part);
-    pages.edit(page, &spelled)?;
-    Ok(page)
+    pages.allocate_past(&spelled)
 }
 
 /// The bytes of a page of a chain.

@@ -46,7 +46,7 @@ pub fn rewrite<D: Device>(
     for place in 0..count {
         let next = page_after(pages, device, page, count - 1 - place)?;
         let spelled = link(next, part_of(bytes, place));
-        pages.edit(page, &spelled)?;
+        pages.edit_past(page, &spelled)?;
         page = next;
     }
     Ok(())

@@ -11,6 +11,7 @@ use crate::change::Change;
 use crate::error::PagesError;
 use crate::page_bytes::PageBytes;
 use crate::reading::{fill_page, read_page, sector_of};
+use crate::spares::{keep_spare, take_spare};
 use lru::LruCache;
 use station::Device;
 use std::alloc::{AllocError, Global};
@@ -121,31 +122,27 @@ fn put_page(cache: &mut LruCache<u32, PageBytes>, page: u32, bytes: PageBytes)
     }
 }
 
-/// The same. A page that leaves the cache for it is answered, for its place in memory.
-fn push_page(cache: &mut LruCache<u32, PageBytes>, page: u32, bytes: PageBytes) -> Option<PageBytes>
+/// The same. The place in memory of a page that leaves the cache for it becomes a spare one.
+fn push_page(
+    cache: &mut LruCache<u32, PageBytes>,
+    spares: &mut Vec<PageBytes>,
+    page: u32,
+    bytes: PageBytes,
+)
     ensures { CachesPage page bytes cache.old cache.new }
 {
     match cache.push(page, bytes) {
-        Ok(Some((_, left))) => Some(left),
-        Ok(None) => None,
-        Err(_) => None,
+        Ok(Some((_, left))) => keep_spare(spares, left),
+        Ok(None) => {}
+        Err(_) => {}
     }
 }
 
-/// A place in memory for a page: the spare one, or a new one, if memory has one.
-fn take_spare(alloc: Global, spare: &mut Option<PageBytes>) -> Option<PageBytes> {
-    match spare.take() {
-        Some(bytes) => Some(bytes),
-        None => PageBytes::new(alloc, [0; 4096]).ok(),
-    }
-}
-
-/// A page of a table comes from the device into the cache, so far as memory has a place for it. It is read where it will stand. The
-/// place of a page that leaves the cache for it becomes the spare one.
+/// A page of a table enters the cache from the device, if memory has a place for it. It is read into that place.
 pub(crate) fn load_page<D: Device>(
     alloc: Global,
     cache: &mut LruCache<u32, PageBytes>,
-    spare: &mut Option<PageBytes>,
+    spares: &mut Vec<PageBytes>,
     table: &[u32],
     device: &mut D,
     page: u32,
@@ -166,12 +163,13 @@ pub(crate) fn load_page<D: Device>(
     if sector == 0 {
         return Ok(());
     }
-    let mut bytes = match take_spare(alloc, spare) {
-        Some(bytes) => bytes,
+    let mut kept = match take_spare(alloc, spares) {
+        Some(kept) => kept,
         None => return Ok(()),
     };
-    bytes.fill(device, sector)?;
-    *spare = push_page(cache, page, bytes);
+    kept.fill(device, sector)?;
+    kept.set_cached(true);
+    push_page(cache, spares, page, kept);
     Ok(())
 }
 
@@ -217,24 +215,35 @@ pub(crate) fn copy_page(page: Option<&[u8; 4096]>, bytes: &mut [u8; 4096]) -> bo
     }
 }
 
-/// A page that was changed comes into the cache, if it has bytes, so far as memory allows.
-fn keep_change(cache: &mut LruCache<u32, PageBytes>, change: Change)
+/// A page that was changed enters the cache, if it has bytes that are to be cached and memory allows. The place of other bytes becomes
+/// a spare one.
+fn keep_change(cache: &mut LruCache<u32, PageBytes>, spares: &mut Vec<PageBytes>, change: Change)
     ensures { KeepsChanges (change ∷ []) cache.old cache.new }
 {
     let Change { page, bytes } = change;
     match bytes {
-        Some(bytes) => put_page(cache, page, bytes),
+        Some(bytes) => {
+            if bytes.is_cached() {
+                push_page(cache, spares, page, bytes);
+            } else {
+                keep_spare(spares, bytes);
+            }
+        }
         None => {}
     }
 }
 
-/// The pages that a commit wrote come into the cache, one after the other, so far as memory and its capacity allow. Their bytes stay
-/// where they stand on the heap.
-pub(crate) fn keep_changes(cache: &mut LruCache<u32, PageBytes>, changes: Vec<Change>)
+/// The pages that a commit wrote enter the cache, one after the other, so far as memory and its capacity allow. Their bytes stay in
+/// their places on the heap. Pages that are not to be cached stay out.
+pub(crate) fn keep_changes(
+    cache: &mut LruCache<u32, PageBytes>,
+    spares: &mut Vec<PageBytes>,
+    changes: Vec<Change>,
+)
     ensures { KeepsChanges changes.items cache.old cache.new }
 {
     for change in changes {
-        keep_change(cache, change);
+        keep_change(cache, spares, change);
     }
 }
 

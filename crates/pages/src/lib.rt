@@ -20,6 +20,7 @@ mod plan;
 mod reading;
 mod root;
 mod sector_use;
+mod spares;
 mod stage;
 mod table;
 mod volume;

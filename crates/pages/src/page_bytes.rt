@@ -12,6 +12,8 @@ use std::marker::Model;
 #[derive(Drop)]
 pub(crate) struct PageBytes {
     bytes: Box<[u8; 4096]>,
+    /// Whether the page enters the cache after a commit. Contracts see the bytes alone.
+    is_cached: bool,
 }
 
 impl Model for PageBytes {
@@ -28,6 +30,7 @@ impl PageBytes {
     {
         Ok(PageBytes {
             bytes: Box::new(alloc, bytes)?,
+            is_cached: true,
         })
     }
 
@@ -37,6 +40,7 @@ impl PageBytes {
     {
         Ok(PageBytes {
             bytes: Box::new(alloc, *bytes)?,
+            is_cached: true,
         })
     }
 
@@ -45,6 +49,18 @@ impl PageBytes {
         ensures { self.new ≡ bytes.now }
     {
         *self.bytes = *bytes;
+    }
+
+    /// Whether the page enters the cache after a commit.
+    pub(crate) fn is_cached(&self) -> bool {
+        self.is_cached
+    }
+
+    /// Sets whether the page enters the cache after a commit.
+    pub(crate) fn set_cached(&mut self, is_cached: bool)
+        ensures { self.new ≡ self.old }
+    {
+        self.is_cached = is_cached;
     }
 
     /// It becomes the bytes of a sector, which are read where it stands.

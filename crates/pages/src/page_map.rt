@@ -25,6 +25,7 @@ use crate::commit::commit_volume;
 use crate::error::PagesError;
 use crate::open::open_volume;
 use crate::page_bytes::PageBytes;
+use crate::spares::spare_copy;
 use crate::volume::VolumeMap;
 use crate::volume_mark::VolumeMark;
 use lru::LruCache;
@@ -48,8 +49,8 @@ pub struct PageMap {
     /// The runs of page numbers, one a map sector, that had no unused one when they were looked through. They are looked through
     /// again where no other has one.
     passed: Vec<bool>,
-    /// A place in memory for the page that comes into the cache next.
-    spare: Option<PageBytes>,
+    /// Places in memory of pages that left the cache, or that were committed and don't enter it.
+    spares: Vec<PageBytes>,
     catalog: u32,
     mark: VolumeMark,
     spent: bool,
@@ -121,7 +122,7 @@ impl PageMap {
             places: HashMap::new(alloc),
             next_page: 1,
             passed,
-            spare: None,
+            spares: Vec::new(alloc),
             catalog,
             mark,
             spent: false,
@@ -386,7 +387,7 @@ impl PageMap {
         load_page(
             self.alloc,
             &mut self.cache,
-            &mut self.spare,
+            &mut self.spares,
             self.volume.table.entries(),
             device,
             page,
@@ -451,8 +452,84 @@ impl PageMap {
         if seen_page(&self.cache, page).is_some() {
             return self.rewrite(page, bytes);
         }
-        let kept = PageBytes::copied(self.alloc, bytes)?;
+        let kept = spare_copy(self.alloc, &mut self.spares, bytes, true)?;
         self.change(page, Some(kept))
+    }
+
+    /// Gives a page new bytes, as `edit` does, for a page that `read_past` reads. After a commit the page stays out of the cache, so
+    /// that it doesn't take the place of another one there. That it stays out is not promised by a clause.
+    pub fn edit_past(&mut self, page: u32, bytes: &[u8; 4096]) -> Result<(), PagesError>
+        requires open { IsOpen self.old }
+        requires page { IsPage self.old page }
+
+        // After `Ok` the page has these bytes.
+        ensures map { OnOk result ((image : List Sector) → (map_now self.new image).pages
+            ≡ slice_set (map_now self.old image).pages page (Some bytes.now)) }
+        ensures changes_page { OnOk result
+            (ChangesPage (changed_pages_of self.old) page (changed_pages_of self.new)) }
+        ensures fills { OnOk result (FillsPage self.old page self.new) }
+        ensures forgets { OnOk result (cache_of self.new ≡ cache_without page (cache_of self.old)) }
+
+        // A refusal changes nothing.
+        ensures err { OnErr result
+            ((image : List Sector) → map_now self.new image ≡ map_now self.old image) }
+        ensures unchanged { OnErr result (changed_pages_of self.new ≡ changed_pages_of self.old) }
+        ensures unfilled { OnErr result (filled_of self.new ≡ filled_of self.old) }
+        ensures cache { OnErr result (cache_of self.new ≡ cache_of self.old) }
+
+        // Whatever the result is.
+        ensures filled { filled_of self.new ≤ filled_of self.old + 1 }
+        ensures capacity { (cache_of self.new).cap ≡ (cache_of self.old).cap }
+        ensures keeps { KeepsCommitted self.old self.new }
+        ensures cause { IsEditRefusal result }
+        ensures spent { (result ≡ Err PagesError.Spent) ↔ (is_spent self.old ≡ true) }
+    {
+        if self.spent {
+            return Err(PagesError::Spent);
+        }
+        let kept = spare_copy(self.alloc, &mut self.spares, bytes, false)?;
+        self.change(page, Some(kept))
+    }
+
+    /// Adds a page with these bytes to the map, as `allocate` does with zeros, for a page that `read_past` reads. After a commit the page
+    /// stays out of the cache. That it stays out is not promised by a clause. `Full` means that there is no unused page number.
+    pub fn allocate_past(&mut self, bytes: &[u8; 4096]) -> Result<u32, PagesError>
+        requires open { IsOpen self.old }
+
+        // After `Ok` the page has these bytes.
+        ensures page { IfOk result (λ page. IsPage self.old page) }
+        ensures unused { IfOk result
+            (λ page. (image : List Sector) → page_of (map_now self.old image) page ≡ None) }
+        ensures map { IfOk result (λ page. (image : List Sector) → (map_now self.new image).pages
+            ≡ slice_set (map_now self.old image).pages page (Some bytes.now)) }
+        ensures changes_page { IfOk result
+            (λ page. ChangesPage (changed_pages_of self.old) page (changed_pages_of self.new)) }
+        ensures fills { IfOk result (λ page. FillsPage self.old page self.new) }
+        ensures forgets { IfOk result
+            (λ page. cache_of self.new ≡ cache_without page (cache_of self.old)) }
+
+        // A refusal changes nothing.
+        ensures err { OnErr result
+            ((image : List Sector) → map_now self.new image ≡ map_now self.old image) }
+        ensures unchanged { OnErr result (changed_pages_of self.new ≡ changed_pages_of self.old) }
+        ensures unfilled { OnErr result (filled_of self.new ≡ filled_of self.old) }
+        ensures cache { OnErr result (cache_of self.new ≡ cache_of self.old) }
+        ensures same { result ≡ Err PagesError.Full → self.new ≡ self.old }
+
+        // Whatever the result is.
+        ensures filled { filled_of self.new ≤ filled_of self.old + 1 }
+        ensures capacity { (cache_of self.new).cap ≡ (cache_of self.old).cap }
+        ensures keeps { KeepsCommitted self.old self.new }
+        ensures full { is_spent self.old ≡ false
+            → (result ≡ Err PagesError.Full) ↔ HasEachPage self.old }
+        ensures cause { IsAllocateRefusal result }
+        ensures spent { (result ≡ Err PagesError.Spent) ↔ (is_spent self.old ≡ true) }
+    {
+        let page = self.find_unused()?;
+        self.edit_past(page, bytes)?;
+        pass_runs(&mut self.passed, self.next_page, page);
+        self.next_page = page + 1;
+        Ok(page)
     }
 
     /// A page that wasn't in the map comes into it, with zeros. `Full` tells that there is no unused page number.
@@ -482,21 +559,8 @@ impl PageMap {
         ensures cause { IsAllocateRefusal result }
         ensures spent { (result ≡ Err PagesError.Spent) ↔ (is_spent self.old ≡ true) }
     {
-        if self.spent {
-            return Err(PagesError::Spent);
-        }
-        let page = match unused_page(
-            self.volume.table.entries(),
-            &self.changes,
-            &self.places,
-            self.next_page as usize,
-            &self.passed,
-        ) {
-            Some(page) => page,
-            None => return Err(PagesError::Full),
-        };
-        let kept = PageBytes::new(self.alloc, [0; 4096])?;
-        self.change(page, Some(kept))?;
+        let page = self.find_unused()?;
+        self.edit(page, &[0; 4096])?;
         pass_runs(&mut self.passed, self.next_page, page);
         self.next_page = page + 1;
         Ok(page)
@@ -528,6 +592,33 @@ impl PageMap {
             self.next_page = page;
         }
         Ok(())
+    }
+
+    /// A page number that isn't used.
+    fn find_unused(&self) -> Result<u32, PagesError>
+        requires { IsOpen self.now }
+        ensures page { IfOk result (λ page. IsPage self.now page) }
+        ensures unused { IfOk result
+            (λ page. (image : List Sector) → page_of (map_now self.now image) page ≡ None) }
+        ensures full { is_spent self.now ≡ false
+            → (result ≡ Err PagesError.Full) ↔ HasEachPage self.now }
+        ensures spent { (result ≡ Err PagesError.Spent) ↔ (is_spent self.now ≡ true) }
+        ensures cause { OnErr result
+            ((result ≡ Err PagesError.Full) ⊎ (result ≡ Err PagesError.Spent)) }
+    {
+        if self.spent {
+            return Err(PagesError::Spent);
+        }
+        match unused_page(
+            self.volume.table.entries(),
+            &self.changes,
+            &self.places,
+            self.next_page as usize,
+            &self.passed,
+        ) {
+            Some(page) => Ok(page),
+            None => Err(PagesError::Full),
+        }
     }
 
     /// Gives a page new bytes, or none.
@@ -661,7 +752,7 @@ impl PageMap {
         // What a large commit took of memory is given back, except for the pages that come into the cache.
         let changes = mem::replace(&mut self.changes, Vec::new(self.alloc));
         clear_places(self.alloc, &mut self.places);
-        keep_changes(&mut self.cache, changes);
+        keep_changes(&mut self.cache, &mut self.spares, changes);
         self.spent = false;
         Ok(())
     }

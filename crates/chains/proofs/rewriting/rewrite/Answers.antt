@@ -45,12 +45,12 @@ loop-place-preserved g c =
     record {
       only = reads_then g.D.Device ⊥ _ ⊥ c.args.device.now loop.device c.page_after.new.device (λ e. absurd e)
           loop.invariant.only next.only;
-      committed = committed_on c.args.pages.now loop.pages c.edit.new.self loop.invariant.committed
-          c.edit.ensures.keeps.committed;
-      catalog = c.edit.ensures.keeps.catalog ∙ loop.invariant.catalog;
-      agrees = λ h a. c.edit.ensures.keeps.agrees (g.D.Device.state c.page_after.new.device).disk
+      committed = committed_on c.args.pages.now loop.pages c.edit_past.new.self loop.invariant.committed
+          c.edit_past.ensures.keeps.committed;
+      catalog = c.edit_past.ensures.keeps.catalog ∙ loop.invariant.catalog;
+      agrees = λ h a. c.edit_past.ensures.keeps.agrees (g.D.Device.state c.page_after.new.device).disk
           (still_agrees loop.pages _ _ (next.only.state (loop.invariant.only.honest.0 h)) (loop.invariant.agrees h a));
-      is_open = c.edit.ensures.keeps.is_open loop.invariant.is_open;
+      is_open = c.edit_past.ensures.keeps.is_open loop.invariant.is_open;
       rest = λ h a stands.
           let now = pages_of_map loop.pages image in
           let test = c.loop-place-test.true in
@@ -71,15 +71,17 @@ loop-place-preserved g c =
           let low = link_low now loop.page here.1 in
           let link = Some (link_bytes c.in_ok-next.next c.part_of.result.now) in
           writes_step (pages_of_map c.args.pages.now image) c.args.bytes.now c.part_of.result.now c.args.first now
-          (pages_of_map c.edit.new.self image) loop.place loop.page c.in_ok-next.next c.part_of.ensures is
-          (sets_once now (pages_of_map c.edit.new.self image) loop.page link low (c.in_ok-edit.ensures.map image
+          (pages_of_map c.edit_past.new.self image) loop.place loop.page c.in_ok-next.next c.part_of.ensures is
+          (sets_once now (pages_of_map c.edit_past.new.self image) loop.page link low
+          (c.in_ok-edit_past.ensures.map image
           ∙ ap (λ (b : List ℕ). set now loop.page (Some b)) c.link-spelled.ensures.bytes))
           c.link-spelled.ensures.reads before;
       changed_pages = changed_more (changed_pages_of c.args.pages.now) (changed_pages_of loop.pages) loop.page
-          (changed_pages_of c.edit.new.self) loop.place loop.invariant.changed_pages
-          c.in_ok-edit.ensures.changes_page;
-      filled = filled_more (filled_of c.args.pages.now) (filled_of loop.pages) (filled_of c.edit.new.self) loop.place
-          loop.invariant.filled c.edit.ensures.filled;
+          (changed_pages_of c.edit_past.new.self) loop.place loop.invariant.changed_pages
+          c.in_ok-edit_past.ensures.changes_page;
+      filled =
+          filled_more (filled_of c.args.pages.now) (filled_of loop.pages) (filled_of c.edit_past.new.self) loop.place
+          loop.invariant.filled c.edit_past.ensures.filled;
       unspent = λ some. false_unless (is_spent c.args.pages.now) (λ was. never_ok (sym c.in_ok-next.was
           ∙ next.spent.1 (loop.invariant.committed.spent ∙ was)));
     }
@@ -88,8 +90,8 @@ pub page_after-requires-clause-sectors : goal.page_after-requires-clause-sectors
 page_after-requires-clause-sectors g c = sectors_on c.args.pages.now c.loop-place.pages _ _
     c.loop-place.invariant.committed.volume c.loop-place.invariant.only.sectors c.requires.sectors
 
-pub edit-requires-clause-page : goal.edit-requires-clause-page
-edit-requires-clause-page g c = c.in_ok-next.ensures.page
+pub edit_past-requires-clause-page : goal.edit_past-requires-clause-page
+edit_past-requires-clause-page g c = c.in_ok-next.ensures.page
 
 -- A page that isn't read.
 pub returns-in_err-next-clause-only : goal.returns-in_err-next-clause-only
@@ -161,76 +163,78 @@ returns-in_err-next-clause-cause g c = passed c.from_residual.result c.in_err-ne
     (λ r. IfErr r IsChangeRefusal) (read_is_change c.in_err-next.field-0.0 c.in_err-next.ensures.cause)
 
 -- A page that isn't changed.
-pub returns-in_err-edit-clause-only : goal.returns-in_err-edit-clause-only
-returns-in_err-edit-clause-only g c =
-    let x = c.in_err-edit.field-0.0 in
-    passed c.from_residual-in_err-edit.result x c.from_residual-in_err-edit.ensures.1
+pub returns-in_err-edit_past-clause-only : goal.returns-in_err-edit_past-clause-only
+returns-in_err-edit_past-clause-only g c =
+    let x = c.in_err-edit_past.field-0.0 in
+    passed c.from_residual-in_err-edit_past.result x c.from_residual-in_err-edit_past.ensures.1
     (λ r. OnlyReads g.D.Device (r ≡ Err Device) c.args.device.now c.page_after.new.device)
-    (reads_then g.D.Device _ _ _ _ _ _ (λ is. put_not_device x (edit_is_put x c.in_err-edit.ensures.cause) is)
+    (reads_then g.D.Device _ _ _ _ _ _ (λ is. put_not_device x (edit_is_put x c.in_err-edit_past.ensures.cause) is)
     c.loop-place.invariant.only c.page_after.ensures.only)
 
-pub returns-in_err-edit-clause-damaged : goal.returns-in_err-edit-clause-damaged
-returns-in_err-edit-clause-damaged g c = λ honest agrees is stands.
-    let x = c.in_err-edit.field-0.0 in
-    passed c.from_residual-in_err-edit.result x c.from_residual-in_err-edit.ensures.1 (λ r. r ≡ Err Damaged → ⊥)
-    (λ told. edit_not_damaged x c.in_err-edit.ensures.cause told) is
+pub returns-in_err-edit_past-clause-damaged : goal.returns-in_err-edit_past-clause-damaged
+returns-in_err-edit_past-clause-damaged g c = λ honest agrees is stands.
+    let x = c.in_err-edit_past.field-0.0 in
+    passed c.from_residual-in_err-edit_past.result x c.from_residual-in_err-edit_past.ensures.1
+    (λ r. r ≡ Err Damaged → ⊥)
+    (λ told. edit_not_damaged x c.in_err-edit_past.ensures.cause told) is
 
-pub returns-in_err-edit-clause-changed_pages : goal.returns-in_err-edit-clause-changed_pages
-returns-in_err-edit-clause-changed_pages g c =
+pub returns-in_err-edit_past-clause-changed_pages : goal.returns-in_err-edit_past-clause-changed_pages
+returns-in_err-edit_past-clause-changed_pages g c =
     let test = c.loop-place-test.true in
     let count = c.page_count-count.ensures in
-    few_of_all (length (changed_pages_of c.args.pages.now)) (length (changed_pages_of c.edit.new.self))
+    few_of_all (length (changed_pages_of c.args.pages.now)) (length (changed_pages_of c.edit_past.new.self))
     c.loop-place.place (pages_for (length c.args.bytes.now))
     (subst (λ (l : List ℕ). length l ≤ length (changed_pages_of c.args.pages.now) + c.loop-place.place)
-    (sym c.in_err-edit.ensures.unchanged)
+    (sym c.in_err-edit_past.ensures.unchanged)
     c.loop-place.invariant.changed_pages) (omega arith)
 
-pub returns-in_err-edit-clause-filled : goal.returns-in_err-edit-clause-filled
-returns-in_err-edit-clause-filled g c =
+pub returns-in_err-edit_past-clause-filled : goal.returns-in_err-edit_past-clause-filled
+returns-in_err-edit_past-clause-filled g c =
     let test = c.loop-place-test.true in
     let count = c.page_count-count.ensures in
-    few_of_all (filled_of c.args.pages.now) (filled_of c.edit.new.self) c.loop-place.place
+    few_of_all (filled_of c.args.pages.now) (filled_of c.edit_past.new.self) c.loop-place.place
     (pages_for (length c.args.bytes.now)) (subst (λ (n : ℕ). n ≤ filled_of c.args.pages.now + c.loop-place.place)
-    (sym c.in_err-edit.ensures.unfilled) c.loop-place.invariant.filled)
+    (sym c.in_err-edit_past.ensures.unfilled) c.loop-place.invariant.filled)
     (omega arith)
 
-pub returns-in_err-edit-clause-committed : goal.returns-in_err-edit-clause-committed
-returns-in_err-edit-clause-committed g c = committed_on c.args.pages.now c.loop-place.pages c.edit.new.self
-    c.loop-place.invariant.committed c.edit.ensures.keeps.committed
+pub returns-in_err-edit_past-clause-committed : goal.returns-in_err-edit_past-clause-committed
+returns-in_err-edit_past-clause-committed g c = committed_on c.args.pages.now c.loop-place.pages c.edit_past.new.self
+    c.loop-place.invariant.committed c.edit_past.ensures.keeps.committed
 
-pub returns-in_err-edit-clause-catalog : goal.returns-in_err-edit-clause-catalog
-returns-in_err-edit-clause-catalog g c = c.edit.ensures.keeps.catalog
+pub returns-in_err-edit_past-clause-catalog : goal.returns-in_err-edit_past-clause-catalog
+returns-in_err-edit_past-clause-catalog g c = c.edit_past.ensures.keeps.catalog
     ∙ c.loop-place.invariant.catalog
 
-pub returns-in_err-edit-clause-agrees : goal.returns-in_err-edit-clause-agrees
-returns-in_err-edit-clause-agrees g c = λ honest agrees.
-    c.edit.ensures.keeps.agrees (g.D.Device.state c.page_after.new.device).disk
+pub returns-in_err-edit_past-clause-agrees : goal.returns-in_err-edit_past-clause-agrees
+returns-in_err-edit_past-clause-agrees g c = λ honest agrees.
+    c.edit_past.ensures.keeps.agrees (g.D.Device.state c.page_after.new.device).disk
     (still_agrees c.loop-place.pages _ _ (c.page_after.ensures.only.state (c.loop-place.invariant.only.honest.0 honest))
     (c.loop-place.invariant.agrees honest agrees))
 
-pub returns-in_err-edit-clause-open : goal.returns-in_err-edit-clause-open
-returns-in_err-edit-clause-open g c = c.edit.ensures.keeps.is_open c.loop-place.invariant.is_open
+pub returns-in_err-edit_past-clause-open : goal.returns-in_err-edit_past-clause-open
+returns-in_err-edit_past-clause-open g c = c.edit_past.ensures.keeps.is_open c.loop-place.invariant.is_open
 
-pub returns-in_err-edit-clause-spent : goal.returns-in_err-edit-clause-spent
-returns-in_err-edit-clause-spent g c =
-    let x = c.in_err-edit.field-0.0 in
+pub returns-in_err-edit_past-clause-spent : goal.returns-in_err-edit_past-clause-spent
+returns-in_err-edit_past-clause-spent g c =
+    let x = c.in_err-edit_past.field-0.0 in
     let same = c.loop-place.invariant.committed.spent in
     let test = c.loop-place-test.true in
     let count = c.page_count-count.ensures in
-    passed c.from_residual-in_err-edit.result x c.from_residual-in_err-edit.ensures.1
+    passed c.from_residual-in_err-edit_past.result x c.from_residual-in_err-edit_past.ensures.1
     (λ r. (r ≡ Err Spent) ↔ ((is_spent c.args.pages.now ≡ true) × (length c.args.bytes.now ≢ 0))) (
       λ is. (
-        sym same ∙ c.in_err-edit.ensures.spent.0 (still_error is),
+        sym same ∙ c.in_err-edit_past.ensures.spent.0 (still_error is),
         some_bytes (length c.args.bytes.now) c.loop-place.place (omega arith),
       ),
-      λ was. still_error (c.in_err-edit.ensures.spent.1 (same ∙ was.0)),
+      λ was. still_error (c.in_err-edit_past.ensures.spent.1 (same ∙ was.0)),
     )
 
-pub returns-in_err-edit-clause-cause : goal.returns-in_err-edit-clause-cause
-returns-in_err-edit-clause-cause g c =
-    let x = c.in_err-edit.field-0.0 in
-    passed c.from_residual-in_err-edit.result x c.from_residual-in_err-edit.ensures.1 (λ r. IfErr r IsChangeRefusal)
-    (rest_is_change x (put_is_rest x (edit_is_put x c.in_err-edit.ensures.cause)))
+pub returns-in_err-edit_past-clause-cause : goal.returns-in_err-edit_past-clause-cause
+returns-in_err-edit_past-clause-cause g c =
+    let x = c.in_err-edit_past.field-0.0 in
+    passed c.from_residual-in_err-edit_past.result x c.from_residual-in_err-edit_past.ensures.1
+    (λ r. IfErr r IsChangeRefusal)
+    (rest_is_change x (put_is_rest x (edit_is_put x c.in_err-edit_past.ensures.cause)))
 
 -- The end.
 pub returns-clause-rewritten : goal.returns-clause-rewritten

@@ -11,8 +11,8 @@ returns-clause-right g c = λ changed away honest is.
     let table = c.args.table.now in
     let sector : ℕ = c.sector_of-sector.result in
     let some : 0 < sector = omega (arith, c.if-sector-eq0.false) in
-    let here : get_or (pages_in present table) c.args.page None ≡ Some c.fill.new.self =
+    let here : get_or (pages_in present table) c.args.page None ≡ Some c.set_cached.new.self =
     named_page present table c.args.page sector c.sector_of-sector.ensures some
-    ∙ ap (λ (b : Sector). Some b) (sym (c.in_ok-fill.ensures.bytes honest)) in
-    after_kept (pages_in present table) changed c.args.cache.now c.push_page.new.cache c.args.page c.fill.new.self here
-    away is c.push_page.ensures
+    ∙ ap (λ (b : Sector). Some b) (sym (c.in_ok-fill.ensures.bytes honest) ∙ sym c.set_cached.ensures) in
+    after_kept (pages_in present table) changed c.args.cache.now c.push_page.new.cache c.args.page
+    c.set_cached.new.self here away is c.push_page.ensures

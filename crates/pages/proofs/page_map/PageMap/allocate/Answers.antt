@@ -1,91 +1,10 @@
-use Rattle.std.proofs.Common.{◌≡◌, ◌<◌, ◌+◌, ◌/◌, ◌^◌, ◌∙◌, ⊎_elim, ℕ, List, [], length, get_or, sym, ap, subst, arith}
-use Rattle.std.proofs.Common.{refl}
-use Rattle.std.specs.Prelude.{false, Some, slice_set}
-use Rattle.station.specs.Disk.{Sector}
-use Rattle.pages.specs.Pages.{map_now}
-use Rattle.pages.specs.Image.{NamesOnce}
-use Rattle.pages.specs.Changes.{changed_pages, mapped_after, ArePlaced}
-use Rattle.pages.specs.declared.change.Change.{Change}
-use Rattle.pages.proofs.Edits.{unused_none, used_some}
+use Rattle.std.proofs.Common.{◌∙◌, Err, ap, sym}
+use Rattle.std.proofs.lemmas.Result.{err_from_is_err_and}
 use Rattle.pages.proofs.page_map.PageMap.allocate.Goals as goal
 
-pub unused_page-requires : goal.unused_page-requires
-unused_page-requires c =
-    let ready = c.requires.open c.if-self.false in
-    let sound = ready.sound in
-    let maps : length c.args.self.now.volume.maps.items ≡ (c.args.self.now.volume.sectors + 1023) / 1024 =
-    sound.maps_count in
-    let low : length c.args.self.now.volume.table < 2 ^ 32 = omega (arith, sound.count, maps, sound.most) in
-    record {
-      few = subst (λ (l : List ℕ). length l < 2 ^ 32) (sym c.entries.ensures) low;
-      once = subst (λ (l : List Change). NamesOnce (changed_pages l)) (sym c.deref.ensures.value) ready.once;
-      placed = subst (λ (l : List Change). ArePlaced l c.args.self.now.places) (sym c.deref.ensures.value) ready.placed;
-    }
-
--- the use of a page, as the map has it
-at_map : (table table' : List ℕ) (changes changes' : List Change) (page : ℕ) → table' ≡ table → changes' ≡ changes
-    → get_or (mapped_after table changes) page false ≡ get_or (mapped_after table' changes') page false
-at_map table table' changes changes' page t d = ap (λ (l : List ℕ). get_or (mapped_after l changes) page false) (sym t)
-    ∙ ap (λ (l : List Change). get_or (mapped_after table' l) page false) (sym d)
-
-pub returns-clause-unused : goal.returns-clause-unused
-returns-clause-unused c = λ image.
-    let table = c.args.self.now.volume.table in
-    let changes = c.args.self.now.changes.items in
-    unused_none image table changes c.in-Some.page (at_map table c.entries.result.now changes c.deref.result.now
-    c.in-Some.page c.entries.ensures c.deref.ensures.value ∙ c.in-Some.ensures.found.2)
-
-pub returns-clause-full : goal.returns-clause-full
-returns-clause-full c = λ is.
-    let table = c.args.self.now.volume.table in
-    let changes = c.args.self.now.changes.items in (
-      λ full. absurd (cc),
-      λ each. absurd (each [] c.in-Some.page (
-        c.in-Some.ensures.found.0,
-        subst (λ (l : List ℕ). c.in-Some.page < length l) c.entries.ensures c.in-Some.ensures.found.1,
-      )
-          (unused_none [] table changes c.in-Some.page (at_map table c.entries.result.now changes c.deref.result.now
-          c.in-Some.page c.entries.ensures c.deref.ensures.value ∙ c.in-Some.ensures.found.2))),
-    )
-
-pub returns-in-None-clause-full : goal.returns-in-None-clause-full
-returns-in-None-clause-full c = λ is.
-    let table = c.args.self.now.volume.table in
-    let changes = c.args.self.now.changes.items in (
-      λ full image page within. used_some image table changes page
-          (at_map table c.entries.result.now changes c.deref.result.now page c.entries.ensures c.deref.ensures.value
-          ∙ c.in-None.ensures.full page within.0
-          (subst (λ (l : List ℕ). page < length l) (sym c.entries.ensures) within.1)),
-      λ each. refl,
-    )
-
-pub returns-in_err-change-clause-full : goal.returns-in_err-change-clause-full
-returns-in_err-change-clause-full c = λ is.
-    let table = c.args.self.now.volume.table in
-    let changes = c.args.self.now.changes.items in (
-      λ full. absurd (let told = rw full at c.from_residual-in_err-change.ensures.1 in
-          ⊎_elim (λ memory. cc (told, memory)) (λ spent. cc (told, spent)) c.in_err-change.ensures.cause),
-      λ each. absurd (each [] c.in-Some.page (
-        c.in-Some.ensures.found.0,
-        subst (λ (l : List ℕ). c.in-Some.page < length l) c.entries.ensures c.in-Some.ensures.found.1,
-      )
-          (unused_none [] table changes c.in-Some.page (at_map table c.entries.result.now changes c.deref.result.now
-          c.in-Some.page c.entries.ensures c.deref.ensures.value ∙ c.in-Some.ensures.found.2))),
-    )
-
-pub returns-in_err-kept-clause-full : goal.returns-in_err-kept-clause-full
-returns-in_err-kept-clause-full c = λ is.
-    let table = c.args.self.now.volume.table in
-    let changes = c.args.self.now.changes.items in (
-      λ full. absurd (let told = rw full at c.from_residual.ensures.1 in cc (told)),
-      λ each. absurd (each [] c.in-Some.page (
-        c.in-Some.ensures.found.0,
-        subst (λ (l : List ℕ). c.in-Some.page < length l) c.entries.ensures c.in-Some.ensures.found.1,
-      )
-          (unused_none [] table changes c.in-Some.page (at_map table c.entries.result.now changes c.deref.result.now
-          c.in-Some.page c.entries.ensures c.deref.ensures.value ∙ c.in-Some.ensures.found.2))),
-    )
-
-pub returns-clause-map : goal.returns-clause-map
-returns-clause-map c = λ image. c.in_ok-change.ensures.map image
-    ∙ ap (λ (b : Sector). slice_set (map_now c.args.self.now image).pages c.in-Some.page (Some b)) c.in_ok-kept.ensures
+pub returns-in_err-page-clause-full : goal.returns-in_err-page-clause-full
+returns-in_err-page-clause-full c = λ is.
+    let passed = err_from_is_err_and c.from_residual.result c.from_residual.ensures.1 in
+    let told = passed.1 ∙ ap Err passed.2 in
+    let full = c.in_err-page.ensures.full is in
+    (λ refused. full.0 (sym told ∙ refused), λ each. told ∙ full.1 each)
