@@ -136,7 +136,7 @@ gap_after layout key rows place up low finds =
     ∙ rest_alone layout place rows
 
 -- A search in two lists, one after the other.
-one_of : Option Entry → Option Entry → Option Entry
+pub one_of : Option Entry → Option Entry → Option Entry
 one_of None other = other
 one_of (Some entry) other = Some entry
 
@@ -152,7 +152,7 @@ unfolding one_of
 pass true entry all left right is = is
 pass false entry all left right is = refl
 
-in_both : (sought : Sought) (one two : List Entry) (key : List ℕ)
+pub in_both : (sought : Sought) (one two : List Entry) (key : List ℕ)
     → sought_in sought (one ++ two) key ≡ one_of (sought_in sought one key) (sought_in sought two key)
 unfolding one_of
 in_both With [] two key = refl
@@ -187,7 +187,8 @@ unfolding one_of
 one_of_none None = refl
 one_of_none (Some entry) = refl
 
-one_of_first : (answer other : Option Entry) (entry : Entry) → answer ≡ Some entry → one_of answer other ≡ Some entry
+pub one_of_first : (answer other : Option Entry) (entry : Entry) → answer ≡ Some entry
+    → one_of answer other ≡ Some entry
 unfolding one_of
 one_of_first answer other entry is = ap (λ (a : Option Entry). one_of a other) is
 

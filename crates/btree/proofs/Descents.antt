@@ -13,7 +13,7 @@ use Rattle.btree_pages.specs.declared.row_layout.Kind.TheVariants.{Leaf, Inner}
 use Rattle.btree_pages.specs.Node.{Node}
 use Rattle.btree_pages.specs.Keys.{key_of, keys_of, child_of, Precedes, Ascend, AllBelow}
 use Rattle.btree.specs.Tree.{TreeNode, least_key, rows_of, IsOnPage, AreJoinedLevels, rows_in_order, pages_of, node_at}
-use Rattle.btree.specs.Tree.{node_of, IsTree}
+use Rattle.btree.specs.Tree.{node_of, IsTree, leaves_of}
 use Rattle.btree.specs.Path.{LevelZipper, PathStep, level_of, StepsTo, IsSide, IsPathOf, Reaches, lowest, right_key}
 use Rattle.btree.specs.Path.{IsChosen, EndsAt}
 use Rattle.btree.specs.Laws.{AllAscend}
@@ -78,7 +78,8 @@ start layout pages root (top ∷ more) key small tree =
     tree.joined tree.ascend) (small_numbers layout pages root (top ∷ more) small tree))
 
 -- the node at a spot stands on its page
-spot_in : {X : Type 0} (P : X → Type 0) (before : List X) (x : X) (after : List X) → All P (before ++ x ∷ after) → P x
+pub spot_in : {X : Type 0} (P : X → Type 0) (before : List X) (x : X) (after : List X) → All P (before ++ x ∷ after)
+    → P x
 spot_in P before x after all = All-head P x after (all_right P before (x ∷ after) all)
 
 pub leaf_stands : (layout : RowLayout) (pages : List (Option Sector)) (spot : LevelZipper)
@@ -305,6 +306,7 @@ too_deep layout pages root levels key steps page right small tree along deep =
 -- What a way's end tells of all rows.
 pub record IsLeafOf (layout : RowLayout) (pages : List (Option Sector)) (key : List ℕ) (levels : List (List TreeNode))
     (leaf : LevelZipper) : Type 0 where
+  pub leaves : leaves_of levels ≡ level_of leaf
   pub rows : rows_in_order levels ≡ rows_of leaf.before ++ (leaf.node.rows ++ rows_of leaf.after)
   pub side : IsSide layout key leaf
   pub stands : IsOnPage layout pages Leaf leaf.node
@@ -318,6 +320,7 @@ leads_to_leaf layout pages key (leaves ∷ []) steps spot [] joined leads =
     let stand : AreJoinedLevels layout pages (level_of spot ∷ []) =
     subst (λ (level : List TreeNode). AreJoinedLevels layout pages (level ∷ [])) leads.0 joined in
     record {
+      leaves = leads.0;
       rows = ap rows_of leads.0 ∙ rows_around spot;
       side = leads.1;
       stands = leaf_stands layout pages spot stand;
@@ -329,7 +332,13 @@ leads_to_leaf layout pages key (upper ∷ lower ∷ more) [] spot below joined l
 leads_to_leaf layout pages key (upper ∷ lower ∷ more) (step ∷ steps) spot [] joined leads = absurd leads
 leads_to_leaf layout pages key (upper ∷ lower ∷ more) (step ∷ steps) spot (next ∷ below) joined leads =
     let rest = leads_to_leaf layout pages key (lower ∷ more) steps next below joined.2 leads.3 in
-    record { rows = rest.rows; side = rest.side; stands = rest.stands; has_rows = rest.has_rows }
+    record {
+      leaves = rest.leaves;
+      rows = rest.rows;
+      side = rest.side;
+      stands = rest.stands;
+      has_rows = rest.has_rows;
+    }
 
 pub leaf_of : (layout : RowLayout) (pages : List (Option Sector)) (key : List ℕ)
     (levels : List (List TreeNode)) (steps : List PathStep) (leaf : LevelZipper) → AreJoinedLevels layout pages levels

@@ -11,6 +11,7 @@ use Rattle.pages.specs.Pages.{map_now, page_of, IsUnchanged}
 use Rattle.pages.specs.declared.page_map.PageMap.{PageMap}
 use Rattle.btree_pages.specs.declared.row_layout.RowLayout.{RowLayout}
 use Rattle.btree.specs.Tree.{TreeNode, IsTree, IsTreeOrEmpty, pages_of}
+use Rattle.btree.specs.Rooted.{RootedTree}
 
 pub unchanged_still : (p : PageMap) → IsUnchanged p p
 unchanged_still p = record {
@@ -80,3 +81,12 @@ holds_tree layout pages root levels (inr tree) some = tree.1
 pub tree_holds : (layout : RowLayout) (pages : List (Option Sector)) (root : ℕ) (levels : List (List TreeNode))
     → IsTree layout pages root levels → IsTreeOrEmpty layout pages root levels
 tree_holds layout pages root levels tree = inr (tree_rooted layout pages root levels tree, tree)
+
+-- the tree of a root that isn't page 0
+pub rooted_tree : (view : RootedTree) (layout : RowLayout) (root : ℕ) (pages : List (Option Sector))
+    (levels : List (List TreeNode)) → record { layout = layout; root = root } ≡ view → (root ≡ 0 → ⊥)
+    → IsTreeOrEmpty view.layout pages view.root levels → IsTree layout pages root levels
+rooted_tree view layout root pages levels is some holds =
+    let T : RootedTree → Type 0 = λ t. IsTree t.layout pages t.root levels in
+    let same : root ≡ view.root = ap (λ (t : RootedTree). t.root) is in
+    subst T (sym is) (holds_tree view.layout pages view.root levels holds (λ none. some (same ∙ none)))

@@ -7,6 +7,7 @@ pub mod Found
 pub mod Descents
 pub mod Searches
 pub mod Answering
+pub mod Nearby
 pub mod Descending
 pub mod Firsts
 pub mod TreeNodes

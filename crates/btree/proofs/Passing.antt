@@ -5,8 +5,11 @@ use Rattle.std.specs.Prelude.{Result, Option, Some, None, Ok, Err, OnErr, IfErr}
 use Rattle.std.specs.Result.{IsErrAnd}
 use Rattle.station.specs.Calls.{OnlyReads}
 use Rattle.station.specs.declared.device.Device.{Ghosts as Devices}
+use Rattle.station.specs.Disk.{Sector}
+use Rattle.station.proofs.Calls.{reads_nothing}
 use Rattle.pages.specs.Changes.{ChangesPage}
-use Rattle.pages.specs.Pages.{IsPage, SameCommitted, sectors_of}
+use Rattle.pages.specs.Pages.{IsPage, SameCommitted, sectors_of, is_spent, Agrees, IsUnchanged}
+use Rattle.pages.specs.Pages.{KeepsCommitted}
 use Rattle.pages.specs.declared.volume.VolumeMap.{VolumeMap}
 use Rattle.pages.specs.declared.page_map.PageMap.{PageMap}
 use Rattle.pages.specs.declared.error.PagesError.{PagesError}
@@ -15,7 +18,9 @@ use Rattle.btree_pages.specs.declared.row_layout.RowLayout.{RowLayout}
 use Rattle.btree.specs.Reading.{IsReadRefusal, IsSearchRefusal}
 use Rattle.btree.specs.Refusals.{IsPutRefusal, IsRestRefusal, IsChangeRefusal, IsWriteRefusal, IsInsertRefusal}
 use Rattle.btree.specs.Refusals.{IsParentRefusal}
+use Rattle.btree.specs.Calls.{IfAgrees, OnPages}
 use Rattle.btree.proofs.ChangedPages.{changes_count}
+use Rattle.btree.proofs.Frames.{same_pages, false_unless}
 
 -- what holds of an error holds of the result with which `?` passes it on
 pub passed : {T E : Type 0} (r : Result T E) (x : E) → IsErrAnd r (λ e. e ≡ x) → (P : Result T E → Type 0) → P (Err x)
@@ -36,6 +41,9 @@ some_not_none is = cc
 pub false_not_true : {E A : Type 0} → (◌≡◌ {A = Result Bool E} (Ok false) (Ok true)) → A
 false_not_true is = cc
 
+pub never_true : {A : Type 0} {b : Bool} → b ≡ false → b ≡ true → A
+never_true off on = cc
+
 pub same_error : {T E : Type 0} {x y : E} → (◌≡◌ {A = Result T E} (Err x) (Err y)) → x ≡ y
 same_error is = cc
 
@@ -43,6 +51,12 @@ same_error is = cc
 pub still_error : {T U E : Type 0} {x y : E} → (◌≡◌ {A = Result T E} (Err x) (Err y))
     → (◌≡◌ {A = Result U E} (Err x) (Err y))
 still_error is = ap Err (same_error is)
+
+-- and what a result is passed on from is the same error
+pub was_error : {T U E : Type 0} (r : Result T E) (s : Result U E) (x e : E) → IsErrAnd r (λ y. y ≡ x) → s ≡ Err x
+    → r ≡ Err e → s ≡ Err e
+was_error {U = U} {E = E} r s x e from was is =
+    was ∙ passed r x from (λ q. q ≡ Err e → (◌≡◌ {A = Result U E} (Err x) (Err e))) (λ same. still_error same) is
 
 damaged_or_device : Damaged ≡ Device → ⊥
 damaged_or_device is = cc
@@ -198,6 +212,27 @@ module _ {D : Type 0} (device : Devices D) where
     state = only.state;
     history = only.history;
   }
+
+  -- what is claimed of the pages after a call that only reads is claimed of them before it
+  pub pages_before : (A : Type 0) (old new : PageMap) (a b : D) (P : List (Option Sector) → Type 0)
+      → IsUnchanged old new → OnlyReads device A a b → IfAgrees device old a (Agrees new (device.state b).disk)
+      → OnPages device new b P → OnPages device old a P
+  pages_before A old new a b P unchanged only agrees claim = λ honest agreed.
+      subst P (same_pages old new (device.state a) (device.state b) unchanged (only.state honest))
+      (claim (only.honest.0 honest) (agrees honest agreed))
+
+  -- and so it is after a call that only notes a use
+  pub pages_noted : (old new : PageMap) (a : D) (P : List (Option Sector) → Type 0) → IsUnchanged old new
+      → KeepsCommitted old new → OnPages device new a P → OnPages device old a P
+  pages_noted old new a P unchanged keeps claim =
+      pages_before ⊥ old new a a P unchanged (reads_nothing device a)
+      (λ honest agrees. keeps.agrees (device.state a).disk agrees) claim
+
+-- A map that is spent after a call that only reads was spent before, and a page of it is never read.
+pub unspent_before : {T : Type 0} {x : T} (old new : PageMap) → IsUnchanged old new
+    → ((◌≡◌ {A = Result T PagesError} (Ok x) (Err Spent)) ↔ (is_spent new ≡ true)) → is_spent old ≡ false
+unspent_before old new unchanged exactly =
+    sym unchanged.committed.spent ∙ false_unless (is_spent new) (λ spent. never_ok (exactly.1 spent))
 
 -- What is committed stays, and so do the sectors and the page numbers.
 pub committed_on : (one two three : PageMap) → SameCommitted one two → SameCommitted two three → SameCommitted one three

@@ -21,3 +21,4 @@ pub mod Clears
 pub mod Steps
 pub mod Sought
 pub mod Builds
+pub mod Places

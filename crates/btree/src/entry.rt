@@ -40,7 +40,9 @@ impl Entry {
     ghost use Rattle.btree.specs.Entries.{HasLengths, entry_of};
 
     /// An entry without bytes.
-    pub(crate) fn blank() -> Entry {
+    pub fn blank() -> Entry
+        ensures { result ≡ record { key = []; value = [] } }
+    {
         Entry {
             bytes: [0; MOST_ROW_BYTES],
             length: 0,

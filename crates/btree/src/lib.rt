@@ -16,6 +16,7 @@ mod key;
 mod laws;
 mod node;
 mod path_step;
+mod place;
 mod propagate_split;
 mod put_new;
 mod put_row;
@@ -41,4 +42,5 @@ pub use laws::{
     pages_once, tree_stays,
 };
 pub use node::read_node;
+pub use place::LeafPlace;
 pub use tree::Tree;

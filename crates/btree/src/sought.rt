@@ -7,6 +7,7 @@ ghost use Rattle.btree_pages.specs.Keys.{Ascend, keys_of};
 ghost use Rattle.btree.specs.Tree.{TreeNode, IsTree};
 ghost use Rattle.btree.specs.Entries.{HasLengths, entries_of_rows, entries_of, first_entry};
 ghost use Rattle.btree.specs.Reading.{IsReadRefusal, SpellsNoNode, NoneStands, NoneOfKind, NoTree};
+ghost use Rattle.btree.specs.Places.{HasLeaf};
 ghost use Rattle.btree.specs.Sought.{sought_in, AnswersAt, LooksIn, LooksAt, FindsEntry};
 ghost use Rattle.btree.specs.Calls.{IfAgrees, OnPages};
 ghost use Rattle.btree.specs.Results.{ReturnsDamaged, ExactlyIfSpent};
@@ -41,8 +42,15 @@ pub(crate) enum Look {
     Below(u32),
 }
 
+/// The leaf where a search ended, by its page, and whether it has the entry.
+#[derive(Clone, Copy)]
+pub(crate) struct SearchEnd {
+    pub leaf: u32,
+    pub found: bool,
+}
+
 /// From which place on a page the first entry is the one that is sought, or how many rows there are where the page hasn't it.
-fn sought_place(node: &NodeView, key: &[u8], sought: Sought) -> usize
+pub(crate) fn sought_place(node: &NodeView, key: &[u8], sought: Sought) -> usize
     ensures { Ascend (keys_of node.now.layout node.now.rows) →
         sought_in sought (entries_of_rows node.now.layout node.now.rows) key.now
         ≡ first_entry (entries_of_rows node.now.layout (drop result node.now.rows)) }
@@ -224,8 +232,8 @@ pub(crate) fn entry_at<D: Device>(
     }
 }
 
-/// Goes down from a page to the leaf where the key belongs, and tells whether it has the entry that is sought, which is put into
-/// `entry`. Nothing is kept of the way. `Damaged` tells that the page is no tree's root.
+/// Goes down from a page to the leaf where the key belongs, and reports it, and whether it has the entry that is sought, which is put
+/// into `entry`. Nothing is kept of the way. `Damaged` tells that the page is no tree's root.
 pub(crate) fn search<D: Device>(
     pages: &mut PageMap,
     device: &mut D,
@@ -234,7 +242,7 @@ pub(crate) fn search<D: Device>(
     key: &[u8],
     sought: Sought,
     entry: &mut Entry,
-) -> Result<bool, PagesError>
+) -> Result<SearchEnd, PagesError>
     requires open { IsOpen pages.old }
     requires sectors { sectors_of pages.old ≤ D.sectors device.old }
     requires layout { IsRowLayout layout }
@@ -245,8 +253,12 @@ pub(crate) fn search<D: Device>(
     ensures open { IsOpen pages.new }
     ensures finds { OnPages D.Device pages.old device.old
         (λ before. (levels : List (List TreeNode)) → IsTree layout before root levels
-        → IfOk result (FindsEntry (entries_of layout levels) key.now sought entry.new)) }
-    ensures lengths { IfOk result (λ found. found ≡ true → HasLengths layout entry.new) }
+        → IfOk result (λ end. FindsEntry (entries_of layout levels) key.now sought entry.new
+        end.found)) }
+    ensures leaf { OnPages D.Device pages.old device.old
+        (λ before. (levels : List (List TreeNode)) → IsTree layout before root levels
+        → IfOk result (λ end. HasLeaf levels end.leaf)) }
+    ensures lengths { IfOk result (λ end. end.found ≡ true → HasLengths layout entry.new) }
     ensures damaged { OnPages D.Device pages.old device.old
         (NoTree layout root (ReturnsDamaged result)) }
     ensures spent { ExactlyIfSpent pages.old result }
@@ -258,8 +270,18 @@ pub(crate) fn search<D: Device>(
     for _depth in 0..LEVELS {
         match look_at(pages, device, layout, page, key, sought, entry)? {
             Look::Below(child) => page = child,
-            Look::Here => return Ok(true),
-            Look::Missing => return Ok(false),
+            Look::Here => {
+                return Ok(SearchEnd {
+                    leaf: page,
+                    found: true,
+                });
+            }
+            Look::Missing => {
+                return Ok(SearchEnd {
+                    leaf: page,
+                    found: false,
+                });
+            }
         }
     }
     Err(PagesError::Damaged)

@@ -100,7 +100,7 @@ impl Tree {
             return Ok(None);
         }
         let mut entry = Entry::blank();
-        let found = search(
+        let end = search(
             pages,
             device,
             self.layout,
@@ -109,7 +109,7 @@ impl Tree {
             Sought::With,
             &mut entry,
         )?;
-        if found {
+        if end.found {
             return Ok(Some(entry));
         }
         Ok(None)
@@ -216,7 +216,7 @@ impl Tree {
             return Ok(None);
         }
         let mut entry = Entry::blank();
-        let found = search(
+        let end = search(
             pages,
             device,
             self.layout,
@@ -225,7 +225,7 @@ impl Tree {
             sought,
             &mut entry,
         )?;
-        if found {
+        if end.found {
             return Ok(Some(entry));
         }
         self.search_right(pages, device, key, sought)
@@ -234,7 +234,7 @@ impl Tree {
     /// The same, by a way that keeps what stands to the right of its leaf. Refusals are those of `get`.
     #[cold]
     #[inline(never)]
-    fn search_right<D: Device>(
+    pub(crate) fn search_right<D: Device>(
         &self,
         pages: &mut PageMap,
         device: &mut D,

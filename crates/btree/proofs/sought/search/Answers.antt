@@ -1,16 +1,18 @@
-use Rattle.std.proofs.Common.{◌≡◌, ◌≤◌, List, false, Err, sym, subst, ◌∙◌, arith}
-use Rattle.std.specs.Prelude.{Option}
+use Rattle.std.proofs.Common.{◌≡◌, ◌≤◌, List, false, Err, sym, ◌∙◌, arith}
+use Rattle.std.specs.Prelude.{Option, Some, None}
 use Rattle.std.proofs.lemmas.Result.{err_from_is_err_and}
 use Rattle.station.specs.Disk.{Sector}
 use Rattle.station.proofs.Calls.{reads_nothing, reads_then}
 use Rattle.pages.specs.Pages.{map_now, is_spent, page_count}
 use Rattle.pages.specs.declared.error.PagesError.TheVariants.{Damaged, Spent}
-use Rattle.btree.specs.declared.sought.Look.{Look}
-use Rattle.btree.specs.Tree.{IsOnPage}
-use Rattle.btree.specs.Sought.{LooksAt}
+use Rattle.btree.specs.declared.sought.Look.TheVariants.{Here, Missing, Below}
+use Rattle.btree.specs.Calls.{pages_on}
+use Rattle.btree.specs.Reading.{NoneStands}
+use Rattle.btree.specs.Results.{ReturnsDamaged}
 use Rattle.btree.proofs.Descents.{along_stands}
-use Rattle.btree.proofs.Descending.{down_start, down_on, down_deep, finds_entry, finds_none}
-use Rattle.btree.proofs.Frames.{unchanged_still, unchanged_on, same_pages, false_unless, ok_or_err}
+use Rattle.btree.proofs.Descending.{down_start, down_on, down_deep, finds_entry, finds_none, ends_in_leaf}
+use Rattle.btree.proofs.Descending.{looked_before}
+use Rattle.btree.proofs.Frames.{unchanged_still, unchanged_on, false_unless}
 use Rattle.btree.proofs.TreeNodes.{few_pages}
 use Rattle.std.specs.Prelude.{IfErr}
 use Rattle.std.proofs.Common.{◌↔◌, inr, true}
@@ -18,7 +20,7 @@ use Rattle.station.specs.Calls.{OnlyReads}
 use Rattle.pages.specs.declared.error.PagesError.TheVariants.{Device}
 use Rattle.btree.specs.Reading.{IsReadRefusal}
 use Rattle.btree.proofs.Passing.{passed, never_ok, still_error, damaged_not_device}
-use Rattle.btree.proofs.Passing.{reads_where, sectors_on}
+use Rattle.btree.proofs.Passing.{reads_where, sectors_on, pages_before, unspent_before}
 use Rattle.btree.proofs.sought.search.Goals as goal
 
 pub loop-depth-init : goal.loop-depth-init
@@ -43,21 +45,18 @@ returns-in_err-child-clause-unchanged g c = unchanged_on c.args.pages.now c.loop
 
 pub returns-in_err-child-clause-damaged : goal.returns-in_err-child-clause-damaged
 returns-in_err-child-clause-damaged g c = λ h a is levels tree.
+    let at = c.loop-depth in
     let from = err_from_is_err_and c.from_residual.result c.from_residual.ensures.1 in
     let damaged : c.look_at.result ≡ Err Damaged = cc in
-    let here : is_spent c.loop-depth.pages ≡ false = false_unless (is_spent c.loop-depth.pages)
+    let here : is_spent at.pages ≡ false = false_unless (is_spent at.pages)
     (λ spent. let other : c.look_at.result ≡ Err Spent = c.look_at.ensures.spent.1 spent in cc) in
-    let unspent : is_spent c.args.pages.now ≡ false = sym c.loop-depth.invariant.unchanged.committed.spent ∙ here in
-    let pages : List (Option Sector) =
-    (map_now c.args.pages.now (g.D.Device.state c.args.device.now).disk.present).pages in
-    let down = c.loop-depth.invariant.way unspent h a levels tree in
-    let stands =
-    along_stands c.args.layout pages levels c.args.key.now down.steps c.loop-depth.page down.right down.along in
-    let same = same_pages c.args.pages.now c.loop-depth.pages (g.D.Device.state c.args.device.now)
-    (g.D.Device.state c.loop-depth.device) c.loop-depth.invariant.unchanged (c.loop-depth.invariant.only.state h) in
-    c.look_at.ensures.damaged (c.loop-depth.invariant.only.honest.0 h) (c.loop-depth.invariant.agrees h a) damaged
-    stands.kind stands.node stands.same
-    (subst (λ (p : List (Option Sector)). IsOnPage c.args.layout p stands.kind stands.node) (sym same) stands.stands)
+    let unspent : is_spent c.args.pages.now ≡ false = sym at.invariant.unchanged.committed.spent ∙ here in
+    let down = at.invariant.way unspent h a levels tree in
+    let stands = along_stands c.args.layout (pages_on g.D.Device c.args.pages.now c.args.device.now) levels
+    c.args.key.now down.steps at.page down.right down.along in
+    pages_before g.D.Device ⊥ c.args.pages.now at.pages c.args.device.now at.device
+    (NoneStands c.args.layout at.page (ReturnsDamaged c.look_at.result)) at.invariant.unchanged at.invariant.only
+    at.invariant.agrees c.look_at.ensures.damaged h a damaged stands.kind stands.node stands.same stands.stands
 
 pub returns-in-Here-clause-unchanged : goal.returns-in-Here-clause-unchanged
 returns-in-Here-clause-unchanged g c = unchanged_on c.args.pages.now c.loop-depth.pages c.look_at.new.pages
@@ -65,20 +64,14 @@ returns-in-Here-clause-unchanged g c = unchanged_on c.args.pages.now c.loop-dept
 
 pub returns-in-Here-clause-finds : goal.returns-in-Here-clause-finds
 returns-in-Here-clause-finds g c = λ h a levels tree.
-    let here : is_spent c.loop-depth.pages ≡ false = false_unless (is_spent c.loop-depth.pages)
-    (λ spent. ok_or_err c.in_ok-child.field-0 Spent (sym c.in_ok-child.was ∙ c.look_at.ensures.spent.1 spent)) in
-    let unspent : is_spent c.args.pages.now ≡ false = sym c.loop-depth.invariant.unchanged.committed.spent ∙ here in
-    let pages : List (Option Sector) =
-    (map_now c.args.pages.now (g.D.Device.state c.args.device.now).disk.present).pages in
-    let same = same_pages c.args.pages.now c.loop-depth.pages (g.D.Device.state c.args.device.now)
-    (g.D.Device.state c.loop-depth.device) c.loop-depth.invariant.unchanged (c.loop-depth.invariant.only.state h) in
-    let P : List (Option Sector) → Look → Type 0 =
-    λ p look. LooksAt c.args.layout p c.loop-depth.page c.args.key.now c.args.sought c.look_at.new.entry look in
-    let first : P pages c.in_ok-child.field-0 = subst (λ (p : List (Option Sector)). P p c.in_ok-child.field-0) same
-    (c.in_ok-child.ensures.look (c.loop-depth.invariant.only.honest.0 h) (c.loop-depth.invariant.agrees h a)) in
-    finds_entry c.args.layout pages c.args.root levels c.args.key.now c.loop-depth.page
-    c.loop-depth._depth c.args.sought c.look_at.new.entry tree (c.loop-depth.invariant.way unspent h a levels tree)
-    (subst (P pages) c.in-Here.is first)
+    let at = c.loop-depth in
+    let unspent = unspent_before c.args.pages.now at.pages at.invariant.unchanged c.in_ok-child.ensures.spent in
+    let looks = looked_before g.D.Device c.args.pages.now at.pages c.args.device.now at.device c.args.layout at.page
+    c.args.key.now c.args.sought c.look_at.new.entry c.in_ok-child.field-0 Here at.invariant.unchanged
+    at.invariant.only at.invariant.agrees c.in-Here.is c.in_ok-child.ensures.look h a in
+    finds_entry c.args.layout (pages_on g.D.Device c.args.pages.now c.args.device.now) c.args.root levels
+    c.args.key.now at.page at._depth c.args.sought c.look_at.new.entry tree (at.invariant.way unspent h a levels tree)
+    looks
 
 pub returns-in-Missing-clause-unchanged : goal.returns-in-Missing-clause-unchanged
 returns-in-Missing-clause-unchanged g c = unchanged_on c.args.pages.now c.loop-depth.pages c.look_at.new.pages
@@ -86,47 +79,32 @@ returns-in-Missing-clause-unchanged g c = unchanged_on c.args.pages.now c.loop-d
 
 pub returns-in-Missing-clause-finds : goal.returns-in-Missing-clause-finds
 returns-in-Missing-clause-finds g c = λ h a levels tree.
-    let here : is_spent c.loop-depth.pages ≡ false = false_unless (is_spent c.loop-depth.pages)
-    (λ spent. ok_or_err c.in_ok-child.field-0 Spent (sym c.in_ok-child.was ∙ c.look_at.ensures.spent.1 spent)) in
-    let unspent : is_spent c.args.pages.now ≡ false = sym c.loop-depth.invariant.unchanged.committed.spent ∙ here in
-    let pages : List (Option Sector) =
-    (map_now c.args.pages.now (g.D.Device.state c.args.device.now).disk.present).pages in
-    let same = same_pages c.args.pages.now c.loop-depth.pages (g.D.Device.state c.args.device.now)
-    (g.D.Device.state c.loop-depth.device) c.loop-depth.invariant.unchanged (c.loop-depth.invariant.only.state h) in
-    let P : List (Option Sector) → Look → Type 0 =
-    λ p look. LooksAt c.args.layout p c.loop-depth.page c.args.key.now c.args.sought c.look_at.new.entry look in
-    let first : P pages c.in_ok-child.field-0 = subst (λ (p : List (Option Sector)). P p c.in_ok-child.field-0) same
-    (c.in_ok-child.ensures.look (c.loop-depth.invariant.only.honest.0 h) (c.loop-depth.invariant.agrees h a)) in
-    finds_none c.args.layout pages c.args.root levels c.args.key.now c.loop-depth.page
-    c.loop-depth._depth c.args.sought c.look_at.new.entry tree (c.loop-depth.invariant.way unspent h a levels tree)
-    (subst (P pages) c.in-Missing.is first)
+    let at = c.loop-depth in
+    let unspent = unspent_before c.args.pages.now at.pages at.invariant.unchanged c.in_ok-child.ensures.spent in
+    let looks = looked_before g.D.Device c.args.pages.now at.pages c.args.device.now at.device c.args.layout at.page
+    c.args.key.now c.args.sought c.look_at.new.entry c.in_ok-child.field-0 Missing at.invariant.unchanged
+    at.invariant.only at.invariant.agrees c.in-Missing.is c.in_ok-child.ensures.look h a in
+    finds_none c.args.layout (pages_on g.D.Device c.args.pages.now c.args.device.now) c.args.root levels
+    c.args.key.now at.page at._depth c.args.sought c.look_at.new.entry tree (at.invariant.way unspent h a levels tree)
+    looks
 
 pub loop-depth-preserved : goal.loop-depth-preserved
 loop-depth-preserved g c =
-    let here : is_spent c.loop-depth.pages ≡ false = false_unless (is_spent c.loop-depth.pages)
-    (λ spent. ok_or_err c.in_ok-child.field-0 Spent (sym c.in_ok-child.was ∙ c.look_at.ensures.spent.1 spent)) in
+    let at = c.loop-depth in
+    let unspent = unspent_before c.args.pages.now at.pages at.invariant.unchanged c.in_ok-child.ensures.spent in
     record {
-      only = reads_then g.D.Device ⊥ _ ⊥ c.args.device.now c.loop-depth.device c.look_at.new.device (λ e. absurd e)
-          c.loop-depth.invariant.only c.look_at.ensures.only;
-      unchanged = unchanged_on c.args.pages.now c.loop-depth.pages c.look_at.new.pages c.loop-depth.invariant.unchanged
+      only = reads_then g.D.Device ⊥ _ ⊥ c.args.device.now at.device c.look_at.new.device (λ e. absurd e)
+          at.invariant.only c.look_at.ensures.only;
+      unchanged = unchanged_on c.args.pages.now at.pages c.look_at.new.pages at.invariant.unchanged
           c.look_at.ensures.unchanged;
-      agrees =
-          λ h a. c.look_at.ensures.agrees (c.loop-depth.invariant.only.honest.0 h) (c.loop-depth.invariant.agrees h a);
+      agrees = λ h a. c.look_at.ensures.agrees (at.invariant.only.honest.0 h) (at.invariant.agrees h a);
       is_open = c.look_at.ensures.open;
-      spent = λ low. sym c.loop-depth.invariant.unchanged.committed.spent ∙ here;
-      way = λ unspent h a levels tree.
-          let pages : List (Option Sector) =
-          (map_now c.args.pages.now (g.D.Device.state c.args.device.now).disk.present).pages in
-          let same =
-          same_pages c.args.pages.now c.loop-depth.pages (g.D.Device.state c.args.device.now) (g.D.Device.state
-          c.loop-depth.device) c.loop-depth.invariant.unchanged (c.loop-depth.invariant.only.state h) in
-          let P : List (Option Sector) → Look → Type 0 =
-          λ p look. LooksAt c.args.layout p c.loop-depth.page c.args.key.now c.args.sought c.look_at.new.entry look in
-          let first : P pages c.in_ok-child.field-0 =
-          subst (λ (p : List (Option Sector)). P p c.in_ok-child.field-0) same
-          (c.in_ok-child.ensures.look (c.loop-depth.invariant.only.honest.0 h) (c.loop-depth.invariant.agrees h a)) in
-          down_on c.args.layout pages levels c.args.key.now c.loop-depth.page c.loop-depth._depth c.in-Below.child
-          (c.loop-depth.invariant.way unspent h a levels tree) (subst (P pages) c.in-Below.is first);
+      spent = λ low. unspent;
+      way = λ unspent h a levels tree. down_on c.args.layout (pages_on g.D.Device c.args.pages.now c.args.device.now)
+          levels c.args.key.now at.page at._depth c.in-Below.child (at.invariant.way unspent h a levels tree)
+          (looked_before g.D.Device c.args.pages.now at.pages c.args.device.now at.device c.args.layout at.page
+          c.args.key.now c.args.sought c.look_at.new.entry c.in_ok-child.field-0 (Below c.in-Below.child)
+          at.invariant.unchanged at.invariant.only at.invariant.agrees c.in-Below.is c.in_ok-child.ensures.look h a);
     }
 
 pub returns-clause-damaged : goal.returns-clause-damaged
@@ -210,3 +188,24 @@ pub returns-in_err-child-clause-cause : goal.returns-in_err-child-clause-cause
 returns-in_err-child-clause-cause g c = passed c.from_residual.result c.in_err-child.field-0.0 c.from_residual.ensures.1
     (λ r. IfErr r IsReadRefusal)
     (c.in_err-child.ensures.cause)
+
+pub returns-in-Here-clause-leaf : goal.returns-in-Here-clause-leaf
+returns-in-Here-clause-leaf g c = λ h a levels tree.
+    let at = c.loop-depth in
+    let unspent = unspent_before c.args.pages.now at.pages at.invariant.unchanged c.in_ok-child.ensures.spent in
+    let looks = looked_before g.D.Device c.args.pages.now at.pages c.args.device.now at.device c.args.layout at.page
+    c.args.key.now c.args.sought c.look_at.new.entry c.in_ok-child.field-0 Here at.invariant.unchanged
+    at.invariant.only at.invariant.agrees c.in-Here.is c.in_ok-child.ensures.look h a in
+    ends_in_leaf c.args.layout (pages_on g.D.Device c.args.pages.now c.args.device.now) c.args.root levels
+    c.args.key.now at.page at._depth c.args.sought (Some c.look_at.new.entry) tree
+    (at.invariant.way unspent h a levels tree) looks
+
+pub returns-in-Missing-clause-leaf : goal.returns-in-Missing-clause-leaf
+returns-in-Missing-clause-leaf g c = λ h a levels tree.
+    let at = c.loop-depth in
+    let unspent = unspent_before c.args.pages.now at.pages at.invariant.unchanged c.in_ok-child.ensures.spent in
+    let looks = looked_before g.D.Device c.args.pages.now at.pages c.args.device.now at.device c.args.layout at.page
+    c.args.key.now c.args.sought c.look_at.new.entry c.in_ok-child.field-0 Missing at.invariant.unchanged
+    at.invariant.only at.invariant.agrees c.in-Missing.is c.in_ok-child.ensures.look h a in
+    ends_in_leaf c.args.layout (pages_on g.D.Device c.args.pages.now c.args.device.now) c.args.root levels
+    c.args.key.now at.page at._depth c.args.sought None tree (at.invariant.way unspent h a levels tree) looks

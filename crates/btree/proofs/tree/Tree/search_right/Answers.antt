@@ -1,27 +1,26 @@
 use Rattle.std.proofs.Common.{◌≡◌, List, Err, refl, sym, ap, subst, ◌∙◌}
-use Rattle.std.specs.Prelude.{Option}
-use Rattle.std.proofs.lemmas.Result.{IfOk-weaker, err_from_is_err_and}
+use Rattle.std.specs.Prelude.{Option, Some, IfOk}
+use Rattle.std.proofs.lemmas.Result.{IfOk-weaker}
 use Rattle.station.specs.Disk.{Sector}
-use Rattle.pages.specs.Pages.{map_now}
 use Rattle.pages.specs.declared.error.PagesError.TheVariants.{Damaged}
-use Rattle.btree_pages.specs.declared.row_layout.RowLayout.{RowLayout}
 use Rattle.btree_pages.specs.declared.row_layout.Kind.TheVariants.{Leaf}
-use Rattle.btree.specs.Tree.{IsTree, IsOnPage}
+use Rattle.btree.specs.Calls.{pages_on}
+use Rattle.btree.specs.Results.{ReturnsDamaged}
 use Rattle.btree.specs.Rooted.{RootedTree}
 use Rattle.btree.specs.Entries.{Entry, entries_of, entries_of_rows, first_entry}
 use Rattle.btree.specs.Propagates.{node_with}
-use Rattle.btree.specs.Steps.{LeadsTo}
 use Rattle.btree.specs.Sought.{sought_in, AnswersAt}
-use Rattle.btree.proofs.Frames.{holds_tree, unchanged_on, same_pages}
-use Rattle.btree.proofs.Answering.{found_entry, behind}
+use Rattle.btree.proofs.Frames.{unchanged_on, rooted_tree}
+use Rattle.btree.proofs.Answering.{found_entry}
+use Rattle.btree.proofs.Descending.{right_of}
 use Rattle.std.specs.Prelude.{IfErr}
 use Rattle.std.proofs.Common.{◌≢◌, ◌↔◌, inr, true}
 use Rattle.station.specs.Calls.{OnlyReads}
 use Rattle.station.proofs.Calls.{reads_then, reads_nothing}
 use Rattle.pages.specs.Pages.{is_spent}
 use Rattle.pages.specs.declared.error.PagesError.TheVariants.{Device, Spent}
-use Rattle.btree.specs.Reading.{IsSearchRefusal}
-use Rattle.btree.proofs.Passing.{passed, never_ok, still_error}
+use Rattle.btree.specs.Reading.{IsSearchRefusal, NoneOfKind}
+use Rattle.btree.proofs.Passing.{passed, never_ok, still_error, was_error, pages_before}
 use Rattle.btree.proofs.Passing.{reads_where, sectors_on}
 use Rattle.btree.proofs.Passing.{read_is_search}
 use Rattle.btree.proofs.tree.Tree.search_right.Goals as goal
@@ -45,127 +44,60 @@ returns-in-None-clause-unchanged g c =
 
 pub returns-in_err-found-clause-damaged : goal.returns-in_err-found-clause-damaged
 returns-in_err-found-clause-damaged g c = λ honest agrees told levels holds.
-    let from = err_from_is_err_and c.from_residual-in_err-found.result c.from_residual-in_err-found.ensures.1 in
-    let damaged : c.entry_at.result ≡ Err Damaged = cc in
-    let view : RootedTree = c.args.self.now in
-    let root_is : c.self.inside.root ≡ view.root = ap (λ (t : RootedTree). t.root) c.self.view_is in
-    let layout_is : c.self.inside.layout ≡ view.layout = ap (λ (t : RootedTree). t.layout) c.self.view_is in
-    let pages : List (Option Sector) =
-    (map_now c.args.pages.now (g.D.Device.state c.args.device.now).disk.present).pages in
-    let tree : IsTree view.layout pages view.root levels =
-    holds_tree view.layout pages view.root levels holds (λ none. c.if-self-eq0.false (root_is ∙ none)) in
-    let same = same_pages c.args.pages.now c.follow.new.pages (g.D.Device.state c.args.device.now)
-    (g.D.Device.state c.follow.new.device) c.follow.ensures.unchanged (c.follow.ensures.only.state honest) in
-    let way = c.in_ok-way.way in
-    let W : RootedTree → Type 0 = λ t. IsTree t.layout pages t.root levels
-    → LeadsTo t.layout pages c.args.key.now levels way.path.items way.page way.right in
-    let leads : LeadsTo view.layout pages c.args.key.now levels way.path.items way.page way.right =
-    subst W c.self.view_is (c.in_ok-way.ensures.way honest agrees levels) tree in
-    let here : LeadsTo c.self.inside.layout pages c.args.key.now levels way.path.items way.page way.right =
-    subst (λ (f : RowLayout). LeadsTo f pages c.args.key.now levels way.path.items way.page way.right) (sym layout_is)
-    leads in
-    c.entry_at.ensures.damaged (c.follow.ensures.only.honest.0 honest) (c.follow.ensures.agrees honest agrees) damaged
-    (node_with way.page here.rows) refl
-    (subst (λ (p : List (Option Sector)). IsOnPage c.self.inside.layout p Leaf (node_with way.page here.rows))
-    (sym same) here.stands)
+    let tree = rooted_tree c.args.self.now c.self.inside.layout c.self.inside.root
+    (pages_on g.D.Device c.args.pages.now c.args.device.now) levels c.self.view_is c.if-self-eq0.false holds in
+    let leads = c.in_ok-way.ensures.way honest agrees levels tree in
+    let damaged = was_error c.from_residual-in_err-found.result c.entry_at.result c.in_err-found.field-0.0 Damaged
+    c.from_residual-in_err-found.ensures.1 c.in_err-found.was told in
+    pages_before g.D.Device _ c.args.pages.now c.follow.new.pages c.args.device.now c.follow.new.device
+    (NoneOfKind c.self.inside.layout Leaf c.in_ok-way.way.page (ReturnsDamaged c.entry_at.result))
+    c.follow.ensures.unchanged c.follow.ensures.only c.follow.ensures.agrees c.entry_at.ensures.damaged honest agrees
+    damaged (node_with c.in_ok-way.way.page leads.rows) refl leads.stands
 
 pub returns-in-Some-clause-entry : goal.returns-in-Some-clause-entry
 returns-in-Some-clause-entry g c = λ honest agrees levels holds.
-    let view : RootedTree = c.args.self.now in
-    let root_is : c.self.inside.root ≡ view.root = ap (λ (t : RootedTree). t.root) c.self.view_is in
-    let layout_is : c.self.inside.layout ≡ view.layout = ap (λ (t : RootedTree). t.layout) c.self.view_is in
-    let pages : List (Option Sector) =
-    (map_now c.args.pages.now (g.D.Device.state c.args.device.now).disk.present).pages in
-    let tree : IsTree view.layout pages view.root levels =
-    holds_tree view.layout pages view.root levels holds (λ none. c.if-self-eq0.false (root_is ∙ none)) in
-    let same = same_pages c.args.pages.now c.follow.new.pages (g.D.Device.state c.args.device.now)
-    (g.D.Device.state c.follow.new.device) c.follow.ensures.unchanged (c.follow.ensures.only.state honest) in
+    let pages = pages_on g.D.Device c.args.pages.now c.args.device.now in
     let way = c.in_ok-way.way in
-    let W : RootedTree → Type 0 = λ t. IsTree t.layout pages t.root levels
-    → LeadsTo t.layout pages c.args.key.now levels way.path.items way.page way.right in
-    let leads : LeadsTo view.layout pages c.args.key.now levels way.path.items way.page way.right =
-    subst W c.self.view_is (c.in_ok-way.ensures.way honest agrees levels) tree in
-    let A : RowLayout → List (Option Sector) → Option Entry → Type 0 =
-    λ f p entry. AnswersAt f p way.page c.args.key.now c.args.sought entry in
-    let at_first : A c.self.inside.layout pages c.in_ok-found.field-0 =
-    subst (λ (p : List (Option Sector)). A c.self.inside.layout p c.in_ok-found.field-0) same
-    (c.in_ok-found.ensures.entry (c.follow.ensures.only.honest.0 honest) (c.follow.ensures.agrees honest agrees)) in
-    let at_view : A view.layout pages c.in_ok-found.field-0 =
-    subst (λ (f : RowLayout). A f pages c.in_ok-found.field-0) layout_is at_first in
-    found_entry view.layout pages view.root c.args.key.now levels way.path.items way.page way.right c.args.sought
-    c.in-Some.found tree leads (subst (A view.layout pages) c.in-Some.is at_view)
+    let tree = rooted_tree c.args.self.now c.self.inside.layout c.self.inside.root pages levels c.self.view_is
+    c.if-self-eq0.false holds in
+    let A : Option Entry → List (Option Sector) → Type 0 =
+    λ entry p. AnswersAt c.self.inside.layout p way.page c.args.key.now c.args.sought entry in
+    let answers = pages_before g.D.Device _ c.args.pages.now c.follow.new.pages c.args.device.now c.follow.new.device
+    (A c.in_ok-found.field-0) c.follow.ensures.unchanged c.follow.ensures.only c.follow.ensures.agrees
+    c.in_ok-found.ensures.entry honest agrees in
+    subst (λ (t : RootedTree). Some c.in-Some.found ≡ sought_in c.args.sought (entries_of t.layout levels)
+    c.args.key.now) c.self.view_is (found_entry c.self.inside.layout pages c.self.inside.root c.args.key.now levels
+    way.path.items way.page way.right c.args.sought c.in-Some.found tree
+    (c.in_ok-way.ensures.way honest agrees levels tree)
+    (subst (λ (e : Option Entry). A e pages) c.in-Some.is answers))
 
 pub returns-in-None-clause-entry : goal.returns-in-None-clause-entry
 returns-in-None-clause-entry g c = λ honest agrees levels holds.
-    let view : RootedTree = c.args.self.now in
-    let root_is : c.self.inside.root ≡ view.root = ap (λ (t : RootedTree). t.root) c.self.view_is in
-    let layout_is : c.self.inside.layout ≡ view.layout = ap (λ (t : RootedTree). t.layout) c.self.view_is in
-    let pages : List (Option Sector) =
-    (map_now c.args.pages.now (g.D.Device.state c.args.device.now).disk.present).pages in
-    let tree : IsTree view.layout pages view.root levels =
-    holds_tree view.layout pages view.root levels holds (λ none. c.if-self-eq0.false (root_is ∙ none)) in
-    let same = same_pages c.args.pages.now c.follow.new.pages (g.D.Device.state c.args.device.now)
-    (g.D.Device.state c.follow.new.device) c.follow.ensures.unchanged (c.follow.ensures.only.state honest) in
     let way = c.in_ok-way.way in
-    let W : RootedTree → Type 0 = λ t. IsTree t.layout pages t.root levels
-    → LeadsTo t.layout pages c.args.key.now levels way.path.items way.page way.right in
-    let leads : LeadsTo view.layout pages c.args.key.now levels way.path.items way.page way.right =
-    subst W c.self.view_is (c.in_ok-way.ensures.way honest agrees levels) tree in
-    let A : RowLayout → List (Option Sector) → Option Entry → Type 0 =
-    λ f p entry. AnswersAt f p way.page c.args.key.now c.args.sought entry in
-    let at_first : A c.self.inside.layout pages c.in_ok-found.field-0 =
-    subst (λ (p : List (Option Sector)). A c.self.inside.layout p c.in_ok-found.field-0) same
-    (c.in_ok-found.ensures.entry (c.follow.ensures.only.honest.0 honest) (c.follow.ensures.agrees honest agrees)) in
-    let at_view : A view.layout pages c.in_ok-found.field-0 =
-    subst (λ (f : RowLayout). A f pages c.in_ok-found.field-0) layout_is at_first in
-    let again = same_pages c.follow.new.pages c.entry_at.new.pages (g.D.Device.state c.follow.new.device)
-    (g.D.Device.state c.entry_at.new.device) c.entry_at.ensures.unchanged
-    (c.entry_at.ensures.only.state (c.follow.ensures.only.honest.0 honest)) in
-    let still = subst (λ (p : List (Option Sector)). IsTree view.layout p view.root levels) (sym (again ∙ same)) tree in
-    let honest_then = c.entry_at.ensures.only.honest.0 (c.follow.ensures.only.honest.0 honest) in
-    let agrees_then =
-    c.entry_at.ensures.agrees (c.follow.ensures.only.honest.0 honest) (c.follow.ensures.agrees honest agrees) in
-    let is = behind view.layout pages view.root c.args.key.now levels way.path.items way.page way.right c.args.sought
-    c.requires.sought tree leads (subst (A view.layout pages) c.in-None.is at_view) in
-    IfOk-weaker c.right_entry.result
-    (λ (entry : Option Entry). entry ≡ first_entry (entries_of_rows view.layout is.after))
-    (λ (entry : Option Entry). entry ≡ sought_in c.args.sought (entries_of view.layout levels) c.args.key.now)
-    (λ entry first. first ∙ is.is)
-    (c.right_entry.ensures.entry honest_then agrees_then levels still is.passed is.after is.around is.beside)
+    let tree = rooted_tree c.args.self.now c.self.inside.layout c.self.inside.root
+    (pages_on g.D.Device c.args.pages.now c.args.device.now) levels c.self.view_is c.if-self-eq0.false holds in
+    let said = right_of g.D.Device c.args.pages.now c.follow.new.pages c.entry_at.new.pages c.args.device.now
+    c.follow.new.device c.entry_at.new.device _ c.args.self.now c.args.key.now levels way.path.items way.page way.right
+    c.args.sought c.in_ok-found.field-0 (λ after. IfOk c.right_entry.result (λ entry. entry
+    ≡ first_entry (entries_of_rows c.args.self.now.layout after)))
+    _ _ c.self.view_is c.requires.sought c.follow.ensures.unchanged c.follow.ensures.only c.follow.ensures.agrees
+    c.entry_at.ensures.unchanged c.entry_at.ensures.only c.entry_at.ensures.agrees c.in-None.is
+    c.in_ok-found.ensures.entry c.right_entry.ensures.entry honest agrees tree
+    (c.in_ok-way.ensures.way honest agrees levels tree) in
+    IfOk-weaker c.right_entry.result _ _ (λ entry is. is ∙ said.0.is) said.1
 
 pub returns-in-None-clause-damaged : goal.returns-in-None-clause-damaged
 returns-in-None-clause-damaged g c = λ honest agrees told levels holds.
-    let view : RootedTree = c.args.self.now in
-    let root_is : c.self.inside.root ≡ view.root = ap (λ (t : RootedTree). t.root) c.self.view_is in
-    let layout_is : c.self.inside.layout ≡ view.layout = ap (λ (t : RootedTree). t.layout) c.self.view_is in
-    let pages : List (Option Sector) =
-    (map_now c.args.pages.now (g.D.Device.state c.args.device.now).disk.present).pages in
-    let tree : IsTree view.layout pages view.root levels =
-    holds_tree view.layout pages view.root levels holds (λ none. c.if-self-eq0.false (root_is ∙ none)) in
-    let same = same_pages c.args.pages.now c.follow.new.pages (g.D.Device.state c.args.device.now)
-    (g.D.Device.state c.follow.new.device) c.follow.ensures.unchanged (c.follow.ensures.only.state honest) in
     let way = c.in_ok-way.way in
-    let W : RootedTree → Type 0 = λ t. IsTree t.layout pages t.root levels
-    → LeadsTo t.layout pages c.args.key.now levels way.path.items way.page way.right in
-    let leads : LeadsTo view.layout pages c.args.key.now levels way.path.items way.page way.right =
-    subst W c.self.view_is (c.in_ok-way.ensures.way honest agrees levels) tree in
-    let A : RowLayout → List (Option Sector) → Option Entry → Type 0 =
-    λ f p entry. AnswersAt f p way.page c.args.key.now c.args.sought entry in
-    let at_first : A c.self.inside.layout pages c.in_ok-found.field-0 =
-    subst (λ (p : List (Option Sector)). A c.self.inside.layout p c.in_ok-found.field-0) same
-    (c.in_ok-found.ensures.entry (c.follow.ensures.only.honest.0 honest) (c.follow.ensures.agrees honest agrees)) in
-    let at_view : A view.layout pages c.in_ok-found.field-0 =
-    subst (λ (f : RowLayout). A f pages c.in_ok-found.field-0) layout_is at_first in
-    let again = same_pages c.follow.new.pages c.entry_at.new.pages (g.D.Device.state c.follow.new.device)
-    (g.D.Device.state c.entry_at.new.device) c.entry_at.ensures.unchanged
-    (c.entry_at.ensures.only.state (c.follow.ensures.only.honest.0 honest)) in
-    let still = subst (λ (p : List (Option Sector)). IsTree view.layout p view.root levels) (sym (again ∙ same)) tree in
-    let honest_then = c.entry_at.ensures.only.honest.0 (c.follow.ensures.only.honest.0 honest) in
-    let agrees_then =
-    c.entry_at.ensures.agrees (c.follow.ensures.only.honest.0 honest) (c.follow.ensures.agrees honest agrees) in
-    let is = behind view.layout pages view.root c.args.key.now levels way.path.items way.page way.right c.args.sought
-    c.requires.sought tree leads (subst (A view.layout pages) c.in-None.is at_view) in
-    c.right_entry.ensures.damaged honest_then agrees_then told levels still is.passed is.after is.around is.beside
+    let tree = rooted_tree c.args.self.now c.self.inside.layout c.self.inside.root
+    (pages_on g.D.Device c.args.pages.now c.args.device.now) levels c.self.view_is c.if-self-eq0.false holds in
+    (right_of g.D.Device c.args.pages.now c.follow.new.pages c.entry_at.new.pages c.args.device.now
+    c.follow.new.device c.entry_at.new.device _ c.args.self.now c.args.key.now levels way.path.items way.page way.right
+    c.args.sought c.in_ok-found.field-0 (λ after. ⊥)
+    _ _ c.self.view_is c.requires.sought c.follow.ensures.unchanged c.follow.ensures.only c.follow.ensures.agrees
+    c.entry_at.ensures.unchanged c.entry_at.ensures.only c.entry_at.ensures.agrees c.in-None.is
+    c.in_ok-found.ensures.entry (λ h a. c.right_entry.ensures.damaged h a told) honest agrees tree
+    (c.in_ok-way.ensures.way honest agrees levels tree)).1
 
 pub returns-then-self-eq0-clause-only : goal.returns-then-self-eq0-clause-only
 returns-then-self-eq0-clause-only g c =
