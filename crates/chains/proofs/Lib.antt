@@ -8,3 +8,4 @@ pub mod Unwritten
 pub mod Refusing
 pub mod Entries
 pub mod Rows
+pub mod Buffers

@@ -5,3 +5,4 @@ pub mod Calls
 pub mod Rows
 pub mod Laws
 pub mod Refusals
+pub mod Buffers

@@ -3,6 +3,7 @@
 //! Promise: a chain holds the record that was put there, and pages outside the chain stay as they are.
 #![tactic(auto)]
 
+mod buffer;
 mod laws;
 mod laying;
 mod link;
@@ -11,6 +12,7 @@ mod reading;
 mod releasing;
 mod rewriting;
 
+pub use buffer::RecordBuffer;
 pub use laws::{
     chain_once, chain_stays, chain_there, one_length, rows_insert, rows_release, rows_remove,
     rows_rewrite, rows_stay, tree_moves, values_dont_steer,

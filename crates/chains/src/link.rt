@@ -1,5 +1,5 @@
 //! One page of a chain is read or written.
-ghost use Rattle.std.specs.Prelude.{◌≡◌, ◌≤◌, ◌<◌, ◌+◌, Err, Some, suc, List, length, IfOk, IfErr, OnOk, OnErr};
+ghost use Rattle.std.specs.Prelude.{◌≡◌, ◌≤◌, ◌<◌, ◌+◌, Err, Some, suc, List, length, take, IfOk, IfErr, OnOk, OnErr};
 ghost use Rattle.station.specs.Disk.{Sector};
 ghost use Rattle.station.specs.Calls.{OnlyReads};
 ghost use Rattle.pages.specs.Pages.{sectors_of, IsOpen, IsPage, KeepsCommitted};
@@ -9,7 +9,7 @@ ghost use Rattle.btree.specs.Changes.{pages_of_map};
 ghost use Rattle.btree.specs.Reading.{IsReadRefusal};
 ghost use Rattle.btree.specs.Refusals.{IsWriteRefusal};
 ghost use Rattle.btree.specs.Results.{ExactlyIfSpent, FullIfUsed, FewChanged, FewFilled, ReturnsDamaged};
-ghost use Rattle.chains.specs.Chain.{IsLink, next_in, page_at, next_at, link_bytes};
+ghost use Rattle.chains.specs.Chain.{IsLink, next_in, part_in, page_at, next_at, link_bytes};
 ghost use Rattle.chains.specs.Links.{PutsLink, LinksTo, AddsPart, NoLink};
 ghost use Rattle.chains.specs.Refusals.{IsRecordRefusal};
 ghost use Rattle.chains.specs.Calls.{OnChain, OnNoChain};
@@ -76,7 +76,7 @@ pub(crate) fn link(next: u32, part: &[u8]) -> [u8; 4096]
 }
 
 /// Puts bytes into others from this place on.
-fn put(bytes: &mut [u8], at: usize, part: &[u8])
+pub(crate) fn put(bytes: &mut [u8], at: usize, part: &[u8])
     requires { at + length part.now ≤ length bytes.old }
     ensures { bytes.new ≡ put_at at part.now bytes.old }
 {
@@ -141,12 +141,21 @@ pub(crate) fn add_part<D: Device>(
     ensures cause { IfErr result IsRecordRefusal }
 {
     let next = read_link(pages, device, page, held)?;
-    bytes.extend_from_slice(&held[PART_AT..PART_AT + size])?;
+    bytes.extend_from_slice(part_from(held, size))?;
     Ok(next)
 }
 
+/// The beginning of the part of a record that is on a page, so many bytes.
+pub(crate) fn part_from(page: &[u8; 4096], size: usize) -> &[u8]
+    requires { size ≤ 4080 }
+    ensures long { length (part_in page.now) ≡ 4080 }
+    ensures bytes { result.now ≡ take size (part_in page.now) }
+{
+    &page[PART_AT..PART_AT + size]
+}
+
 /// Reads a page of a chain into a buffer, and returns the next page. Refusals are those of `next_page`.
-fn read_link<D: Device>(
+pub(crate) fn read_link<D: Device>(
     pages: &PageMap,
     device: &mut D,
     page: u32,

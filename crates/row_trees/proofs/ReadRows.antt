@@ -33,22 +33,21 @@ pub long_has : (n : ℕ) (pages : List (Option Sector)) (entry : Entry) (size : 
 long_has zero pages entry size long has = absurd (long refl)
 long_has (suc more) pages entry size long has = record { size_is = has.0; some = has.1; chain = has.2 }
 
-pub long_chain : (n : ℕ) (pages : List (Option Sector)) (entry : Entry) (size given first : ℕ) → n ≢ 0
-    → first ≡ big_number 4 entry.value → given ≡ size → HasRecord n pages entry size
-    → Stands pages (pages_for given) first
-long_chain n pages entry size given first long first_is same has =
+pub long_chain : (n : ℕ) (pages : List (Option Sector)) (entry : Entry) (size first : ℕ) → n ≢ 0
+    → first ≡ big_number 4 entry.value → HasRecord n pages entry size → Stands pages (pages_for size) first
+long_chain n pages entry size first long first_is has =
     let own = long_has n pages entry size long has in
-    subst (λ (k : ℕ). Stands pages (pages_for k) first) (sym (same ∙ own.size_is))
+    subst (λ (k : ℕ). Stands pages (pages_for k) first) (sym own.size_is)
     (subst (Stands pages (pages_for n)) (sym first_is) own.chain)
 
-pub long_read : (n : ℕ) (pages : List (Option Sector)) (entry : Entry) (old new bytes : List ℕ) (first : ℕ) → n ≢ 0
+pub long_read : (n : ℕ) (pages : List (Option Sector)) (entry : Entry) (old new : List ℕ) (first : ℕ) → n ≢ 0
     → IsRecordLength n (length old) → 4 ≤ length entry.value → first ≡ big_number 4 entry.value
-    → length bytes ≡ length old → new ≡ bytes → IsRecordOf pages first bytes → ReadsRecord n pages entry old new
-long_read zero pages entry old new bytes first long size some is many same read = absurd (long refl)
-long_read (suc more) pages entry old new bytes first long size some is many same read =
+    → length new ≡ length old → IsRecordOf pages first new → ReadsRecord n pages entry old new
+long_read zero pages entry old new first long size some is many read = absurd (long refl)
+long_read (suc more) pages entry old new first long size some is many read =
     let n = suc more in
     let page = big_number 4 entry.value in
-    let whole : bytes ≡ take n (chain_bytes pages (pages_for n) page) =
+    let whole : new ≡ take n (chain_bytes pages (pages_for n) page) =
     read.bytes_are ∙ ap (λ (k : ℕ). take k (chain_bytes pages (pages_for k) first)) (many ∙ size)
     ∙ ap (λ (p : ℕ). take n (chain_bytes pages (pages_for n) p)) is in
     record {
@@ -58,6 +57,6 @@ long_read (suc more) pages entry old new bytes first long size some is many same
         subst (Stands pages (pages_for n)) is
             (subst (λ (k : ℕ). Stands pages (pages_for k) first) (many ∙ size) read.stands),
       );
-      bytes_are = same ∙ sym (record_back (length old) bytes (drop 4 entry.value) many)
+      bytes_are = sym (record_back (length old) new (drop 4 entry.value) many)
           ∙ ap (λ (l : List ℕ). take (length old) (l ++ drop 4 entry.value)) whole;
     }

@@ -10,17 +10,16 @@ ghost use Rattle.row_trees.specs.Reading.{IsRecordLength, HasRecord, ReadsRecord
 use crate::row_tree::RowTree;
 use crate::stored_value::{PAGE_NUMBER_BYTES, first_page};
 use btree::Entry;
-use chains::read_record;
+use chains::RecordBuffer;
 use pages::{PageMap, PagesError};
 use station::Device;
-use std::alloc::Global;
 
 impl RowTree {
-    /// Fills a buffer of the length of a record with the record of an entry. A record in a chain is read past the cache of pages. After a
-    /// refusal the buffer is as it was. `Damaged` means that the entry has no such record.
+    /// Fills `into`, which has the length of a record, with the record of an entry. The pages of a chain are read past the cache, into the
+    /// buffer. After a refusal `into` is as it was. `Damaged` means that the entry has no such record.
     pub fn read_record<D: Device>(
         &self,
-        alloc: Global,
+        buffer: &mut RecordBuffer,
         pages: &PageMap,
         device: &mut D,
         entry: &Entry,
@@ -47,9 +46,7 @@ impl RowTree {
         if is_short {
             return Err(PagesError::Damaged);
         }
-        let record = read_record(alloc, pages, device, first_page(value), into.len(), 0)?;
-        into.copy_from_slice(&record);
-        Ok(())
+        buffer.read(pages, device, first_page(value), into)
     }
 }
 

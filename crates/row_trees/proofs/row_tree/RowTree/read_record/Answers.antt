@@ -1,9 +1,8 @@
-use Rattle.std.proofs.Common.{length, refl, sym, ap, ◌∙◌, arith}
+use Rattle.std.proofs.Common.{length, sym, ap, ◌∙◌, arith}
 use Rattle.byteorder.specs.Endian.{big_number}
 use Rattle.pages.specs.declared.error.PagesError.TheVariants.{Damaged}
 use Rattle.btree.specs.Changes.{pages_of_map}
 use Rattle.row_trees.specs.RowTree.{ChainedTree}
-use Rattle.row_trees.proofs.Calling.{refused_by_call}
 use Rattle.row_trees.proofs.Passing.{on_ok, err_told}
 use Rattle.row_trees.proofs.ReadRows.{short_read, short_has, long_has, long_chain, long_read}
 use Rattle.row_trees.proofs.row_tree.RowTree.read_record.Goals as goal
@@ -36,15 +35,13 @@ returns-then-is_short-clause-damaged g c = λ honest agrees told has.
     let short = c.if-is_short.true in
     omega (arith, some, same, short)
 
-pub returns-in_err-record-clause-damaged : goal.returns-in_err-record-clause-damaged
-returns-in_err-record-clause-damaged g c = λ honest agrees told has.
+pub returns-clause-damaged : goal.returns-clause-damaged
+returns-clause-damaged g c = λ honest agrees told has.
     let pages = pages_of_map c.args.pages.now (g.D.Device.state c.args.device.now).disk.present in
     let n_is = ap (λ (t : ChainedTree). t.record_bytes) c.self.view_is in
-    c.read_record.ensures.damaged honest agrees
-    (refused_by_call c.in_err-record.was c.from_residual.ensures.1 told)
-    (long_chain c.args.self.now.record_bytes pages c.args.entry.now (length c.args.into.now)
-    (length c.args.into.now) c.first_page.result (λ none. c.if-self-eq0.false (n_is ∙ none))
-    (c.first_page.ensures ∙ ap (big_number 4) c.value-value.ensures) refl has)
+    c.read.ensures.damaged honest agrees told
+    (long_chain c.args.self.now.record_bytes pages c.args.entry.now (length c.args.into.now) c.first_page.result
+    (λ none. c.if-self-eq0.false (n_is ∙ none)) (c.first_page.ensures ∙ ap (big_number 4) c.value-value.ensures) has)
 
 pub returns-clause-record : goal.returns-clause-record
 returns-clause-record g c = λ honest agrees size.
@@ -52,10 +49,7 @@ returns-clause-record g c = λ honest agrees size.
     let n_is = ap (λ (t : ChainedTree). t.record_bytes) c.self.view_is in
     let long = c.if-is_short.false in
     let same = ap (λ l. length l) c.value-value.ensures in
-    let bytes = c.in_ok-record.record.items in
-    let many = c.in_ok-record.ensures.long in
-    long_read c.args.self.now.record_bytes pages c.args.entry.now c.args.into.now _ bytes
-    c.first_page.result (λ none. c.if-self-eq0.false (n_is ∙ none)) size (omega (arith, long, same))
-    (c.first_page.ensures ∙ ap (big_number 4) c.value-value.ensures) many
-    (c.copy_from_slice.ensures.after ∙ c.deref.ensures.value)
-    (c.in_ok-record.ensures.bytes honest agrees)
+    on_ok c.read.result _ _ (long_read c.args.self.now.record_bytes pages c.args.entry.now c.args.into.now
+    c.read.new.into c.first_page.result (λ none. c.if-self-eq0.false (n_is ∙ none)) size (omega (arith, long, same))
+    (c.first_page.ensures ∙ ap (big_number 4) c.value-value.ensures) c.read.ensures.long)
+    (c.read.ensures.record honest agrees)
