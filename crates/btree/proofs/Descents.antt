@@ -77,6 +77,13 @@ start layout pages root (top ∷ more) key small tree =
     (start_at layout pages top more key tree.top.0 tree.top.1 tree.joined (all_ascend layout pages (top ∷ more)
     tree.joined tree.ascend) (small_numbers layout pages root (top ∷ more) small tree))
 
+pub start_along : (layout : RowLayout) (pages : List (Option Sector)) (root : ℕ) (levels : List (List TreeNode))
+    (key : List ℕ) (steps : List PathStep) → steps ≡ [] → length pages ≤ 2 ^ 20 → IsTree layout pages root levels
+    → Along layout pages levels key steps root None
+start_along layout pages root levels key steps is small tree =
+    subst (λ (s : List PathStep). Along layout pages levels key s root None) (sym is)
+    (start layout pages root levels key small tree)
+
 -- the node at a spot stands on its page
 pub spot_in : {X : Type 0} (P : X → Type 0) (before : List X) (x : X) (after : List X) → All P (before ++ x ∷ after)
     → P x

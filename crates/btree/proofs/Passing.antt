@@ -234,6 +234,11 @@ pub unspent_before : {T : Type 0} {x : T} (old new : PageMap) → IsUnchanged ol
 unspent_before old new unchanged exactly =
     sym unchanged.committed.spent ∙ false_unless (is_spent new) (λ spent. never_ok (exactly.1 spent))
 
+pub unspent_damaged : {T : Type 0} (r : Result T PagesError) (old new : PageMap) → IsUnchanged old new
+    → ((r ≡ Err Spent) ↔ (is_spent new ≡ true)) → r ≡ Err Damaged → is_spent old ≡ false
+unspent_damaged r old new unchanged exactly is = sym unchanged.committed.spent
+    ∙ false_unless (is_spent new) (λ spent. damaged_not_spent (sym is ∙ exactly.1 spent))
+
 -- What is committed stays, and so do the sectors and the page numbers.
 pub committed_on : (one two three : PageMap) → SameCommitted one two → SameCommitted two three → SameCommitted one three
 committed_on one two three first second = record {

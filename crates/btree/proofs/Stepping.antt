@@ -1,14 +1,20 @@
 -- One step of a key's way.
 use Rattle.std.proofs.Common.{◌≡◌, ℕ, List, [], ◌∷◌, ◌++◌, sym, ap, subst, ◌∙◌}
 use Rattle.std.specs.Prelude.{slice_index_or, Option, Some, None, Result, Ok, Err, IfOk}
+use Rattle.station.specs.Calls.{OnlyReads}
 use Rattle.station.specs.Disk.{Sector}
+use Rattle.station.specs.declared.device.Device.{Ghosts as Devices}
+use Rattle.pages.specs.Pages.{Agrees, IsUnchanged}
+use Rattle.pages.specs.declared.page_map.PageMap.{PageMap}
 use Rattle.btree_pages.specs.declared.row_layout.RowLayout.{RowLayout}
 use Rattle.btree.specs.declared.child.Child.{Child}
 use Rattle.btree.specs.Tree.{TreeNode, IsTree, node_on}
+use Rattle.btree.specs.Calls.{IfAgrees, OnPages}
 use Rattle.btree.specs.Path.{PathStep, EndsAt}
 use Rattle.btree.specs.Steps.{StepsToChild, StepsIn, StepsAt, LeadsTo}
 use Rattle.btree.proofs.Descents.{Along, step_read, ends_at}
 use Rattle.btree.proofs.Entering.{end_stands}
+use Rattle.btree.proofs.Passing.{pages_before}
 
 -- what an answer is, is something else too
 pub if_ok : {T E : Type 0} (P Q : T → Type 0) (result : Result T E) → ((x : T) → P x → Q x) → IfOk result P
@@ -52,3 +58,13 @@ step_ends layout pages root levels key steps page old new tree along at =
       stands = (end_stands layout key pages root levels steps page at.node.rows new tree ends).stands;
       ends = ends;
     }
+
+-- where a page leads to after a call that only reads, it led to before it
+pub stepped_before : {D : Type 0} (device : Devices D) (before now : PageMap) (a b : D) (layout : RowLayout) (page : ℕ)
+    (key : List ℕ) (old new : Option (List ℕ)) (was child : Option Child) → IsUnchanged before now
+    → OnlyReads device ⊥ a b → IfAgrees device before a (Agrees now (device.state b).disk) → was ≡ child
+    → OnPages device now b (λ p. StepsAt layout p page key old new was)
+    → OnPages device before a (λ p. StepsAt layout p page key old new child)
+stepped_before device before now a b layout page key old new was child unchanged only agrees is steps =
+    pages_before device ⊥ before now a b (λ p. StepsAt layout p page key old new child) unchanged only agrees
+    (subst (λ (c : Option Child). OnPages device now b (λ p. StepsAt layout p page key old new c)) is steps)

@@ -1,6 +1,5 @@
 use Rattle.std.proofs.Common.{◌≡◌, ◌≤◌, List, false, Err, sym, ◌∙◌, arith}
 use Rattle.std.specs.Prelude.{Option, Some, None}
-use Rattle.std.proofs.lemmas.Result.{err_from_is_err_and}
 use Rattle.station.specs.Disk.{Sector}
 use Rattle.station.proofs.Calls.{reads_nothing, reads_then}
 use Rattle.pages.specs.Pages.{map_now, is_spent, page_count}
@@ -12,7 +11,7 @@ use Rattle.btree.specs.Results.{ReturnsDamaged}
 use Rattle.btree.proofs.Descents.{along_stands}
 use Rattle.btree.proofs.Descending.{down_start, down_on, down_deep, finds_entry, finds_none, ends_in_leaf}
 use Rattle.btree.proofs.Descending.{looked_before}
-use Rattle.btree.proofs.Frames.{unchanged_still, unchanged_on, false_unless}
+use Rattle.btree.proofs.Frames.{unchanged_still, unchanged_on}
 use Rattle.btree.proofs.TreeNodes.{few_pages}
 use Rattle.std.specs.Prelude.{IfErr}
 use Rattle.std.proofs.Common.{◌↔◌, inr, true}
@@ -20,7 +19,7 @@ use Rattle.station.specs.Calls.{OnlyReads}
 use Rattle.pages.specs.declared.error.PagesError.TheVariants.{Device}
 use Rattle.btree.specs.Reading.{IsReadRefusal}
 use Rattle.btree.proofs.Passing.{passed, never_ok, still_error, damaged_not_device}
-use Rattle.btree.proofs.Passing.{reads_where, sectors_on, pages_before, unspent_before}
+use Rattle.btree.proofs.Passing.{reads_where, sectors_on, pages_before, unspent_before, unspent_damaged, was_error}
 use Rattle.btree.proofs.sought.search.Goals as goal
 
 pub loop-depth-init : goal.loop-depth-init
@@ -46,11 +45,10 @@ returns-in_err-child-clause-unchanged g c = unchanged_on c.args.pages.now c.loop
 pub returns-in_err-child-clause-damaged : goal.returns-in_err-child-clause-damaged
 returns-in_err-child-clause-damaged g c = λ h a is levels tree.
     let at = c.loop-depth in
-    let from = err_from_is_err_and c.from_residual.result c.from_residual.ensures.1 in
-    let damaged : c.look_at.result ≡ Err Damaged = cc in
-    let here : is_spent at.pages ≡ false = false_unless (is_spent at.pages)
-    (λ spent. let other : c.look_at.result ≡ Err Spent = c.look_at.ensures.spent.1 spent in cc) in
-    let unspent : is_spent c.args.pages.now ≡ false = sym at.invariant.unchanged.committed.spent ∙ here in
+    let damaged = was_error c.from_residual.result c.look_at.result c.in_err-child.field-0.0 Damaged
+    c.from_residual.ensures.1 c.in_err-child.was is in
+    let unspent = unspent_damaged c.look_at.result c.args.pages.now at.pages at.invariant.unchanged
+    c.look_at.ensures.spent damaged in
     let down = at.invariant.way unspent h a levels tree in
     let stands = along_stands c.args.layout (pages_on g.D.Device c.args.pages.now c.args.device.now) levels
     c.args.key.now down.steps at.page down.right down.along in
