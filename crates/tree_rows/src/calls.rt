@@ -45,6 +45,7 @@ pub enum TreeCall {
 pub enum ChainCall {
     Lay,
     Record,
+    Fill,
     Rewrite,
     Release,
     Bytes,
@@ -101,9 +102,10 @@ const TREE_CALLS: [(&[u8], TreeCall); 10] = [
     (b"drawn", TreeCall::Drawn),
 ];
 
-const CHAIN_CALLS: [(&[u8], ChainCall); 6] = [
+const CHAIN_CALLS: [(&[u8], ChainCall); 7] = [
     (b"lay", ChainCall::Lay),
     (b"record", ChainCall::Record),
+    (b"fill", ChainCall::Fill),
     (b"rewrite", ChainCall::Rewrite),
     (b"release", ChainCall::Release),
     (b"bytes", ChainCall::Bytes),

@@ -15,6 +15,7 @@ pub fn chain_call(
     match call {
         ChainCall::Lay => lay_record(alloc, volume, words),
         ChainCall::Record => compare_record(alloc, volume, words),
+        ChainCall::Fill => compare_filled(alloc, volume, words),
         ChainCall::Rewrite => rewrite_record(alloc, volume, words),
         ChainCall::Release => release_record(alloc, volume, words),
         ChainCall::Bytes => compare_bytes(alloc, volume, words),
@@ -55,6 +56,19 @@ fn compare_record(
     let record = record_in(alloc, words)?;
     let found = volume.record(first, record.len())?;
     whether(alloc, found.as_slice() == record.as_slice())
+}
+
+/// `fill PAGE N COUNT`: whether the chain from a page on fills bytes with this record.
+fn compare_filled(
+    alloc: Global,
+    volume: &mut Volume,
+    words: &mut Words<'_>,
+) -> Result<String, Fault> {
+    let first = number(words)?;
+    let record = record_in(alloc, words)?;
+    let mut filled = vec![in alloc; 0u8; record.len()]?;
+    volume.fill(first, &mut filled)?;
+    whether(alloc, filled.as_slice() == record.as_slice())
 }
 
 /// `rewrite PAGE N COUNT`: the chain gets this record.

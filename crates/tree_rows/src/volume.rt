@@ -5,7 +5,7 @@
 use btree::{Entry, Tree};
 use btree_check::check_tree;
 use btree_pages::{RowLayout, TreePage};
-use chains::{lay, read_record, release, rewrite};
+use chains::{RecordBuffer, lay, read_record, release, rewrite};
 use pages::{PageMap, PagesError, format};
 use row_scripts::Fault;
 use station::{Device, MemoryStation};
@@ -18,6 +18,7 @@ pub struct Volume {
     alloc: Global,
     pages: PageMap,
     station: MemoryStation,
+    buffer: RecordBuffer,
 }
 
 impl Model for Volume {
@@ -89,6 +90,7 @@ impl Volume {
                 alloc,
                 pages,
                 station,
+                buffer: RecordBuffer::new(alloc),
             }),
             Err(_) => Err(Fault::Spelling("the volume isn't opened")),
         }
@@ -288,6 +290,16 @@ impl Volume {
             return Err(small());
         }
         read_record(self.alloc, &self.pages, &mut self.station, first, size, 0).map_err(refused)
+    }
+
+    /// Fills bytes with the record of their length in a chain.
+    pub fn fill(&mut self, first: u32, into: &mut [u8]) -> Result<(), Fault> {
+        if self.pages.sectors() > self.station.count() {
+            return Err(small());
+        }
+        self.buffer
+            .read(&self.pages, &mut self.station, first, into)
+            .map_err(refused)
     }
 
     /// Puts another record into a chain.
