@@ -81,6 +81,13 @@ impl Volume {
         self.pages.edit(page, &filled(byte))
     }
 
+    /// Gives a page that is read past the cache bytes that are all alike.
+    pub fn edit_past(&mut self, rt: &impl Abort, page: u32, byte: u8) -> Result<(), PagesError> {
+        assert!(rt; 0 < page);
+        assert!(rt; (page as usize) < self.pages.page_count());
+        self.pages.edit_past(page, &filled(byte))
+    }
+
     /// Gives the pages from the first on, up to but without the end, bytes that are all alike.
     pub fn edit_all(&mut self, rt: &impl Abort, first: u32, end: u32, byte: u8) {
         for page in first..end {
@@ -91,6 +98,11 @@ impl Volume {
     /// Takes a number that no page has for a page of zeros.
     pub fn allocate(&mut self) -> Result<u32, PagesError> {
         self.pages.allocate()
+    }
+
+    /// Takes a number that no page has for a page that is read past the cache, with bytes that are all alike.
+    pub fn allocate_past(&mut self, byte: u8) -> Result<u32, PagesError> {
+        self.pages.allocate_past(&filled(byte))
     }
 
     /// Allocates so many pages. The answer is the sum of their numbers.

@@ -103,3 +103,55 @@ fn a_noted_page_stays(rt: HostRuntime) {
     ];
     take_steps(&rt, rt.alloc(), &mut volume, &steps);
 }
+
+// Pages that are allocated or edited past the cache stay out of it after a commit. Allocated and edited pages enter it.
+#[test]
+fn pages_past_the_cache_stay_out(rt: HostRuntime) {
+    let mut volume = Volume::empty(&rt, rt.alloc(), 1024);
+    let steps = [
+        Step::AllocatePast(1, 11),
+        Step::EditPast(2, 12),
+        Step::Seen(1, Some(11)),
+        Step::Seen(2, Some(12)),
+        Step::Cached(0),
+        Step::Commit(4, 2),
+        Step::Cached(0),
+        Step::Seen(1, None),
+        Step::Seen(2, None),
+        Step::Allocate(3),
+        Step::Edit(4, 14),
+        Step::Cached(0),
+        Step::Commit(4, 2),
+        Step::Cached(2),
+        Step::Seen(3, Some(0)),
+        Step::Seen(4, Some(14)),
+    ];
+    take_steps(&rt, rt.alloc(), &mut volume, &steps);
+}
+
+// A page of the cache that is edited past it leaves it. The last edit before a commit decides whether the page enters the cache. Each
+// page has its own bytes, whatever place in memory they were put into.
+#[test]
+fn the_last_edit_decides(rt: HostRuntime) {
+    let mut volume = three_pages(&rt, rt.alloc(), 3);
+    let steps = [
+        Step::Has(1, Some(1)),
+        Step::Has(2, Some(2)),
+        Step::Cached(2),
+        Step::EditPast(1, 21),
+        Step::Cached(1),
+        Step::EditPast(2, 22),
+        Step::Edit(2, 32),
+        Step::Edit(3, 33),
+        Step::EditPast(3, 23),
+        Step::Commit(5, 2),
+        Step::Cached(1),
+        Step::Seen(2, Some(32)),
+        Step::Has(1, Some(21)),
+        Step::Has(3, Some(23)),
+        Step::Edit(4, 44),
+        Step::Has(2, Some(32)),
+        Step::Cached(3),
+    ];
+    take_steps(&rt, rt.alloc(), &mut volume, &steps);
+}

@@ -73,5 +73,6 @@ fn no_page_number_is_left(rt: HostRuntime) {
     let mut volume = Volume::empty(&rt, rt.alloc(), 1024);
     same(&rt, volume.allocate_all(&rt, 1023), 523_776);
     same(&rt, volume.allocate(), Err(PagesError::Full));
+    same(&rt, volume.allocate_past(1), Err(PagesError::Full));
     same(&rt, PagesError::Full.number(), 81);
 }

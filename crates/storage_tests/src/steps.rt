@@ -12,6 +12,12 @@ pub enum Step {
     Edit(u32, u8),
     /// So do the pages from the first on, up to but without the end.
     EditAll(u32, u32, u8),
+    /// A page that is read past the cache gets bytes that are all alike.
+    EditPast(u32, u8),
+    /// A page of zeros is allocated, with this number.
+    Allocate(u32),
+    /// A page that is read past the cache is allocated, with this number and bytes that are all alike.
+    AllocatePast(u32, u8),
     Release(u32),
     Catalog(u32),
     NoteUse(u32),
@@ -41,6 +47,9 @@ fn take_step(rt: &impl Abort, alloc: Global, volume: &mut Volume, place: usize, 
     match step {
         Step::Edit(page, byte) => works(rt, volume.edit(rt, page, byte)),
         Step::EditAll(first, end, byte) => volume.edit_all(rt, first, end, byte),
+        Step::EditPast(page, byte) => works(rt, volume.edit_past(rt, page, byte)),
+        Step::Allocate(page) => same_in(rt, &place, volume.allocate(), Ok(page)),
+        Step::AllocatePast(page, byte) => same_in(rt, &place, volume.allocate_past(byte), Ok(page)),
         Step::Release(page) => works(rt, volume.release(rt, page)),
         Step::Catalog(page) => volume.set_catalog(page),
         Step::NoteUse(page) => volume.note_use(page),
