@@ -125,9 +125,9 @@ fn take_row(
     ensures number { number.new ≡ (if is_relative select.now.file.organization
         && is_some select.now.key_digits then found.number else number.old) }
 {
-    bytes.copy_from_slice(&link.sought);
     *number = number_left(select, found.number, *number);
     stand(select, link, key, Side::After, found.number);
+    bytes.copy_from_slice(&link.row);
     link.was_read = true;
     read_status(found.repeated)
 }
