@@ -1,6 +1,6 @@
 -- The trees in which a row of a file that was found is sought.
 use Rattle.std.proofs.Common.{◌≡◌, ◌≤◌, ◌<◌, ◌^◌, ℕ, true, List, length, refl, sym, ap, subst, ◌∙◌, arith}
-use Rattle.std.specs.Prelude.{take, Option, Some, None}
+use Rattle.std.specs.Prelude.{Option, Some, None}
 use Rattle.std.proofs.lemmas.Bool.{eqb-true}
 use Rattle.station.specs.Disk.{Sector}
 use Rattle.pages.specs.Image.{Map}
@@ -26,9 +26,10 @@ use Rattle.volume_format.proofs.Small.{place_short, spec_keys}
 use Rattle.alternate_keys.specs.declared.search_start.SearchStart.{SearchStart}
 use Rattle.alternate_keys.specs.Aims.{IsBound, aim_of, aim_key}
 use Rattle.alternate_keys.specs.Listed.{IsFoundFile, IsListed, root_in}
+use Rattle.alternate_keys.specs.Notes.{IsListingOf}
 use Rattle.alternate_keys.specs.Seen.{HasRows, HasPairs, IsSought, row_tree_of}
 use Rattle.alternate_keys.proofs.RowForms.{same_rows}
-use Rattle.alternate_keys.proofs.Keeping.{rows_seen, pairs_seen, tree_is, tree_under, listing_kept}
+use Rattle.alternate_keys.proofs.Keeping.{rows_seen, pairs_seen, tree_is, tree_under}
 
 -- only an indexed file has alternate keys
 indexed_by : (n : ℕ) (o : Organization) (keys : List AlternateKey) (i : ℕ) → are_keys n o keys ≡ true → i < length keys
@@ -82,37 +83,28 @@ pub listed_as : (m : Map) (files : Files) (one two : List ℕ) (listed : Option 
     → IsListed m (file_at one files) listed → IsListed m (file_at two files) listed
 listed_as m files one two listed same is = subst (λ (n : List ℕ). IsListed m (file_at n files) listed) same is
 
--- a file that is there is listed
-pub unlisted : (m : Map) (found : Option File) (listed : Option Entry) (held : File) → IsListed m found listed
-    → listed ≡ None → found ≡ Some held → ⊥
-unlisted m found listed held is none there =
-    let clash : None ≡ Some held = sym (subst (IsListed m found) none is) ∙ there in
-    cc
-
 -- what is known where the trees of a file are looked into
 pub record Knows (m : Map) (found : Option File) (held : File) (spec : Spec) (key : KeyOfReference)
-    (listed : Option Entry) (entry : Entry) (prime : ChainedTree) (under : RootedTree) : Type 0 where
+    (listing : List ℕ) (prime : ChainedTree) (under : RootedTree) : Type 0 where
   pub few : m.generation < 2 ^ 63
   pub small : length m.pages ≤ 921600
-  pub listing : IsListed m found listed
-  pub some : listed ≡ Some entry
+  pub listed : IsListingOf m found true listing
   pub there : found ≡ Some held
   pub spec_is : held.spec ≡ spec
   pub good : is_spec spec ≡ true
   pub key_is : IsKey spec key
   pub prime_layout : prime.tree.layout ≡ layout_under spec Prime
-  pub prime_root : prime.tree.root ≡ root_in Prime (take 83 entry.value)
+  pub prime_root : prime.tree.root ≡ root_in Prime listing
   pub prime_form : prime.record_bytes ≡ chained_bytes spec
   pub under_layout : under.layout ≡ layout_under spec key
-  pub under_root : under.root ≡ root_in key (take 83 entry.value)
+  pub under_root : under.root ≡ root_in key listing
 
 pub sought_in : (m : Map) (found : Option File) (held : File) (spec : Spec) (key : KeyOfReference) (bound : RowBound)
-    (listed : Option Entry) (entry : Entry) (prime : ChainedTree) (under : RootedTree) (way : SearchStart) (at : List
-    ℕ) →
-    Knows m found held spec key listed entry prime under → IsBound spec key bound → way ≡ aim_of spec key bound
+    (listing : List ℕ) (prime : ChainedTree) (under : RootedTree) (way : SearchStart) (at : List ℕ) →
+    Knows m found held spec key listing prime under → IsBound spec key bound → way ≡ aim_of spec key bound
     → at ≡ aim_key spec key bound → IsSought spec key bound m.pages held.rows prime under way at
-sought_in m found held spec key bound listed entry prime under way at knows bounded way_is at_is =
-    let there = subst (IsListed m found) knows.some knows.listing in
+sought_in m found held spec key bound listing prime under way at knows bounded way_is at_is =
+    let there = knows.listed in
     let kept : FileTrees = there.0 in
     let is : IsFoundFile m found kept = there.1 in
     let some : Some kept.named.file ≡ Some held = sym is.there ∙ knows.there in
@@ -120,14 +112,14 @@ sought_in m found held spec key bound listed entry prime under way at knows boun
     let spec_is : kept.named.file.spec ≡ spec = ap (λ (f : File). f.spec) same ∙ knows.spec_is in
     let low = knows.small in
     let small : length m.pages ≤ 2 ^ 20 = omega (arith, low) in
-    let value = ap (λ (e : Entry). take 83 e.value) there.2 ∙ listing_kept m found kept is in
+    let value = there.2 in
     let own : IsKey kept.named.file.spec key = subst (λ (s : Spec). IsKey s key) (sym spec_is) knows.key_is in
     let own_rows : ChainedTree = row_tree_of kept.named.file.spec kept.prime.tree in
     let prime_is : prime ≡ own_rows = same_rows prime own_rows
-    (tree_is m found kept spec Prime (take 83 entry.value) prime.tree is small spec_is (omega arith) value
+    (tree_is m found kept spec Prime listing prime.tree is small spec_is (omega arith) value
     knows.prime_layout knows.prime_root) (knows.prime_form ∙ ap chained_bytes (sym spec_is)) in
     let under_is =
-    tree_is m found kept spec key (take 83 entry.value) under is small spec_is knows.key_is value knows.under_layout
+    tree_is m found kept spec key listing under is small spec_is knows.key_is value knows.under_layout
     knows.under_root in
     record {
       there = rows_as m.pages kept.named.file held spec own_rows prime same knows.spec_is prime_is

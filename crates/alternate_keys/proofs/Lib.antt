@@ -12,6 +12,7 @@ pub mod Catalogs
 pub mod Present
 pub mod Keeping
 pub mod FoundTrees
+pub mod Noted
 pub mod Repeated
 pub mod Arrivals
 pub mod NewRows
@@ -19,6 +20,7 @@ pub mod Still
 pub mod Settled
 pub mod OpenedStore
 pub mod ReadCalls
+pub mod ChangeCalls
 pub mod Splits
 pub mod Among
 pub mod WholeTrees

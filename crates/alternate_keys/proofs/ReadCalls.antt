@@ -11,20 +11,22 @@ use Rattle.records.specs.declared.fault.StoreFault.TheVariants.{Device, Spent}
 use Rattle.records.specs.Calls.{OnlyReadsFiles}
 use Rattle.alternate_keys.specs.Faults.{IsReadFault}
 use Rattle.alternate_keys.specs.Opened.{OpenedVolume}
-use Rattle.alternate_keys.specs.Stands.{Represents}
+use Rattle.alternate_keys.specs.Notes.{NotedSearch, AreNotesOf, OnNotes}
+use Rattle.alternate_keys.specs.Stands.{IsStoreOf}
 use Rattle.alternate_keys.specs.contracts.store_calls.PagedStoreKeeps.TheImpl.{ghosts}
 use Rattle.alternate_keys.proofs.Still.{same_volume, stands_still}
 
-abbrev pub opened : PageMap → Bool → OpenedVolume
-opened pages spent = record { pages = pages; spent = spent }
+abbrev pub opened : PageMap → Bool → NotedSearch → OpenedVolume
+opened pages spent notes = record { pages = pages; spent = spent; notes = notes }
 
 pub reads_of : {D : Type 0} (d : Devices D) {T : Type 0} (result : Result T StoreFault) (old new : PageMap)
-    (spent : Bool) (device device' : D) →
+    (spent : Bool) (noted noting : NotedSearch) (device device' : D) →
     OnlyReads d (result ≡ Err Device) device device' → IsUnchanged old new
     → (d.is_honest device → Agrees old (d.state device).disk → Agrees new (d.state device').disk) →
+    OnNotes d noted old device (AreNotesOf noting) →
     is_spent old ≡ false → (result ≡ Err Spent → is_spent old ≡ true) → IfErr result IsReadFault
-    → OnlyReadsFiles ghosts d result (opened old spent) device (opened new spent) device'
-reads_of d result old new spent device device' only unchanged agrees unspent told cause =
+    → OnlyReadsFiles ghosts d result (opened old spent noted) device (opened new spent noting) device'
+reads_of d result old new spent noted noting device device' only unchanged agrees notes unspent told cause =
     let same = same_volume old new unchanged.committed in
     record {
       only = only;
@@ -32,11 +34,16 @@ reads_of d result old new spent device device' only unchanged agrees unspent tol
       same = refl;
       still_there = λ files stands.
           let still = only.state stands.honest in
-          let here = subst (λ (s : State). Agrees new s.disk) still (agrees stands.honest stands.there.agrees) in
+          let there = stands.there.represents in
+          let here = subst (λ (s : State). Agrees new s.disk) still (agrees stands.honest there.agrees) in
+          let same_map = unchanged.map (d.state device).disk.present in
           record {
             honest = only.honest.0 stands.honest;
-            there = subst (λ (s : State). Represents new s.disk files) (sym still)
-                (stands_still old new (d.state device).disk files unchanged here stands.there);
+            there = subst (λ (s : State). IsStoreOf (opened new spent noting) s.disk files) (sym still) (record {
+              represents = stands_still old new (d.state device).disk files unchanged here there;
+              notes = subst (AreNotesOf noting) (sym same_map)
+                  (notes stands.honest there.agrees stands.there.notes);
+            });
           };
       spent = λ is. let clash : true ≡ false = sym (told is) ∙ unspent in cc;
       has_room = λ is. subst (λ r. IfErr r IsReadFault) is cause;

@@ -85,12 +85,6 @@ row_entry_for spec bound pages later rows prime under way at entry row lengths s
     subst (λ (p : List (Option Sector)). IsRowEntry spec prime.record_bytes p entry row.for.row) (sym same)
     (subst (λ (k : ℕ). IsRowEntry spec k pages entry row.for.row) (sym row.look.there.form) own)
 
--- an entry that was found has the lengths of keys and values of its tree
-pub some_lengths : (layout : RowLayout) (answer : Option Entry) (entry : Entry) → IfSome answer (HasLengths layout)
-    → answer ≡ Some entry → HasLengths layout entry
-some_lengths layout answer entry lengths some =
-    subst (λ (o : Option Entry). IfSome o (HasLengths layout)) some lengths
-
 -- its key is that of the row
 pub row_key_for : {spec : Spec} {bytes : ℕ} {pages : List (Option Sector)} {entry : Entry} {row : Row}
     → IsRowEntry spec bytes pages entry row → entry.key ≡ (entry_under spec Prime row).key

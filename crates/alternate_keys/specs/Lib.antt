@@ -3,8 +3,9 @@ pub mod Seen
 pub mod Searches
 pub mod Faults
 pub mod Listed
-pub mod Stands
+pub mod Notes
 pub mod Opened
+pub mod Stands
 pub mod Among
 pub mod NewRow
 pub mod Placed

@@ -8,11 +8,13 @@ use Rattle.records.specs.declared.fault.StoreFault.{StoreFault}
 use Rattle.records.specs.declared.fault.StoreFault.TheVariants.{Device, Full, Damaged, Memory, Spent, Layout, Old}
 use Rattle.records.specs.Files.{Files}
 use Rattle.volume_format.specs.Volume.{Holds}
+use Rattle.alternate_keys.specs.Notes.{NotedSearch}
 
--- a volume that was opened: its pages, and whether a change was refused
+-- a volume that was opened: its pages, whether a change was refused, and what is noted of the last search
 pub record OpenedVolume : Type 0 where
   pub pages : PageMap
   pub spent : Bool
+  pub notes : NotedSearch
 
 -- an image that holds a map of pages: its roots and map sectors are sound
 abbrev pub HasMap : List Sector → Type 0

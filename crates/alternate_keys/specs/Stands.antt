@@ -13,6 +13,8 @@ use Rattle.records.specs.Files.{File, Files, file_at}
 use Rattle.records.specs.Stores.{MakesLong}
 use Rattle.volume_format.specs.Chained.{chained_bytes}
 use Rattle.volume_format.specs.Volume.{MapHolds}
+use Rattle.alternate_keys.specs.Notes.{AreNotesOf}
+use Rattle.alternate_keys.specs.Opened.{OpenedVolume}
 
 -- over this disk the pages hold these files, and nothing waits for a commit
 pub record Represents (pages : PageMap) (disk : Disk) (files : Files) : Type 0 where
@@ -20,6 +22,11 @@ pub record Represents (pages : PageMap) (disk : Disk) (files : Files) : Type 0 w
   pub still : map_now pages disk.present ≡ map_of disk.present (committed_of pages)
   pub rested : changed_pages_of pages ≡ []
   pub holds : MapHolds (map_now pages disk.present) files
+
+-- over this disk the store's pages hold these files, and what it notes is true of them
+pub record IsStoreOf (store : OpenedVolume) (disk : Disk) (files : Files) : Type 0 where
+  pub represents : Represents store.pages disk files
+  pub notes : AreNotesOf store.notes (map_now store.pages disk.present)
 
 -- how many alternate keys the file has
 abbrev pub keys_of : Option File → ℕ

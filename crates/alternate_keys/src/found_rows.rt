@@ -23,6 +23,7 @@ use crate::look::{copy_record, look};
 use crate::search_start::SearchStart;
 use btree::{Entry, Tree};
 use byteorder::{BigEndian, ByteOrder};
+use chains::RecordBuffer;
 use pages::{PageMap, PagesError};
 use records::{Found, KeyOfReference, Organization};
 use row_trees::RowTree;
@@ -31,7 +32,7 @@ use std::alloc::Global;
 
 /// What is told of a row by its entry in the tree of rows. Its record is put into `bytes`.
 pub(crate) fn read_prime_row<D: Device>(
-    alloc: Global,
+    buffer: &mut RecordBuffer,
     prime: &RowTree,
     pages: &mut PageMap,
     device: &mut D,
@@ -60,7 +61,7 @@ pub(crate) fn read_prime_row<D: Device>(
     ensures cause { IfErr result IsRecordRefusal }
 {
     let number = number_of(organization, entry.key())?;
-    prime.read_record(alloc, pages, device, entry, bytes)?;
+    prime.read_record(buffer, pages, device, entry, bytes)?;
     Ok(Found {
         number,
         repeated: false,

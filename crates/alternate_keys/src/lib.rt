@@ -18,6 +18,7 @@ mod listing;
 mod look;
 mod move_pairs;
 mod new_row;
+mod notes;
 mod old_row;
 mod opening;
 mod repeats;

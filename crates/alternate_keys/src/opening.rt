@@ -10,8 +10,9 @@ ghost use Rattle.pages.specs.Use.{free_count};
 ghost use Rattle.records.specs.Files.{Files};
 ghost use Rattle.volume_format.specs.Volume.{Holds};
 ghost use Rattle.alternate_keys.specs.Opened.{HasMap, IsOpenRefusal, IsReadCause, FailsWith};
-ghost use Rattle.alternate_keys.specs.Stands.{Represents};
+ghost use Rattle.alternate_keys.specs.Stands.{IsStoreOf};
 
+use crate::notes::SearchNotes;
 use crate::store::PagedStore;
 use pages::PageMap;
 use records::StoreFault;
@@ -62,7 +63,7 @@ impl PagedStore {
         // The store stands for the files that the disk holds, where it holds some.
         ensures stands { D.is_honest device.old → (files : Files)
             → Holds (D.state device.old).disk.present files →
-            IfOk result (λ store. Represents store.pages (D.state device.new).disk files) }
+            IfOk result (λ store. IsStoreOf store (D.state device.new).disk files) }
         ensures ready { IfOk result
             (λ store. (store.spent ≡ false) × (sectors_of store.pages ≤ D.sectors device.old)) }
 
@@ -82,6 +83,7 @@ impl PagedStore {
                 alloc,
                 pages,
                 spent: false,
+                notes: SearchNotes::new(alloc),
             }),
             Err(error) => Err(to_fault(error)),
         }

@@ -49,6 +49,7 @@ impl PagedStore {
         if self.spent {
             return Err(StoreFault::Spent);
         }
+        self.notes.clear();
         match change_in(
             self.alloc,
             &mut self.pages,

@@ -1,26 +1,28 @@
 //! A row that is sought in the trees of its file.
 ghost use Rattle.std.specs.Prelude.{◌≡◌, ◌≤◌, Err, length, IfOk, OnOk, OnErr, IfErr};
 ghost use Rattle.pages.specs.Pages.{sectors_of, IsOpen};
+ghost use Rattle.btree.specs.Calls.{OnPages, pages_on};
 ghost use Rattle.btree.specs.Results.{OnlyIfSpent};
+ghost use Rattle.btree.specs.Places.{IsLeafPlace};
 ghost use Rattle.records.specs.Stores.{spec_of, IsKey, record_of};
 ghost use Rattle.volume_format.specs.Calls.{LooksAt};
 ghost use Rattle.chains.specs.Refusals.{IsRecordRefusal};
 ghost use Rattle.alternate_keys.specs.Searches.{OnSought};
 
 use crate::found_rows::{read_alternate_row, read_prime_row};
-use crate::look::look;
+use crate::look::look_near;
+use crate::notes::SearchNotes;
 use crate::search_start::SearchStart;
 use btree::Tree;
 use pages::{PageMap, PagesError};
 use records::{FileSpec, Found, KeyOfReference};
 use row_trees::RowTree;
 use station::Device;
-use std::alloc::Global;
 
-/// Seeks a row in the trees of a file: the tree of the rows, and that of the key, which is looked into from `at` on. The row's record
-/// is put into `bytes`, which stays where there is no such row, and after a refusal.
+/// Seeks a row in the trees of a file: the tree of the rows, and that of the key, which is looked into from `at` on. A search after a key
+/// begins in the leaf that is noted. The row's record is put into `bytes`, which stays if there is no such row, and after a refusal.
 pub fn seek_row<D: Device>(
-    alloc: Global,
+    notes: &mut SearchNotes,
     prime: &RowTree,
     under: &Tree,
     pages: &mut PageMap,
@@ -37,32 +39,43 @@ pub fn seek_row<D: Device>(
     requires short { under.now.layout.key_length ≤ 128 }
     ensures looks { LooksAt D.Device (result ≡ Err PagesError.Device) pages.old device.old pages.new
         device.new }
+
+    // If the leaf that is noted is one of its tree, so is the leaf that is noted then, and this is the answer.
+    ensures place { OnPages D.Device pages.old device.old
+        (λ before. IsLeafPlace notes.old.place before → IsLeafPlace notes.new.place before) }
     ensures found { OnSought D.Device file.now key pages.old device.old prime.now under.now aim
-        at.now (λ row told. IfOk result (λ answer. answer ≡ told)) }
+        at.now (λ row told. IsLeafPlace notes.old.place (pages_on D.Device pages.old device.old)
+        → IfOk result (λ answer. answer ≡ told)) }
     ensures bytes { OnSought D.Device file.now key pages.old device.old prime.now under.now aim
-        at.now (λ row told. length bytes.old ≡ file.now.record_length →
+        at.now (λ row told. IsLeafPlace notes.old.place (pages_on D.Device pages.old device.old)
+        → length bytes.old ≡ file.now.record_length →
         OnOk result (bytes.new ≡ record_of bytes.old row)) }
     ensures damaged { OnSought D.Device file.now key pages.old device.old prime.now under.now aim
-        at.now (λ row told. length bytes.old ≡ file.now.record_length →
-        result ≡ Err PagesError.Damaged → ⊥) }
+        at.now (λ row told. IsLeafPlace notes.old.place (pages_on D.Device pages.old device.old)
+        → length bytes.old ≡ file.now.record_length → result ≡ Err PagesError.Damaged → ⊥) }
+    ensures file { (notes.new.name.items ≡ notes.old.name.items)
+        × (notes.new.listing ≡ notes.old.listing) }
     ensures spent { OnlyIfSpent pages.old result }
     ensures kept { OnErr result (bytes.new ≡ bytes.old) }
     ensures cause { IfErr result IsRecordRefusal }
 {
-    let entry = match look(under, pages, device, aim, at)? {
-        Some(entry) => entry,
-        None => return Ok(None),
-    };
+    let place = &mut notes.place;
+    if !look_near(under, pages, device, aim, at, place, &mut notes.entry)? {
+        return Ok(None);
+    }
+    let entry = &notes.entry;
     match key {
         KeyOfReference::Prime => {
+            let record = &mut notes.record;
             let organization = file.organization;
-            let told = read_prime_row(alloc, prime, pages, device, organization, &entry, bytes)?;
+            let told = read_prime_row(record, prime, pages, device, organization, entry, bytes)?;
             Ok(Some(told))
         }
         KeyOfReference::Alternate(_) => {
+            let alloc = notes.alloc;
             let length = file.key_place(key).length as usize;
             let told = read_alternate_row(
-                alloc, prime, under, pages, device, length, &entry, bytes,
+                alloc, prime, under, pages, device, length, entry, bytes,
             )?;
             Ok(Some(told))
         }

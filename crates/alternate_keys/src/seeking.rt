@@ -1,29 +1,28 @@
 //! Seeking a row of a file.
 ghost use Rattle.std.specs.Prelude.{◌≡◌, ◌≤◌, Err, true, false, length, IfOk, OnOk, OnErr, IfErr};
 ghost use Rattle.std.specs.Option.{option_map};
-ghost use Rattle.pages.specs.Pages.{map_now, is_spent, sectors_of, IsOpen};
-ghost use Rattle.btree.specs.Calls.{IfAgrees};
+ghost use Rattle.pages.specs.Pages.{is_spent, sectors_of, IsOpen};
 ghost use Rattle.records.specs.Order.{sought_row, found_row};
 ghost use Rattle.records.specs.Files.{File, Files};
 ghost use Rattle.records.specs.Stores.{spec_of, Has, IsKey, key_length, bound_at, record_of};
 ghost use Rattle.volume_format.specs.Calls.{LooksAt};
 ghost use Rattle.volume_format.specs.Volume.{MapHolds};
 ghost use Rattle.alternate_keys.specs.Faults.{IsReadFault};
+ghost use Rattle.alternate_keys.specs.Notes.{AreNotesOf, OnNotes, noted_search};
 
 use crate::file_tree::{file_tree, row_tree};
-use crate::listing::find_listing;
+use crate::notes::SearchNotes;
 use crate::search_keys::{key_for, search_start_for};
 use crate::seek::seek_row;
 use pages::{PageMap, map_bounds};
 use records::{FileSpec, Found, KeyOfReference, Side, StoreFault};
 use station::Device;
-use std::alloc::Global;
-use volume_format::{listing_part, to_fault};
+use volume_format::to_fault;
 
-/// Seeks the first row after a place in the order of a key. Its record is put into `bytes`, which stays where there is no such row,
-/// and after a refusal.
+/// Seeks the first row after a place in the order of a key. The file and the leaf where the search ends are noted. The row's record is put
+/// into `bytes`, which stays if there is no such row, and after a refusal.
 pub(crate) fn seek_in<D: Device>(
-    alloc: Global,
+    notes: &mut SearchNotes,
     pages: &mut PageMap,
     device: &mut D,
     file: &FileSpec,
@@ -41,32 +40,36 @@ pub(crate) fn seek_in<D: Device>(
     requires bytes { length bytes.old ≡ file.now.record_length }
     ensures looks { LooksAt D.Device (result ≡ Err StoreFault.Device) pages.old device.old pages.new
         device.new }
-    ensures found { IfAgrees D.Device pages.old device.old ((files : Files) (held : File) → MapHolds
-        (map_now pages.old (D.state device.old).disk.present) files → Has files file.now held →
+
+    // If what was noted is true of the pages, so is what is noted then, and this is the answer.
+    ensures notes { OnNotes D.Device (noted_search notes.old) pages.old device.old
+        (AreNotesOf (noted_search notes.new)) }
+    ensures found { OnNotes D.Device (noted_search notes.old) pages.old device.old
+        (λ m. (files : Files) (held : File) → MapHolds m files → Has files file.now held →
         IfOk result (λ answer. answer ≡ option_map (found_row (spec_of file.now) key held.rows)
         (sought_row (spec_of file.now) key (bound_at side value.now number) held.rows))) }
-    ensures bytes { IfAgrees D.Device pages.old device.old ((files : Files) (held : File) → MapHolds
-        (map_now pages.old (D.state device.old).disk.present) files → Has files file.now held →
+    ensures bytes { OnNotes D.Device (noted_search notes.old) pages.old device.old
+        (λ m. (files : Files) (held : File) → MapHolds m files → Has files file.now held →
         OnOk result (bytes.new ≡ record_of bytes.old
         (sought_row (spec_of file.now) key (bound_at side value.now number) held.rows))) }
     ensures kept { OnErr result (bytes.new ≡ bytes.old) }
-    ensures damaged { IfAgrees D.Device pages.old device.old ((files : Files) (held : File)
-        → MapHolds (map_now pages.old (D.state device.old).disk.present) files
-        → Has files file.now held → result ≡ Err StoreFault.Damaged → ⊥) }
+    ensures damaged { OnNotes D.Device (noted_search notes.old) pages.old device.old
+        (λ m. (files : Files) (held : File) → MapHolds m files → Has files file.now held
+        → result ≡ Err StoreFault.Damaged → ⊥) }
     ensures spent { result ≡ Err StoreFault.Spent → is_spent pages.old ≡ true }
     ensures cause { IfErr result IsReadFault }
 {
     map_bounds();
-    let entry = match find_listing(alloc, pages, device, &file.name)? {
-        Some(entry) => entry,
-        None => return Ok(None),
-    };
-    let prime = row_tree(alloc, file, listing_part(&entry));
-    let under = file_tree(alloc, file, key, listing_part(&entry));
+    if !notes.note_file(pages, device, &file.name)? {
+        return Ok(None);
+    }
+    let alloc = notes.alloc;
+    let prime = row_tree(alloc, file, &notes.listing);
+    let under = file_tree(alloc, file, key, &notes.listing);
     let at = key_for(alloc, file, key, side, value, number)?;
     let aim = search_start_for(file, key, side, value, number);
     match seek_row(
-        alloc, &prime, &under, pages, device, file, key, aim, &at, bytes,
+        notes, &prime, &under, pages, device, file, key, aim, &at, bytes,
     ) {
         Ok(found) => Ok(found),
         Err(error) => Err(to_fault(error)),

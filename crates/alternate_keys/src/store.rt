@@ -1,5 +1,6 @@
 //! The store.
 
+use crate::notes::SearchNotes;
 use pages::PageMap;
 use std::alloc::Global;
 use std::marker::Model;
@@ -10,6 +11,7 @@ pub struct PagedStore {
     pub(crate) alloc: Global,
     pub(crate) pages: PageMap,
     pub(crate) spent: bool,
+    pub(crate) notes: SearchNotes,
 }
 
 impl Model for PagedStore {
@@ -17,13 +19,19 @@ impl Model for PagedStore {
     ghost use Rattle.pages.specs.Pages.{IsOpen, is_spent};
     ghost use Rattle.std.specs.Coded.{codes};
     ghost use Rattle.pages.specs.contracts.page_map.PageMap as page_map;
+    ghost use Rattle.btree.specs.contracts.place.LeafPlace as leaf_place;
     ghost use Rattle.alternate_keys.specs.Opened.{OpenedVolume};
+    ghost use Rattle.alternate_keys.specs.Notes.{noted_search};
 
     ghost Value = { OpenedVolume };
 
-    ghost coded = { Prim.hlevel (codes, page_map.the_row.coded) };
+    ghost coded = { Prim.hlevel (codes, page_map.the_row.coded, leaf_place.the_row.coded) };
 
-    ghost view = { λ store. record { pages = store.pages; spent = store.spent } };
+    ghost view = { λ store. record {
+      pages = store.pages;
+      spent = store.spent;
+      notes = noted_search store.notes;
+    } };
 
     ghost invariant = { λ store. IsOpen store.pages
         × (store.spent ≡ false → is_spent store.pages ≡ false) };

@@ -2,7 +2,7 @@
 ghost use Rattle.pages.specs.Pages.{sectors_of};
 ghost use Rattle.volume_format.specs.Volume.{Holds};
 ghost use Rattle.alternate_keys.specs.Held.{held_law};
-ghost use Rattle.alternate_keys.specs.Stands.{Represents, Lacks};
+ghost use Rattle.alternate_keys.specs.Stands.{IsStoreOf, Lacks};
 
 use crate::creating::create_in;
 use crate::finding::find_in;
@@ -13,7 +13,7 @@ use records::{FileSpec, Found, Keeps, KeyOfReference, Outcome, Presence, Side, S
 use station::Device;
 
 impl Keeps for PagedStore {
-    ghost stands = { λ store disk files. Represents store.pages disk files };
+    ghost stands = { λ store disk files. IsStoreOf store disk files };
 
     ghost holds = { λ image files. Holds image files };
 
@@ -26,7 +26,7 @@ impl Keeps for PagedStore {
 
 impl Store for PagedStore {
     ghost held = { λ store disk image files stands crash.
-        held_law store.pages disk image files stands crash };
+        held_law store.pages disk image files stands.represents crash };
 
     fn find<D: Device>(&mut self, device: &mut D, file: &FileSpec) -> Result<Presence, StoreFault> {
         if self.spent {
@@ -49,7 +49,7 @@ impl Store for PagedStore {
             return Err(StoreFault::Spent);
         }
         seek_in(
-            self.alloc,
+            &mut self.notes,
             &mut self.pages,
             device,
             file,
@@ -65,6 +65,7 @@ impl Store for PagedStore {
         if self.spent {
             return Err(StoreFault::Spent);
         }
+        self.notes.clear();
         match create_in(self.alloc, &mut self.pages, device, file) {
             Ok(()) => Ok(()),
             Err(fault) => {

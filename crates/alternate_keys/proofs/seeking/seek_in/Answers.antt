@@ -4,91 +4,115 @@ use Rattle.station.specs.Disk.{Sector}
 use Rattle.pages.specs.Pages.{map_now}
 use Rattle.pages.specs.declared.error.PagesError.TheVariants as pages
 use Rattle.records.specs.declared.fault.StoreFault.TheVariants.{Damaged, Device}
-use Rattle.records.specs.declared.key.KeyOfReference.TheVariants.{Prime}
 use Rattle.records.specs.Spec.{Spec}
-use Rattle.records.specs.Files.{file_at}
-use Rattle.records.specs.Stores.{spec_of, bound_at}
+use Rattle.records.specs.Files.{File, Files, file_at}
+use Rattle.records.specs.Stores.{spec_of, Has, bound_at}
 use Rattle.btree_pages.specs.declared.row_layout.RowLayout.{RowLayout}
 use Rattle.btree.proofs.Frames.{same_pages}
 use Rattle.btree.specs.Calls.{pages_on}
-use Rattle.volume_format.specs.Calls.{LooksAt}
-use Rattle.alternate_keys.specs.Listed.{root_in}
+use Rattle.btree.specs.Places.{IsLeafPlace}
+use Rattle.volume_format.specs.Volume.{MapHolds}
+use Rattle.alternate_keys.specs.Notes.{AreNotesOf, OnNotes, noted_search}
 use Rattle.alternate_keys.specs.Seen.{IsSought}
-use Rattle.alternate_keys.specs.Turned.{OnFile}
 use Rattle.volume_format.proofs.Faults.{damaged_back, device_back}
 use Rattle.volume_format.proofs.Looks.{looks_blamed, looks_then}
-use Rattle.alternate_keys.proofs.FoundTrees.{Knows, layout_short, listed_as, sought_in, unlisted}
+use Rattle.alternate_keys.proofs.FoundTrees.{Knows, layout_short, sought_in}
+use Rattle.alternate_keys.proofs.Noted.{listing_as, never_missing, leaf_noted}
 use Rattle.alternate_keys.proofs.Faults.{never_device, refused_by_call}
 use Rattle.alternate_keys.proofs.Passing.{never_ok, same_error}
 use Rattle.alternate_keys.proofs.seeking.seek_in.Given.{Over}
 use Rattle.alternate_keys.proofs.seeking.seek_in.Goals as goal
-use Rattle.alternate_keys.proofs.seeking.seek_in.Goals.{After-find_listing, After-seek_row}
+use Rattle.alternate_keys.proofs.seeking.seek_in.Goals.{After-seek_row}
 
--- the file's entry in the catalog, and its trees
-knows : (g : Over) (c : After-seek_row g) → OnFile g.D.Device c.args.file.now c.args.pages.now c.args.device.now
-    (λ files held. Knows (map_now c.args.pages.now (g.D.Device.state c.args.device.now).disk.present)
-    (file_at c.args.file.now.name.items files) held (spec_of c.args.file.now) c.args.key c.in_ok-entry.field-0
-    c.in-Some.entry c.row_tree-prime.result c.file_tree-under.result)
-knows g c honest agrees files held holds has =
+-- the file's listing, and its trees
+knows : (g : Over) (c : After-seek_row g) → OnNotes g.D.Device (noted_search c.args.notes.now) c.args.pages.now
+    c.args.device.now (λ m. (files : Files) (held : File) → MapHolds m files → Has files c.args.file.now held
+    → Knows m (file_at c.args.file.now.name.items files) held (spec_of c.args.file.now) c.args.key
+    c.note_file.new.self.listing c.row_tree-prime.result c.file_tree-under.result)
+knows g c honest agrees are files held holds has =
     let image = (g.D.Device.state c.args.device.now).disk.present in
     let bounds = c.map_bounds.ensures.open c.args.pages.now image c.requires.open c.requires.unspent in
     record {
       few = bounds.0;
       small = bounds.1;
-      listing = listed_as (map_now c.args.pages.now image) files c.deref.result.now c.args.file.now.name.items
-          c.in_ok-entry.field-0 c.deref.ensures.value (c.in_ok-entry.ensures.listed honest agrees files holds);
-      some = c.in-Some.is;
+      listed = listing_as (map_now c.args.pages.now image) files c.deref.result.now c.args.file.now.name.items
+          c.in_ok-note_file.field-0 c.note_file.new.self.listing c.deref.ensures.value c.if-not-branch.false
+          (c.in_ok-note_file.ensures.listed honest agrees are files holds);
       there = has.there;
       spec_is = has.spec;
       good = c.args.file.now.sound;
       key_is = c.requires.key;
       prime_layout = c.row_tree-prime.ensures.layout;
-      prime_root = c.row_tree-prime.ensures.root ∙ ap (root_in Prime) c.listing_part.ensures.part;
+      prime_root = c.row_tree-prime.ensures.root;
       prime_form = c.row_tree-prime.ensures.form;
       under_layout = c.file_tree-under.ensures.layout;
-      under_root = c.file_tree-under.ensures.root ∙ ap (root_in c.args.key) c.listing_part-2.ensures.part;
+      under_root = c.file_tree-under.ensures.root;
     }
 
+-- the pages stay
+same_after : (g : Over) (c : After-seek_row g) → g.D.Device.is_honest c.args.device.now
+    → pages_on g.D.Device c.note_file.new.pages c.note_file.new.device
+    ≡ pages_on g.D.Device c.args.pages.now c.args.device.now
+same_after g c honest = same_pages c.args.pages.now c.note_file.new.pages (g.D.Device.state c.args.device.now)
+    (g.D.Device.state c.note_file.new.device) c.note_file.ensures.looks.unchanged
+    (c.note_file.ensures.looks.only.state honest)
+
 -- the row is sought in them
-sought : (g : Over) (c : After-seek_row g) → OnFile g.D.Device c.args.file.now c.args.pages.now c.args.device.now
-    (λ files held. IsSought (spec_of c.args.file.now) c.args.key
-    (bound_at c.args.side c.args.value.now c.args.number)
-    (pages_on g.D.Device c.find_listing.new.pages c.find_listing.new.device) held.rows c.row_tree-prime.result
+sought : (g : Over) (c : After-seek_row g) → OnNotes g.D.Device (noted_search c.args.notes.now) c.args.pages.now
+    c.args.device.now (λ m. (files : Files) (held : File) → MapHolds m files → Has files c.args.file.now held
+    → IsSought (spec_of c.args.file.now) c.args.key (bound_at c.args.side c.args.value.now c.args.number)
+    (pages_on g.D.Device c.note_file.new.pages c.note_file.new.device) held.rows c.row_tree-prime.result
     c.file_tree-under.result c.search_start_for-aim.result c.deref-2.result.now)
-sought g c honest agrees files held holds has =
+sought g c honest agrees are files held holds has =
     let way = sought_in _ _ held (spec_of c.args.file.now) c.args.key
-    (bound_at c.args.side c.args.value.now c.args.number) c.in_ok-entry.field-0 c.in-Some.entry
+    (bound_at c.args.side c.args.value.now c.args.number) c.note_file.new.self.listing
     c.row_tree-prime.result c.file_tree-under.result c.search_start_for-aim.result c.deref-2.result.now
-    (knows g c honest agrees files held holds has)
+    (knows g c honest agrees are files held holds has)
     (record { value = c.requires.value; number = let low = c.ranges.number.fits in omega arith })
     c.search_start_for-aim.ensures (c.deref-2.ensures.value ∙ c.in_ok-at.ensures.bytes) in
-    let same = same_pages c.args.pages.now c.find_listing.new.pages (g.D.Device.state c.args.device.now)
-    (g.D.Device.state c.find_listing.new.device) c.find_listing.ensures.unchanged
-    (c.find_listing.ensures.only.state honest) in
     subst (λ (p : List (Option Sector)). IsSought (spec_of c.args.file.now) c.args.key
     (bound_at c.args.side c.args.value.now c.args.number) p held.rows c.row_tree-prime.result
-    c.file_tree-under.result c.search_start_for-aim.result c.deref-2.result.now) (sym same) way
+    c.file_tree-under.result c.search_start_for-aim.result c.deref-2.result.now) (sym (same_after g c honest)) way
 
-pub returns-in_err-entry-clause-damaged : goal.returns-in_err-entry-clause-damaged
-returns-in_err-entry-clause-damaged g c = λ honest agrees files held holds has is.
-    let damaged = refused_by_call c.in_err-entry.was c.from_residual.ensures.1 is in
-    c.find_listing.ensures.damaged honest agrees files holds damaged
+-- the leaf that is noted is one of its tree, before the search and after it
+near : (g : Over) (c : After-seek_row g) → OnNotes g.D.Device (noted_search c.args.notes.now) c.args.pages.now
+    c.args.device.now (λ m. IsLeafPlace c.note_file.new.self.place
+    (pages_on g.D.Device c.note_file.new.pages c.note_file.new.device))
+near g c honest agrees are =
+    subst (λ (p : List (Option Sector)). IsLeafPlace c.note_file.new.self.place p) (sym (same_after g c honest))
+    (c.note_file.ensures.notes honest agrees are).place
 
-pub returns-in-None-clause-found : goal.returns-in-None-clause-found
-returns-in-None-clause-found g c = λ honest agrees files held holds has.
-    let image = (g.D.Device.state c.args.device.now).disk.present in
-    let listed = listed_as (map_now c.args.pages.now image) files c.deref.result.now c.args.file.now.name.items
-    c.in_ok-entry.field-0 c.deref.ensures.value (c.in_ok-entry.ensures.listed honest agrees files holds) in
-    absurd (unlisted (map_now c.args.pages.now image) (file_at c.args.file.now.name.items files)
-    c.in_ok-entry.field-0 held listed c.in-None.is has.there)
+noted : (g : Over) (c : After-seek_row g) → OnNotes g.D.Device (noted_search c.args.notes.now) c.args.pages.now
+    c.args.device.now (AreNotesOf (noted_search c.seek_row.new.notes))
+noted g c honest agrees are =
+    leaf_noted _ (noted_search c.note_file.new.self) (noted_search c.seek_row.new.notes) c.seek_row.ensures.file.0
+    c.seek_row.ensures.file.1 (subst (λ (p : List (Option Sector)). IsLeafPlace c.seek_row.new.notes.place p)
+    (same_after g c honest) (c.seek_row.ensures.place (c.note_file.ensures.looks.only.honest.0 honest)
+    (c.note_file.ensures.looks.agrees honest agrees) (near g c honest agrees are)))
+    (c.note_file.ensures.notes honest agrees are)
 
-pub returns-in-None-clause-bytes : goal.returns-in-None-clause-bytes
-returns-in-None-clause-bytes g c = λ honest agrees files held holds has.
-    let image = (g.D.Device.state c.args.device.now).disk.present in
-    let listed = listed_as (map_now c.args.pages.now image) files c.deref.result.now c.args.file.now.name.items
-    c.in_ok-entry.field-0 c.deref.ensures.value (c.in_ok-entry.ensures.listed honest agrees files holds) in
-    absurd (unlisted (map_now c.args.pages.now image) (file_at c.args.file.now.name.items files)
-    c.in_ok-entry.field-0 held listed c.in-None.is has.there)
+pub returns-in-Ok-clause-notes : goal.returns-in-Ok-clause-notes
+returns-in-Ok-clause-notes g c = noted g (goal.at.returns-in-Ok-clause-notes g c).After-seek_row
+
+pub returns-clause-notes : goal.returns-clause-notes
+returns-clause-notes g c = noted g (goal.at.returns-clause-notes g c).After-seek_row
+
+pub returns-in_err-note_file-clause-damaged : goal.returns-in_err-note_file-clause-damaged
+returns-in_err-note_file-clause-damaged g c = λ honest agrees are files held holds has is.
+    let damaged = refused_by_call c.in_err-note_file.was c.from_residual.ensures.1 is in
+    c.note_file.ensures.damaged honest agrees files holds damaged
+
+pub returns-then-not-branch-clause-found : goal.returns-then-not-branch-clause-found
+returns-then-not-branch-clause-found g c = λ honest agrees are files held holds has.
+    absurd (never_missing _ files c.deref.result.now c.args.file.now.name.items c.in_ok-note_file.field-0
+    c.note_file.new.self.listing held c.deref.ensures.value c.if-not-branch.true
+    (c.in_ok-note_file.ensures.listed honest agrees are files holds) has.there)
+
+pub returns-then-not-branch-clause-bytes : goal.returns-then-not-branch-clause-bytes
+returns-then-not-branch-clause-bytes g c = λ honest agrees are files held holds has.
+    absurd (never_missing _ files c.deref.result.now c.args.file.now.name.items c.in_ok-note_file.field-0
+    c.note_file.new.self.listing held c.deref.ensures.value c.if-not-branch.true
+    (c.in_ok-note_file.ensures.listed honest agrees are files holds) has.there)
 
 pub seek_row-requires-clause-short : goal.seek_row-requires-clause-short
 seek_row-requires-clause-short g c =
@@ -98,64 +122,59 @@ seek_row-requires-clause-short g c =
     subst P (sym c.file_tree-under.ensures.layout) (layout_short spec c.args.key sound c.requires.key)
 
 pub returns-in-Ok-clause-found : goal.returns-in-Ok-clause-found
-returns-in-Ok-clause-found g c = λ honest agrees files held holds has.
+returns-in-Ok-clause-found g c = λ honest agrees are files held holds has.
     let at = goal.at.returns-in-Ok-clause-found g c in
-    c.in-Ok.ensures.found (c.find_listing.ensures.only.honest.0 honest) (c.find_listing.ensures.agrees honest agrees)
+    c.in-Ok.ensures.found (c.note_file.ensures.looks.only.honest.0 honest)
+    (c.note_file.ensures.looks.agrees honest agrees)
     (bound_at c.args.side c.args.value.now c.args.number) held.rows
-    (sought g at.After-seek_row honest agrees files held holds has)
+    (sought g at.After-seek_row honest agrees are files held holds has)
+    (near g at.After-seek_row honest agrees are)
 
 pub returns-in-Ok-clause-bytes : goal.returns-in-Ok-clause-bytes
-returns-in-Ok-clause-bytes g c = λ honest agrees files held holds has.
+returns-in-Ok-clause-bytes g c = λ honest agrees are files held holds has.
     let at = goal.at.returns-in-Ok-clause-bytes g c in
-    c.in-Ok.ensures.bytes (c.find_listing.ensures.only.honest.0 honest) (c.find_listing.ensures.agrees honest agrees)
+    c.in-Ok.ensures.bytes (c.note_file.ensures.looks.only.honest.0 honest)
+    (c.note_file.ensures.looks.agrees honest agrees)
     (bound_at c.args.side c.args.value.now c.args.number) held.rows
-    (sought g at.After-seek_row honest agrees files held holds has) c.requires.bytes
+    (sought g at.After-seek_row honest agrees are files held holds has)
+    (near g at.After-seek_row honest agrees are) c.requires.bytes
 
 pub returns-clause-damaged : goal.returns-clause-damaged
-returns-clause-damaged g c = λ honest agrees files held holds has is.
+returns-clause-damaged g c = λ honest agrees are files held holds has is.
     let at = goal.at.returns-clause-damaged g c in
-    let told : c.to_fault.result ≡ Damaged = cc in
+    let told : c.to_fault.result ≡ Damaged = same_error is in
     let fault : c.in-Err.error ≡ pages.Damaged = damaged_back c.in-Err.error (sym c.to_fault.ensures ∙ told) in
-    c.in-Err.ensures.damaged (c.find_listing.ensures.only.honest.0 honest)
-    (c.find_listing.ensures.agrees honest agrees) (bound_at c.args.side c.args.value.now c.args.number) held.rows
-    (sought g at.After-seek_row honest agrees files held holds has) c.requires.bytes (ap Err fault)
+    c.in-Err.ensures.damaged (c.note_file.ensures.looks.only.honest.0 honest)
+    (c.note_file.ensures.looks.agrees honest agrees) (bound_at c.args.side c.args.value.now c.args.number) held.rows
+    (sought g at.After-seek_row honest agrees are files held holds has)
+    (near g at.After-seek_row honest agrees are) c.requires.bytes (ap Err fault)
 
--- the calls only read
-looked : (g : Over) (c : After-find_listing g) → LooksAt g.D.Device (c.find_listing.result ≡ Err Device)
-    c.args.pages.now c.args.device.now c.find_listing.new.pages c.find_listing.new.device
-looked g c = record {
-  only = c.find_listing.ensures.only;
-  unchanged = c.find_listing.ensures.unchanged;
-  agrees = c.find_listing.ensures.agrees;
-  is_open = c.find_listing.ensures.open;
-}
+pub returns-in_err-note_file-clause-looks : goal.returns-in_err-note_file-clause-looks
+returns-in_err-note_file-clause-looks g c =
+    looks_blamed g.D.Device (c.note_file.result ≡ Err Device) _ _ _ _ _
+    (λ is. refused_by_call c.in_err-note_file.was c.from_residual.ensures.1 is)
+    c.note_file.ensures.looks
 
-pub returns-in_err-entry-clause-looks : goal.returns-in_err-entry-clause-looks
-returns-in_err-entry-clause-looks g c =
-    looks_blamed g.D.Device (c.find_listing.result ≡ Err Device) _ _ _ _ _
-    (λ is. refused_by_call c.in_err-entry.was c.from_residual.ensures.1 is)
-    (looked g (goal.at.returns-in_err-entry-clause-looks g c).After-find_listing)
-
-pub returns-in-None-clause-looks : goal.returns-in-None-clause-looks
-returns-in-None-clause-looks g c =
-    looks_blamed g.D.Device (c.find_listing.result ≡ Err Device) _ _ _ _ _ (λ is. never_ok is)
-    (looked g (goal.at.returns-in-None-clause-looks g c).After-find_listing)
+pub returns-then-not-branch-clause-looks : goal.returns-then-not-branch-clause-looks
+returns-then-not-branch-clause-looks g c =
+    looks_blamed g.D.Device (c.note_file.result ≡ Err Device) _ _ _ _ _ (λ is. never_ok is)
+    c.note_file.ensures.looks
 
 pub returns-in_err-at-clause-looks : goal.returns-in_err-at-clause-looks
 returns-in_err-at-clause-looks g c =
-    looks_blamed g.D.Device (c.find_listing.result ≡ Err Device) _ _ _ _ _
+    looks_blamed g.D.Device (c.note_file.result ≡ Err Device) _ _ _ _ _
     (λ is. absurd (never_device c.key_for.result c.key_for.ensures.memory
     (refused_by_call c.in_err-at.was c.from_residual-in_err-at.ensures.1 is)))
-    (looked g (goal.at.returns-in_err-at-clause-looks g c).After-find_listing)
+    c.note_file.ensures.looks
 
 pub returns-in-Ok-clause-looks : goal.returns-in-Ok-clause-looks
 returns-in-Ok-clause-looks g c =
-    looks_then g.D.Device (c.find_listing.result ≡ Err Device) (c.seek_row.result ≡ Err pages.Device) _ _ _ _ _ _ _
-    (λ is. never_ok is) (looked g (goal.at.returns-in-Ok-clause-looks g c).After-find_listing) c.seek_row.ensures.looks
+    looks_then g.D.Device (c.note_file.result ≡ Err Device) (c.seek_row.result ≡ Err pages.Device) _ _ _ _ _ _ _
+    (λ is. never_ok is) c.note_file.ensures.looks c.seek_row.ensures.looks
 
 pub returns-clause-looks : goal.returns-clause-looks
 returns-clause-looks g c =
-    looks_then g.D.Device (c.find_listing.result ≡ Err Device) (c.seek_row.result ≡ Err pages.Device) _ _ _ _ _ _ _
+    looks_then g.D.Device (c.note_file.result ≡ Err Device) (c.seek_row.result ≡ Err pages.Device) _ _ _ _ _ _ _
     (λ is. let told : c.to_fault.result ≡ Device = same_error is in
     inr (c.in-Err.is ∙ ap Err (device_back c.in-Err.error (sym c.to_fault.ensures ∙ told))))
-    (looked g (goal.at.returns-clause-looks g c).After-find_listing) c.seek_row.ensures.looks
+    c.note_file.ensures.looks c.seek_row.ensures.looks

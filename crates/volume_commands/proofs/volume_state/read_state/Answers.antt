@@ -24,7 +24,7 @@ returns-in-Ok-clause-state g c = λ honest files holds.
     ⊎_elim
     (λ trees. trees_states image (d.state c.open.new.device).disk.present c.read_trees.result
     (committed_of c.in-Ok.store.pages) c.free_sectors.result same
-    (c.in-Ok.ensures.stands honest files trees).agrees.committed.reads
+    (c.in-Ok.ensures.stands honest files trees).represents.agrees.committed.reads
     (c.free_sectors.ensures c.in-Ok.ensures.ready.0)
     (c.read_trees.ensures.state (c.in-Ok.ensures.honest.0 honest)))
     (λ half. absurd (c.in-Ok.ensures.foreign honest (half_is_foreign image files half))) holds

@@ -13,8 +13,11 @@ returns-in-Ok-clause-stands g c = λ honest files holds.
     let new : State = g.D.Device.state c.open.new.device in
     let same : new.disk.present ≡ old.disk.present =
     ap (λ (s : State). s.disk.present) (c.in-Ok.ensures.state honest) in
-    stands_for c.in-Ok.pages new.disk files (c.in-Ok.ensures.agrees honest) c.in-Ok.ensures.map c.in-Ok.ensures.ready.3
-    (subst (λ (l : List Sector). Holds l files) (sym same) holds)
+    record {
+      represents = stands_for c.in-Ok.pages new.disk files (c.in-Ok.ensures.agrees honest) c.in-Ok.ensures.map
+          c.in-Ok.ensures.ready.3 (subst (λ (l : List Sector). Holds l files) (sym same) holds);
+      notes = c.new.ensures _;
+    }
 
 pub returns-in-Err-clause-refused : goal.returns-in-Err-clause-refused
 returns-in-Err-clause-refused g c = λ honest.
