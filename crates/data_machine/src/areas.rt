@@ -2,6 +2,7 @@
 
 ghost use Rattle.std.specs.Prelude.{◌≡◌, ◌<◌, ◌%◌, ◌^◌, true, length, map, slice_set, slice_index_or, [], Some, IfOk};
 ghost use Rattle.items.specs.Items.{HasLengthOf};
+ghost use Rattle.items.specs.declared.taken.Taken.TheVariants as senders;
 ghost use Rattle.items.specs.Texts.{padded_text};
 ghost use Rattle.source_tree.specs.References.{part_of, storage_with};
 ghost use Rattle.source_tree.specs.Initializing.{overlaid_storage};
@@ -23,13 +24,13 @@ ghost use Rattle.data_machine.specs.KeptAtScale.{FitsDigits, bytes_at_scale};
 use crate::converting::convert_part;
 use crate::fitting::store_part;
 use crate::overlaying::overlay_part;
-use crate::receiving::{move_part, pad_part};
+use crate::receiving::{move_item_part, move_part, pad_part};
 use crate::relative_keys::{number_held, put_number_part};
 use crate::short_fitting::put_short_part;
 use crate::string_statement::string_part;
 use data_instructions::DataItem;
 use decimal18::Dec;
-use items::{DataFault, Kind, Taken, part};
+use items::{DataFault, Item, Kind, Taken, part};
 use sqlite_items::Items;
 use std::alloc::{AllocError, Global};
 use std::marker::Model;
@@ -95,6 +96,27 @@ impl Areas {
         move_part(one, area.as_mut_slice(), offset, taken, from)
     }
 
+    /// The same of a sender that is an item, with its bytes.
+    #[inline(always)]
+    pub(crate) fn receive_from(
+        &mut self,
+        one: &DataItem,
+        offset: usize,
+        sender: &Item,
+        from: &[u8],
+    ) -> Result<(), DataFault>
+        requires stands { IsAtOffset one.now self.old offset }
+        requires sender { Receives one.now
+            (record { taken = senders.Item sender.now; bytes = from.now }) }
+        ensures stores { Stores result self.old self.new (move_to
+            (record { taken = senders.Item sender.now; bytes = from.now })
+            (item_place one.now offset) self.old) }
+        ensures lengths { map length self.new ≡ map length self.old }
+    {
+        let area = &mut self.areas[one.area as usize];
+        move_item_part(one, area.as_mut_slice(), offset, sender, from)
+    }
+
     /// Stores a number in an item that stands at an offset, and answers whether a size error arose. Where the item receives no
     /// numbers, nothing changes.
     #[inline]
@@ -116,7 +138,7 @@ impl Areas {
     }
 
     /// Stores a coefficient in a numeric item that stands at an offset, at its scale; without S the absolute value.
-    #[inline(never)]
+    #[inline(always)]
     pub(crate) fn store_short(&mut self, one: &DataItem, offset: usize, coefficient: i64)
         requires stands { IsAtOffset one.now self.old offset }
         requires digits { FitsDigits one.now.item.kind coefficient }

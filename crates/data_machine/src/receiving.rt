@@ -2,6 +2,7 @@
 
 ghost use Rattle.std.specs.Prelude.{◌≡◌, ◌+◌, ◌≤◌, true, length};
 ghost use Rattle.items.specs.Items.{IsItem, IsTaken};
+ghost use Rattle.items.specs.declared.taken.Taken.TheVariants as senders;
 ghost use Rattle.items.specs.Faults.{Writes};
 ghost use Rattle.items.specs.Texts.{padded_text};
 ghost use Rattle.edited_move.specs.Moves.{moved_bytes, is_short, IsPlainKind};
@@ -33,6 +34,28 @@ pub fn move_part(
 {
     let end = offset + one.item.length as usize;
     move_item(one, taken, from, &mut area[offset..end])
+}
+
+/// The same of a sender that is an item, with its bytes.
+#[inline(always)]
+pub(crate) fn move_item_part(
+    one: &DataItem,
+    area: &mut [u8],
+    offset: usize,
+    sender: &Item,
+    from: &[u8],
+) -> Result<(), DataFault>
+    requires form { IsItem one.now.item }
+    requires editing { IsEditing one.now.item one.now.editing }
+    requires sender { Receives one.now
+        (record { taken = senders.Item sender.now; bytes = from.now }) }
+    requires within { offset + one.now.item.length ≤ length area.old }
+    ensures { WritesPart result area.old area.new offset one.now.item.length
+        (moved_by one.now.editing one.now.item
+        (record { taken = senders.Item sender.now; bytes = from.now })) }
+{
+    let end = offset + one.item.length as usize;
+    move_from(one, sender, from, &mut area[offset..end])
 }
 
 /// Stores characters in an item at an offset in its area, cut or padded with spaces.
@@ -97,4 +120,43 @@ fn move_item(one: &DataItem, taken: &Taken, from: &[u8], bytes: &mut [u8]) -> Re
         None => move_plain(taken, from, &one.item, bytes),
         Some(picture) => edit_into(*taken, from, one.item, picture, bytes),
     }
+}
+
+/// Moves an item to another one with these bytes. Numbers and characters take a shorter way, if the receiver isn't edited.
+#[inline(always)]
+#[tactic(auto, unfolding(edited_move::specs::Moves::moved_bytes))]
+fn move_from(one: &DataItem, sender: &Item, from: &[u8], bytes: &mut [u8]) -> Result<(), DataFault>
+    requires form { IsItem one.now.item }
+    requires editing { IsEditing one.now.item one.now.editing }
+    requires sender { Receives one.now
+        (record { taken = senders.Item sender.now; bytes = from.now }) }
+    requires length { length bytes.old ≡ one.now.item.length }
+    ensures { Writes result bytes.old bytes.new (moved_by one.now.editing one.now.item
+        (record { taken = senders.Item sender.now; bytes = from.now })) }
+{
+    if one.editing.is_some() {
+        return move_apart(one, sender, from, bytes);
+    }
+    if let (Kind::Numeric(number), Kind::Numeric(other)) = (&sender.kind, &one.item.kind) {
+        return move_numbers(number, from, other, bytes);
+    }
+    if is_copy(sender, &one.item) {
+        put_text(from, bytes);
+        return Ok(());
+    }
+    move_apart(one, sender, from, bytes)
+}
+
+/// The same, apart from its callers.
+#[inline(never)]
+fn move_apart(one: &DataItem, sender: &Item, from: &[u8], bytes: &mut [u8]) -> Result<(), DataFault>
+    requires form { IsItem one.now.item }
+    requires editing { IsEditing one.now.item one.now.editing }
+    requires sender { Receives one.now
+        (record { taken = senders.Item sender.now; bytes = from.now }) }
+    requires length { length bytes.old ≡ one.now.item.length }
+    ensures { Writes result bytes.old bytes.new (moved_by one.now.editing one.now.item
+        (record { taken = senders.Item sender.now; bytes = from.now })) }
+{
+    move_item(one, &Taken::Item(*sender), from, bytes)
 }
