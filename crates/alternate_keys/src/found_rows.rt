@@ -2,13 +2,14 @@
 ghost use Rattle.std.specs.Prelude.{◌≡◌, ◌≤◌, ◌<◌, ◌+◌, true, false, Err, Ok, Some, List, length, take, drop, IfOk, OnOk, OnErr, IfErr};
 ghost use Rattle.byteorder.specs.Endian.{big_number};
 ghost use Rattle.station.specs.Calls.{OnlyReads};
-ghost use Rattle.pages.specs.Pages.{map_now, is_spent, sectors_of, Agrees, IsOpen, IsUnchanged};
-ghost use Rattle.btree.specs.Calls.{OnPages};
-ghost use Rattle.btree.specs.Tree.{TreeNode, IsTreeOrEmpty};
+ghost use Rattle.pages.specs.Pages.{is_spent, sectors_of, Agrees, IsOpen, IsUnchanged};
+ghost use Rattle.btree.specs.Calls.{OnPages, OnTree, OnNoTree, pages_on};
+ghost use Rattle.btree.specs.Places.{IsLeafPlace};
+ghost use Rattle.btree.specs.Results.{ReturnsDamaged};
 ghost use Rattle.btree.specs.Entries.{entries_of};
 ghost use Rattle.btree.specs.Reading.{IsReadRefusal};
 ghost use Rattle.records.specs.Spec.{Spec};
-ghost use Rattle.records.specs.Rows.{Row as FileRow};
+ghost use Rattle.records.specs.Rows.{Row as FileRow, same_bytes};
 ghost use Rattle.records.specs.Order.{found_row};
 ghost use Rattle.file_bytes.specs.Rows.{prime_key_length};
 ghost use Rattle.volume_format.specs.Calls.{LooksAt};
@@ -19,16 +20,16 @@ ghost use Rattle.alternate_keys.specs.Aims.{found_entry};
 ghost use Rattle.alternate_keys.specs.Searches.{OnPairEntry};
 ghost use Rattle.alternate_keys.specs.Seen.{IsRowEntry, number_in, begins_with_value};
 
-use crate::look::{copy_record, look};
+use crate::look::copy_record;
+use crate::notes::SearchNotes;
 use crate::search_start::SearchStart;
-use btree::{Entry, Tree};
+use btree::{Entry, LeafPlace, Tree};
 use byteorder::{BigEndian, ByteOrder};
 use chains::RecordBuffer;
 use pages::{PageMap, PagesError};
 use records::{Found, KeyOfReference, Organization};
 use row_trees::RowTree;
 use station::Device;
-use std::alloc::Global;
 
 /// What is told of a row by its entry in the tree of rows. Its record is put into `bytes`.
 pub(crate) fn read_prime_row<D: Device>(
@@ -73,24 +74,27 @@ pub(crate) fn begins_with(entry: &Option<Entry>, value: &[u8]) -> bool
     ensures { result ≡ begins_with_value value.now entry.now }
 {
     match entry {
-        Some(entry) => {
-            let key = entry.key();
-            let count = value.len().min(key.len());
-            key[..count] == value[..]
-        }
+        Some(entry) => has_front(entry.key(), value),
         None => false,
     }
 }
 
-/// What is told of a row by its entry in the tree of an alternate key. Its record is put into `bytes`.
+/// Whether a key begins with a value.
+fn has_front(key: &[u8], value: &[u8]) -> bool
+    ensures { result ≡ same_bytes (take (length value.now) key.now) value.now }
+{
+    let count = value.len().min(key.len());
+    key[..count] == value[..]
+}
+
+/// What is told of a row by its entry in the tree of an alternate key, which the notes have. Its record is put into `bytes`.
 pub(crate) fn read_alternate_row<D: Device>(
-    alloc: Global,
+    notes: &mut SearchNotes,
     prime: &RowTree,
     under: &Tree,
     pages: &mut PageMap,
     device: &mut D,
     value_length: usize,
-    entry: &Entry,
     bytes: &mut [u8],
 ) -> Result<Found, PagesError>
     requires open { IsOpen pages.old }
@@ -99,22 +103,40 @@ pub(crate) fn read_alternate_row<D: Device>(
     requires short { under.now.layout.key_length ≤ 128 }
     ensures looks { LooksAt D.Device (result ≡ Err PagesError.Device) pages.old device.old pages.new
         device.new }
+
+    // If the leaf that is noted is one of its tree, so is the leaf that is noted then, and this is the answer.
+    ensures place { OnPages D.Device pages.old device.old
+        (λ before. IsLeafPlace notes.old.place before → IsLeafPlace notes.new.place before) }
     ensures found { OnPairEntry D.Device pages.old device.old prime.now under.now value_length
-        entry.now (λ spec i rows row.
+        notes.old.entry (λ spec i rows row.
+        IsLeafPlace notes.old.place (pages_on D.Device pages.old device.old) →
         IfOk result (λ told. told ≡ found_row spec (KeyOfReference.Alternate i) rows row)) }
     ensures bytes { OnPairEntry D.Device pages.old device.old prime.now under.now value_length
-        entry.now (λ spec i rows row.
+        notes.old.entry (λ spec i rows row.
         length bytes.old ≡ spec.record_length → OnOk result (bytes.new ≡ row.bytes)) }
     ensures damaged { OnPairEntry D.Device pages.old device.old prime.now under.now value_length
-        entry.now (λ spec i rows row.
-        length bytes.old ≡ spec.record_length → result ≡ Err PagesError.Damaged → ⊥) }
+        notes.old.entry (λ spec i rows row.
+        IsLeafPlace notes.old.place (pages_on D.Device pages.old device.old)
+        → length bytes.old ≡ spec.record_length → result ≡ Err PagesError.Damaged → ⊥) }
+    ensures file { (notes.new.name.items ≡ notes.old.name.items)
+        × (notes.new.listing ≡ notes.old.listing) }
     ensures spent { result ≡ Err PagesError.Spent → is_spent pages.old ≡ true }
     ensures kept { OnErr result (bytes.new ≡ bytes.old) }
     ensures cause { IfErr result IsRecordRefusal }
 {
-    let number = arrival_in(entry.key(), value_length)?;
-    let repeated = is_repeated(under, pages, device, entry, value_length)?;
-    let row = match prime.find(alloc, pages, device, entry.value())? {
+    let key = notes.entry.key();
+    let number = arrival_in(key, value_length)?;
+    let place = &mut notes.place;
+    let repeated = is_repeated(
+        under,
+        pages,
+        device,
+        key,
+        value_length,
+        place,
+        &mut notes.next,
+    )?;
+    let row = match prime.find(notes.alloc, pages, device, notes.entry.value())? {
         Some(row) => row,
         None => return Err(PagesError::Damaged),
     };
@@ -159,36 +181,38 @@ fn arrival_in(key: &[u8], value_length: usize) -> Result<u64, PagesError>
     Ok(BigEndian::read_u64(&key[value_length..]))
 }
 
-/// Whether the next entry of an alternate key's tree has the same value.
+/// Whether the entry after a key in an alternate key's tree has the same value. That entry is put into `next`.
 fn is_repeated<D: Device>(
     under: &Tree,
     pages: &mut PageMap,
     device: &mut D,
-    entry: &Entry,
+    key: &[u8],
     value_length: usize,
+    place: &mut LeafPlace,
+    next: &mut Entry,
 ) -> Result<bool, PagesError>
     requires open { IsOpen pages.old }
     requires sectors { sectors_of pages.old ≤ D.sectors device.old }
-    requires long { value_length ≤ length entry.now.key }
+    requires long { value_length ≤ length key.now }
     requires few { under.now.layout.key_length ≤ 128 }
     ensures only { OnlyReads D.Device (result ≡ Err PagesError.Device) device.old device.new }
     ensures unchanged { IsUnchanged pages.old pages.new }
     ensures agrees { D.is_honest device.old → Agrees pages.old (D.state device.old).disk
         → Agrees pages.new (D.state device.new).disk }
     ensures open { IsOpen pages.new }
-    ensures repeated { D.is_honest device.old → Agrees pages.old (D.state device.old).disk
-        → (levels : List (List TreeNode)) →
-        IsTreeOrEmpty under.now.layout (map_now pages.old (D.state device.old).disk.present).pages
-        under.now.root levels →
-        IfOk result (λ repeated. repeated ≡ begins_with_value (take value_length entry.now.key)
-        (found_entry SearchStart.After (entries_of under.now.layout levels) entry.now.key)) }
-    ensures damaged { D.is_honest device.old → Agrees pages.old (D.state device.old).disk
-        → result ≡ Err PagesError.Damaged →
-        (levels : List (List TreeNode)) → IsTreeOrEmpty under.now.layout
-        (map_now pages.old (D.state device.old).disk.present).pages under.now.root levels → ⊥ }
+    ensures place { OnPages D.Device pages.old device.old
+        (λ before. IsLeafPlace place.old before → IsLeafPlace place.new before) }
+    ensures repeated { OnTree D.Device under.now.layout under.now.root pages.old device.old
+        (λ levels. IsLeafPlace place.old (pages_on D.Device pages.old device.old) →
+        IfOk result (λ repeated. repeated ≡ begins_with_value (take value_length key.now)
+        (found_entry SearchStart.After (entries_of under.now.layout levels) key.now))) }
+    ensures damaged { OnNoTree D.Device under.now.layout under.now.root pages.old device.old
+        (ReturnsDamaged result × IsLeafPlace place.old (pages_on D.Device pages.old device.old)) }
     ensures cause { IfErr result IsReadRefusal }
     ensures spent { result ≡ Err PagesError.Spent → is_spent pages.old ≡ true }
 {
-    let next = look(under, pages, device, SearchStart::After, entry.key())?;
-    Ok(begins_with(&next, &entry.key()[..value_length]))
+    if !under.next_near(pages, device, key, place, next)? {
+        return Ok(false);
+    }
+    Ok(has_front(next.key(), &key[..value_length]))
 }

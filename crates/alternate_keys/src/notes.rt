@@ -20,7 +20,7 @@ use std::alloc::{AllocError, Global};
 use volume_format::{LISTING_BYTES, listing_part};
 
 /// The file of the last search with its listing in the catalog, and the leaf of a tree where a search ended. No file is noted if the name
-/// is empty. The entry and the record are memory that each search uses again.
+/// is empty. The entries and the record are memory that each search uses again.
 #[derive(Drop)]
 pub(crate) struct SearchNotes {
     pub(crate) alloc: Global,
@@ -28,6 +28,7 @@ pub(crate) struct SearchNotes {
     pub(crate) listing: [u8; LISTING_BYTES],
     pub(crate) place: LeafPlace,
     pub(crate) entry: Entry,
+    pub(crate) next: Entry,
     pub(crate) record: RecordBuffer,
 }
 
@@ -42,6 +43,7 @@ impl SearchNotes {
             listing: [0; LISTING_BYTES],
             place: LeafPlace::none(),
             entry: Entry::blank(),
+            next: Entry::blank(),
             record: RecordBuffer::new(alloc),
         }
     }

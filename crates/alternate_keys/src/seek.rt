@@ -63,20 +63,17 @@ pub fn seek_row<D: Device>(
     if !look_near(under, pages, device, aim, at, place, &mut notes.entry)? {
         return Ok(None);
     }
-    let entry = &notes.entry;
     match key {
         KeyOfReference::Prime => {
             let record = &mut notes.record;
+            let entry = &notes.entry;
             let organization = file.organization;
             let told = read_prime_row(record, prime, pages, device, organization, entry, bytes)?;
             Ok(Some(told))
         }
         KeyOfReference::Alternate(_) => {
-            let alloc = notes.alloc;
             let length = file.key_place(key).length as usize;
-            let told = read_alternate_row(
-                alloc, prime, under, pages, device, length, entry, bytes,
-            )?;
+            let told = read_alternate_row(notes, prime, under, pages, device, length, bytes)?;
             Ok(Some(told))
         }
     }

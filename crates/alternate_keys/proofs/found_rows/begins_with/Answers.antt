@@ -1,8 +1,5 @@
-use Rattle.std.proofs.Common.{◌≡◌, ℕ, List, length, sym, ap, ◌∙◌}
+use Rattle.std.proofs.Common.{◌≡◌, length, sym, ap, ◌∙◌}
 use Rattle.std.specs.Prelude.{take}
-use Rattle.std.specs.Str.{bytes_eq}
-use Rattle.std.proofs.lemmas.List.{take_min}
-use Rattle.std.proofs.lemmas.Map.Text.{is_eq-slice_cmp}
 use Rattle.records.specs.Rows.{same_bytes}
 use Rattle.alternate_keys.specs.Seen.{begins_with_value}
 use Rattle.alternate_keys.proofs.found_rows.begins_with.Goals as goal
@@ -10,9 +7,5 @@ use Rattle.alternate_keys.proofs.found_rows.begins_with.Goals as goal
 pub returns-in-Some : goal.returns-in-Some
 returns-in-Some c =
     let value = c.args.value.now in
-    let key : List ℕ = c.key-key.result.now in
-    let cut : take c.min-count.result key ≡ take (length value) key =
-    ap (λ n. take n key) c.min-count.ensures ∙ take_min (length value) key in
-    c.eq.ensures ∙ ap (λ k. bytes_eq k value) cut ∙ sym (is_eq-slice_cmp (take (length value) key) value)
-    ∙ ap (λ k. same_bytes (take (length value) k) value) c.key-key.ensures
+    c.has_front.ensures ∙ ap (λ k. same_bytes (take (length value) k) value) c.key.ensures
     ∙ ap (begins_with_value value) (sym c.in-Some.is)

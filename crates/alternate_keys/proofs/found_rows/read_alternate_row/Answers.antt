@@ -91,7 +91,7 @@ pub returns-clause-looks : goal.returns-clause-looks
 returns-clause-looks g c = both g (goal.at.returns-clause-looks g c).After-find _ (λ is. never_ok is)
 
 pub returns-in_err-row-clause-damaged : goal.returns-in_err-row-clause-damaged
-returns-in_err-row-clause-damaged g c = λ honest agrees spec i rows row told fits is.
+returns-in_err-row-clause-damaged g c = λ honest agrees spec i rows row told near fits is.
     let damaged = refused_by_call c.in_err-row.was c.from_residual-in_err-row.ensures.1 is in
     let same =
     same_pages c.args.pages.now c.is_repeated.new.pages (g.D.Device.state c.args.device.now) (g.D.Device.state
@@ -103,7 +103,7 @@ returns-in_err-row-clause-damaged g c = λ honest agrees spec i rows row told fi
     told.there.planted here damaged
 
 pub returns-in-None-clause-damaged : goal.returns-in-None-clause-damaged
-returns-in-None-clause-damaged g c = λ honest agrees spec i rows row told fits is.
+returns-in-None-clause-damaged g c = λ honest agrees spec i rows row told near fits is.
     let pages : List (Option Sector) =
     (map_now c.args.pages.now (g.D.Device.state c.args.device.now).disk.present).pages in
     let same =
@@ -114,13 +114,14 @@ returns-in-None-clause-damaged g c = λ honest agrees spec i rows row told fits 
     told.there.stands in
     let got = c.in_ok-row.ensures.row (c.is_repeated.ensures.only.honest.0 honest)
     (c.is_repeated.ensures.agrees honest agrees) told.there.planted here in
-    let there = row_there spec i c.args.value_length pages rows prime c.args.under.now c.args.entry.now row told in
+    let there =
+    row_there spec i c.args.value_length pages rows prime c.args.under.now c.args.notes.now.entry row told in
     let found = got ∙ ap (entry_with told.there.planted.entries) c.value.ensures ∙ there in
     let clash : None ≡ Some (entry_under spec Prime row) = sym c.in-None.is ∙ found in
     cc
 
 pub returns-in_err-copy_record-clause-damaged : goal.returns-in_err-copy_record-clause-damaged
-returns-in_err-copy_record-clause-damaged g c = λ honest agrees spec i rows row told fits is.
+returns-in_err-copy_record-clause-damaged g c = λ honest agrees spec i rows row told near fits is.
     let pages : List (Option Sector) =
     (map_now c.args.pages.now (g.D.Device.state c.args.device.now).disk.present).pages in
     let same =
@@ -131,7 +132,8 @@ returns-in_err-copy_record-clause-damaged g c = λ honest agrees spec i rows row
     told.there.stands in
     let got = c.in_ok-row.ensures.row (c.is_repeated.ensures.only.honest.0 honest)
     (c.is_repeated.ensures.agrees honest agrees) told.there.planted here in
-    let there = row_there spec i c.args.value_length pages rows prime c.args.under.now c.args.entry.now row told in
+    let there =
+    row_there spec i c.args.value_length pages rows prime c.args.under.now c.args.notes.now.entry row told in
     let found = got ∙ ap (entry_with told.there.planted.entries) c.value.ensures ∙ there in
     let some : Some c.in-Some.row ≡ Some (entry_under spec Prime row) = sym c.in-Some.is ∙ found in
     let whole : c.in-Some.row ≡ entry_under spec Prime row = cc in
@@ -144,30 +146,30 @@ returns-in_err-copy_record-clause-damaged g c = λ honest agrees spec i rows row
     omega arith
 
 pub returns-in_err-number-clause-damaged : goal.returns-in_err-number-clause-damaged
-returns-in_err-number-clause-damaged g c = λ honest agrees spec i rows row told fits is.
+returns-in_err-number-clause-damaged g c = λ honest agrees spec i rows row told near fits is.
     let under = All-contains (IsUnder spec (Alternate i)) rows row told.pairs.fits told.has in
-    let count : length c.key.result.now ≡ c.args.value_length + 8 = ap length c.key.ensures
+    let count : length c.key-key.result.now ≡ c.args.value_length + 8 = ap length c.key-key.ensures
     ∙ ap (λ (e : Entry). length e.key) told.is ∙ alternate_long spec i c.args.value_length row under told.long in
     let low = c.in_err-number.ensures.err.1 in
     omega arith
 
 pub returns-in_err-repeated-clause-damaged : goal.returns-in_err-repeated-clause-damaged
-returns-in_err-repeated-clause-damaged g c = λ honest agrees spec i rows row told fits is.
+returns-in_err-repeated-clause-damaged g c = λ honest agrees spec i rows row told near fits is.
     let damaged = refused_by_call c.in_err-repeated.was c.from_residual-in_err-repeated.ensures.1 is in
-    c.is_repeated.ensures.damaged honest agrees damaged told.pairs.levels told.pairs.holds
+    c.is_repeated.ensures.damaged honest agrees (damaged, near) told.pairs.levels told.pairs.holds
 
 pub returns-clause-found : goal.returns-clause-found
-returns-clause-found g c = λ honest agrees spec i rows row told.
+returns-clause-found g c = λ honest agrees spec i rows row told near.
     let pages : List (Option Sector) =
     (map_now c.args.pages.now (g.D.Device.state c.args.device.now).disk.present).pages in
     let under = All-contains (IsUnder spec (Alternate i)) rows row told.pairs.fits told.has in
     let n = c.args.value_length in
     let tree : RootedTree = c.args.under.now in
-    let number = c.in_ok-number.ensures.ok ∙ ap (λ k. big_number 8 (drop n k)) c.key.ensures
+    let number = c.in_ok-number.ensures.ok ∙ ap (λ k. big_number 8 (drop n k)) c.key-key.ensures
     ∙ ap (λ (e : Entry). big_number 8 (drop n e.key)) told.is ∙ alternate_number spec i n row under told.long in
-    let repeated = c.in_ok-repeated.ensures.repeated honest agrees told.pairs.levels told.pairs.holds
-    ∙ ap (λ (e : Entry).
-    begins_with_value (take n e.key) (found_entry aim.After (entries_of tree.layout told.pairs.levels) e.key)) told.is
+    let repeated = c.in_ok-repeated.ensures.repeated honest agrees told.pairs.levels told.pairs.holds near
+    ∙ ap (λ k. begins_with_value (take n k) (found_entry aim.After (entries_of tree.layout told.pairs.levels) k))
+    (c.key-key.ensures ∙ ap (λ (e : Entry). e.key) told.is)
     ∙ repeated_is spec i n pages rows tree row told.pairs told.has told.long in
     let Told : ℕ → Bool → Found = λ a b. record { number = a; repeated = b } in
     ap (λ a. Told a c.in_ok-repeated.repeated) number ∙ ap (Told _) repeated
@@ -184,7 +186,8 @@ returns-clause-bytes g c = λ honest agrees spec i rows row told fits.
     told.there.stands in
     let got = c.in_ok-row.ensures.row (c.is_repeated.ensures.only.honest.0 honest)
     (c.is_repeated.ensures.agrees honest agrees) told.there.planted here in
-    let there = row_there spec i c.args.value_length pages rows prime c.args.under.now c.args.entry.now row told in
+    let there =
+    row_there spec i c.args.value_length pages rows prime c.args.under.now c.args.notes.now.entry row told in
     let found = got ∙ ap (entry_with told.there.planted.entries) c.value.ensures ∙ there in
     let some : Some c.in-Some.row ≡ Some (entry_under spec Prime row) = sym c.in-Some.is ∙ found in
     let whole : c.in-Some.row ≡ entry_under spec Prime row = cc in

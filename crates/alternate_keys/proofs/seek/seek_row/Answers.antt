@@ -1,5 +1,7 @@
-use Rattle.std.proofs.Common.{◌≡◌, inr, Ok, Err, Bool, List, refl, sym, ap, ◌∙◌}
+use Rattle.std.proofs.Common.{◌≡◌, inr, Ok, Err, Bool, List, refl, sym, ap, subst, ◌∙◌}
+use Rattle.std.specs.Prelude.{Option}
 use Rattle.std.specs.Option.{option_map}
+use Rattle.station.specs.Disk.{Sector}
 use Rattle.pages.specs.Pages.{Agrees}
 use Rattle.pages.specs.declared.error.PagesError.TheVariants.{Device}
 use Rattle.volume_format.proofs.Looks.{looks_blamed, looks_then}
@@ -169,6 +171,37 @@ pair_entry g c honest bound rows row =
     (ap (λ (p : KeyPlace). p.length)
     (c.key_place.ensures.place ∙ ap (place_of (spec_of c.args.file.now)) c.in-Alternate.is))
 
+-- the leaf that is noted is one of its tree, before that row is read and after it
+near_then : (g : Over) (c : After-read_alternate_row g) → g.D.Device.is_honest c.args.device.now
+    → Agrees c.args.pages.now (g.D.Device.state c.args.device.now).disk
+    → IsLeafPlace c.args.notes.now.place (pages_on g.D.Device c.args.pages.now c.args.device.now)
+    → IsLeafPlace c.look_near.new.place (pages_on g.D.Device c.look_near.new.pages c.look_near.new.device)
+near_then g c honest agrees near =
+    subst (λ (p : List (Option Sector)). IsLeafPlace c.look_near.new.place p)
+    (sym (same_pages c.args.pages.now c.look_near.new.pages (g.D.Device.state c.args.device.now)
+    (g.D.Device.state c.look_near.new.device) c.look_near.ensures.looks.unchanged
+    (c.look_near.ensures.looks.only.state honest))) (c.look_near.ensures.place honest agrees near)
+
+near_after : (g : Over) (c : After-read_alternate_row g) → g.D.Device.is_honest c.args.device.now
+    → Agrees c.args.pages.now (g.D.Device.state c.args.device.now).disk
+    → IsLeafPlace c.args.notes.now.place (pages_on g.D.Device c.args.pages.now c.args.device.now)
+    → IsLeafPlace c.read_alternate_row.new.notes.place (pages_on g.D.Device c.args.pages.now c.args.device.now)
+near_after g c honest agrees near =
+    subst (λ (p : List (Option Sector)). IsLeafPlace c.read_alternate_row.new.notes.place p)
+    (same_pages c.args.pages.now c.look_near.new.pages (g.D.Device.state c.args.device.now)
+    (g.D.Device.state c.look_near.new.device) c.look_near.ensures.looks.unchanged
+    (c.look_near.ensures.looks.only.state honest))
+    (c.read_alternate_row.ensures.place (c.look_near.ensures.looks.only.honest.0 honest)
+    (c.look_near.ensures.looks.agrees honest agrees) (near_then g c honest agrees near))
+
+pub returns-in_err-told-in-Alternate-clause-place : goal.returns-in_err-told-in-Alternate-clause-place
+returns-in_err-told-in-Alternate-clause-place g c =
+    near_after g (goal.at.returns-in_err-told-in-Alternate-clause-place g c).After-read_alternate_row
+
+pub returns-in_ok-told-in-Alternate-clause-place : goal.returns-in_ok-told-in-Alternate-clause-place
+returns-in_ok-told-in-Alternate-clause-place g c =
+    near_after g (goal.at.returns-in_ok-told-in-Alternate-clause-place g c).After-read_alternate_row
+
 pub returns-in_err-told-in-Alternate-clause-damaged : goal.returns-in_err-told-in-Alternate-clause-damaged
 returns-in_err-told-in-Alternate-clause-damaged g c = λ honest agrees bound rows way near fits is.
     let at = goal.at.returns-in_err-told-in-Alternate-clause-damaged g c in
@@ -176,7 +209,8 @@ returns-in_err-told-in-Alternate-clause-damaged g c = λ honest agrees bound row
     c.read_alternate_row.ensures.damaged (c.look_near.ensures.looks.only.honest.0 honest)
     (c.look_near.ensures.looks.agrees honest agrees)
     (spec_of c.args.file.now) c.in-Alternate.field-0 rows row.for.row
-    (pair_entry g at.After-read_alternate_row honest bound rows row) fits
+    (pair_entry g at.After-read_alternate_row honest bound rows row)
+    (near_then g at.After-read_alternate_row honest agrees near) fits
     (refused_by_call c.in_err-told-in-Alternate.was c.from_residual-in_err-told-in-Alternate.ensures.1 is)
 
 pub returns-in_ok-told-in-Alternate-clause-found : goal.returns-in_ok-told-in-Alternate-clause-found
@@ -189,7 +223,8 @@ returns-in_ok-told-in-Alternate-clause-found g c = λ honest agrees bound rows w
     (c.in_ok-told-in-Alternate.ensures.found (c.look_near.ensures.looks.only.honest.0 honest)
     (c.look_near.ensures.looks.agrees honest agrees)
     (spec_of c.args.file.now) c.in-Alternate.field-0 rows row.for.row
-    (pair_entry g at.After-read_alternate_row honest bound rows row))
+    (pair_entry g at.After-read_alternate_row honest bound rows row)
+    (near_then g at.After-read_alternate_row honest agrees near))
 
 pub returns-in_ok-told-in-Alternate-clause-bytes : goal.returns-in_ok-told-in-Alternate-clause-bytes
 returns-in_ok-told-in-Alternate-clause-bytes g c = λ honest agrees bound rows way near fits.
