@@ -101,3 +101,6 @@ pub mod Verified
 -- The run is what the program means
 pub mod Meaning
 pub mod PlacedItems
+pub mod WaysMet
+pub mod ReferencePieces
+pub mod AskedPairs

@@ -26,3 +26,17 @@ module _ {T E : Type 0} where
   pub on_ok : {P Q : Type 0} (result : Result T E) → OnOk result P → (P → Q) → OnOk result Q
   on_ok (Ok x) h f = f h
   on_ok (Err x) h f = h
+
+  pub three_so : (result : Result T E) (first second third : Fragment) (old one two new : Code)
+      → one ≡ append old (first old) → two ≡ append one (second one) → OnOk result (new ≡ append two (third two))
+      → OnOk result (new ≡ append old (sequence first (sequence second third) old))
+  three_so result first second third old one two new p q r =
+      ends_so result first (sequence second third) old one new p (ends_so result second third one two new q r)
+
+  pub four_so : (result : Result T E) (first second third fourth : Fragment) (old one two three new : Code)
+      → one ≡ append old (first old) → two ≡ append one (second one) → three ≡ append two (third two)
+      → OnOk result (new ≡ append three (fourth three))
+      → OnOk result (new ≡ append old (sequence first (sequence second (sequence third fourth)) old))
+  four_so result first second third fourth old one two three new p q r s =
+      ends_so result first (sequence second (sequence third fourth)) old one new p
+      (three_so result second third fourth one two three new q r s)

@@ -13,7 +13,7 @@ use Rattle.codegen.specs.DataCode.{work_fragment}
 use Rattle.codegen.specs.ArithmeticCode.{value_fragment, expression_fragment}
 use Rattle.codegen.proofs.ExpressionForms.{link_piece, operand_is, negated_is, chain_is}
 use Rattle.codegen.proofs.Kept.{front_kept, back_kept, one_kept}
-use Rattle.codegen.proofs.Sequences.{is_so, ends_so}
+use Rattle.codegen.proofs.Sequences.{is_so, ends_so, on_ok}
 use Rattle.codegen.proofs.emitter.Emitter.+expression.Goals as goal
 
 pub emit_chain-emit_expression-requires : goal.emit_chain-emit_expression-requires
@@ -72,16 +72,12 @@ pub emit_expression-returns-in_ok-emit_expression-in-Negated :
 emit_expression-returns-in_ok-emit_expression-in-Negated t c =
     let items = items_in c.args.self.now.declarations.now in
     let old = c.args.code.now in
-    let inner = expression_fragment items c.in-Negated.inner in
-    let negate = work_fragment (i.Calculate calculation.Negate) in
-    let begun : c.emit_expression.new.code ≡ append old (inner old) =
-    c.in_ok-emit_expression-in-Negated.ensures
-    ∙ ap (λ (e : Expression). append old (expression_fragment items e old)) c.get.ensures in
-    is_so c.emit_work.result c.emit_work.new.code (append old (sequence inner negate old))
-    (append old (expression_fragment items c.args.one.now old))
-    (ends_so c.emit_work.result inner negate old c.emit_expression.new.code c.emit_work.new.code begun
-    c.emit_work.ensures)
-    (ap (append old) (sym (negated_is items c.in-Negated.inner old)
+    on_ok c.emit_work.result
+    (ends_so c.emit_work.result (expression_fragment items c.in-Negated.inner)
+    (work_fragment (i.Calculate calculation.Negate)) old c.emit_expression.new.code c.emit_work.new.code
+    (c.in_ok-emit_expression-in-Negated.ensures
+    ∙ ap (λ (e : Expression). append old (expression_fragment items e old)) c.get.ensures) c.emit_work.ensures)
+    (λ e. e ∙ ap (append old) (sym (negated_is items c.in-Negated.inner old)
     ∙ sym (ap (λ (e : Expression). expression_fragment items e old) c.in-Negated.is)))
 
 pub emit_expression-returns-in_ok-emit_expression-in-Chain : goal.emit_expression-returns-in_ok-emit_expression-in-Chain
@@ -89,15 +85,13 @@ emit_expression-returns-in_ok-emit_expression-in-Chain t c =
     let items = items_in c.args.self.now.declarations.now in
     let old = c.args.code.now in
     let first = expression_fragment items c.in-Chain.first in
-    let begun : c.emit_expression-in-Chain.new.code ≡ append old (first old) =
-    c.in_ok-emit_expression-in-Chain.ensures
-    ∙ ap (λ (e : Expression). append old (expression_fragment items e old)) c.get-in-Chain.ensures in
-    is_so c.emit_chain.result
-    c.emit_chain.new.code (append old (sequence first (in_order (link_piece items) c.as_slice.result.now) old))
-    (append old (expression_fragment items c.args.one.now old))
+    on_ok c.emit_chain.result
     (ends_so c.emit_chain.result first (in_order (link_piece items) c.as_slice.result.now) old
-    c.emit_expression-in-Chain.new.code c.emit_chain.new.code begun c.emit_chain.ensures)
-    (ap (λ (l : List (Operator × Expression)). append old (sequence first (in_order (link_piece items) l) old))
+    c.emit_expression-in-Chain.new.code c.emit_chain.new.code (c.in_ok-emit_expression-in-Chain.ensures
+    ∙ ap (λ (e : Expression). append old (expression_fragment items e old)) c.get-in-Chain.ensures)
+    c.emit_chain.ensures)
+    (λ e. e
+    ∙ ap (λ (l : List (Operator × Expression)). append old (sequence first (in_order (link_piece items) l) old))
     c.as_slice.ensures
     ∙ ap (append old) (sym (chain_is items c.in-Chain.first c.in-Chain.more old)
     ∙ sym (ap (λ (e : Expression). expression_fragment items e old) c.in-Chain.is)))

@@ -38,15 +38,14 @@ use Rattle.declarations.proofs.RuleLayers as layers
 use Rattle.data_instructions.specs.declared.instruction.DataInstruction.TheVariants as i
 use Rattle.file_image.specs.declared.class.StatusClass.TheVariants.{Successful}
 use Rattle.code_image.specs.declared.code.Code.{Code}
-use Rattle.code_image.specs.declared.instruction.Instruction.TheVariants.{Jump, Join}
 use Rattle.codegen.specs.declared.phrases.Way.{Way}
-use Rattle.codegen.specs.Fragments.{Fragment, append, sequence, in_order}
-use Rattle.codegen.specs.Meeting.{branch_code, jump_code, either_fragment, nothing_fragment}
+use Rattle.codegen.specs.Fragments.{append, sequence, in_order}
+use Rattle.codegen.specs.Meeting.{either_fragment, nothing_fragment}
 use Rattle.codegen.specs.DataCode.{work_fragment, take_fragment}
 use Rattle.codegen.specs.ConditionCode.{condition_fragment}
 use Rattle.codegen.specs.StringCode.{string_fragment}
 use Rattle.codegen.specs.UntilCode.{tick_fragment, repetition_fragment, until_before_fragment, until_after_fragment}
-use Rattle.codegen.specs.UntilCode.{until_from_fragment, vary_begin_fragment, vary_on_fragment, until_fragment}
+use Rattle.codegen.specs.UntilCode.{until_from_fragment, vary_begin_fragment, vary_on_fragment}
 use Rattle.codegen.specs.FileCode.{file_fragment, test_fragment, unheard_fragment, on_file_fragment, into_fragment}
 use Rattle.codegen.specs.FileCode.{from_fragment, on_name_fragment}
 use Rattle.codegen.specs.SubjectCode.{first_object, subjects_fragment}
@@ -55,18 +54,18 @@ use Rattle.codegen.specs.Layout.{phrase_fragment}
 use Rattle.codegen.specs.Layout.{phrases_fragment, selection_fragment, conditional_fragment, taken_fragment}
 use Rattle.codegen.specs.Layout.{success_fragment, failure_fragment, status_fragment, statement_on_fragment}
 use Rattle.codegen.specs.Layout.{alone_fragment, file_statement_fragment, statement_fragment}
-use Rattle.codegen.specs.Phrases.{patched_code, IsWay, met_all}
+use Rattle.codegen.specs.Phrases.{IsWay, met_all}
 use Rattle.codegen.proofs.EvaluateKept.{subjects_of, groups_of, other_of}
 use Rattle.codegen.proofs.Opening.{opened_way, opened_longer, with_last, still_ways, groups_go_on, groups_done}
 use Rattle.codegen.proofs.Questions.{whens_rules}
 use Rattle.codegen.proofs.StringCodes.{keeps_string, pointer_kept}
-use Rattle.codegen.proofs.Fragments.{joined_nothing}
-use Rattle.codegen.proofs.Sequences.{then_piece, is_so, ends_so, on_ok}
-use Rattle.codegen.proofs.Meeting.{meeting, phrases_stand}
+use Rattle.codegen.proofs.Sequences.{then_piece, is_so, ends_so, on_ok, three_so}
+use Rattle.codegen.proofs.Meeting.{phrases_stand}
 use Rattle.codegen.proofs.Kept.{front_kept, back_kept, one_kept, item_kept}
 use Rattle.codegen.proofs.FilingKept.{first_kept, read_key_kept, read_into_kept, start_key_kept, record_names_one}
 use Rattle.codegen.proofs.FilingKept.{record_from_kept}
 use Rattle.codegen.proofs.OnFiles.{none_found, one_found}
+use Rattle.codegen.proofs.WaysMet.{ways_met, head_met, heads_met, and_met, or_met, turn_met, way_opened}
 use Rattle.codegen.proofs.emitter.Emitter.+statement.Goals as goal
 
 pub emit_statement-emit_moving-requires-clause-rules : goal.emit_statement-emit_moving-requires-clause-rules
@@ -141,19 +140,16 @@ emit_phrases-returns t c =
     let scope = scope_in c.args.self.now.declarations.now in
     let inside = statement_fragment scope in
     let old = c.args.code.now in
-    let first = phrase_fragment scope inside c.args.one.now.arose in
-    let second = phrase_fragment scope inside c.args.one.now.did_not in
-    let branch = c.in_ok-branch.branch in
-    let other = c.in_ok-other.other in
+    let one = c.args.one.now in
     let so : c.has_phrase.result ≡ true = first_of (search rules, grind (arith, common_steps)) in
-    on_ok c.emit_meeting.result c.emit_meeting.ensures
-    (λ (e : c.emit_meeting.new.code ≡ patched_code branch other c.emit_phrase-2.new.code).
-    meeting first second old c.emit_branch.new.code c.emit_phrase.new.code c.emit_jump.new.code c.emit_phrase-2.new.code
-    c.emit_meeting.new.code branch other
-    c.in_ok-branch.ensures.code c.in_ok-branch.ensures.address c.in_ok-emit_phrase.ensures c.in_ok-other.ensures.code
-    c.in_ok-other.ensures.other c.in_ok-emit_phrase-2.ensures e
-    ∙ ap (append old)
-    (phrases_stand scope inside c.args.one.now.arose c.args.one.now.did_not old (sym c.has_phrase.ensures ∙ so)))
+    on_ok c.emit_meeting.result
+    (ways_met c.emit_meeting.result (phrase_fragment scope inside one.arose) (phrase_fragment scope inside one.did_not)
+    old c.emit_branch.new.code c.emit_phrase.new.code c.emit_jump.new.code c.emit_phrase-2.new.code
+    c.emit_meeting.new.code c.in_ok-branch.branch c.in_ok-other.other c.in_ok-branch.ensures.code
+    c.in_ok-branch.ensures.address c.in_ok-emit_phrase.ensures c.in_ok-other.ensures.code c.in_ok-other.ensures.other
+    c.in_ok-emit_phrase-2.ensures c.emit_meeting.ensures)
+    (λ e. e ∙ ap (append old)
+    (phrases_stand scope inside one.arose one.did_not old (sym c.has_phrase.ensures ∙ so)))
 
 pub emit_phrase-emit_statements-requires : goal.emit_phrase-emit_statements-requires
 emit_phrase-emit_statements-requires t c =
@@ -224,27 +220,18 @@ emit_counted-emit_taking-requires-clause-rules t c =
 pub emit_counted-returns : goal.emit_counted-returns
 emit_counted-returns t c =
     let scope = scope_in c.args.self.now.declarations.now in
-    let old = c.args.code.now in
     let found = c.emit_taking.new.code in
-    let begun = c.emit_count_begin.new.code in
     let branched = c.emit_branch.new.code in
-    let middle = c.emit_jump.new.code in
-    let new = c.emit_meeting.new.code in
-    let number = take_fragment scope.items i.Push c.args.item.now in
     let turn = turn_fragment scope (statement_fragment scope) c.args.line c.args.one.now in
-    let first = counted_turn (length found.instructions) turn in
-    let branch = c.in_ok-branch.branch in
-    let other = c.in_ok-other.other in
-    let inner : c.emit_counted_turn.new.code ≡ append branched (first branched) =
-    c.in_ok-emit_counted_turn.ensures
-    ∙ ap (λ n. append branched (counted_turn n turn branched)) c.in_ok-begin.ensures.begin in
-    on_ok c.emit_meeting.result c.emit_meeting.ensures
-    (λ (m : new ≡ patched_code branch other middle).
-    then_piece number (counted_fragment turn) old found new c.in_ok-emit_taking.ensures
-    (then_piece count_begin (either_fragment first nothing_fragment) found begun new c.in_ok-begin.ensures.code
-    (meeting first nothing_fragment begun branched c.emit_counted_turn.new.code middle middle new branch other
-    c.in_ok-branch.ensures.code c.in_ok-branch.ensures.address inner c.in_ok-other.ensures.code
-    c.in_ok-other.ensures.other (sym (joined_nothing middle)) m)))
+    on_ok c.emit_meeting.result
+    (and_met c.emit_meeting.result count_begin (counted_turn (length found.instructions) turn) found
+    c.emit_count_begin.new.code branched c.emit_counted_turn.new.code c.emit_jump.new.code c.emit_meeting.new.code
+    c.in_ok-branch.branch c.in_ok-other.other c.in_ok-begin.ensures.code c.in_ok-branch.ensures.code
+    c.in_ok-branch.ensures.address (c.in_ok-emit_counted_turn.ensures
+    ∙ ap (λ n. append branched (counted_turn n turn branched)) c.in_ok-begin.ensures.begin)
+    c.in_ok-other.ensures.code c.in_ok-other.ensures.other c.emit_meeting.ensures)
+    (then_piece (take_fragment scope.items i.Push c.args.item.now) (counted_fragment turn) c.args.code.now found
+    c.emit_meeting.new.code c.in_ok-emit_taking.ensures)
 
 pub emit_counted_turn-returns : goal.emit_counted_turn-returns
 emit_counted_turn-returns t c =
@@ -322,28 +309,17 @@ pub emit_branching-returns-in_ok-emit_phrase-in-If : goal.emit_branching-returns
 emit_branching-returns-in_ok-emit_phrase-in-If t c =
     let scope = scope_in c.args.self.now.declarations.now in
     let inside = statement_fragment scope in
-    let old = c.args.code.now in
-    let new = c.emit_meeting.new.code in
-    let tick = tick_fragment c.args.line in
-    let test = condition_fragment scope.items c.in-If.condition in
-    let first = in_order inside c.as_slice.result.now in
-    let second = phrase_fragment scope inside c.in-If.otherwise in
-    let ways = either_fragment first second in
-    let branch = c.in_ok-branch-in-If.branch in
-    let other = c.in_ok-other-in-If.other in
     let e : c.args.one.now ≡ If c.in-If.condition c.as_slice.result.now c.in-If.otherwise =
     c.in-If.is ∙ ap (λ (l : List Statement). If c.in-If.condition l c.in-If.otherwise) (sym c.as_slice.ensures) in
-    on_ok c.emit_meeting.result c.emit_meeting.ensures
-    (λ (m : new ≡ patched_code branch other c.emit_phrase.new.code).
-    then_piece tick (sequence test ways) old c.emit_tick.new.code new c.in_ok-emit_tick.ensures
-    (then_piece test ways c.emit_tick.new.code c.emit_condition.new.code new c.in_ok-emit_condition-in-If.ensures
-    (meeting first second c.emit_condition.new.code c.emit_branch.new.code c.emit_statements.new.code
-    c.emit_jump.new.code c.emit_phrase.new.code new branch other
-    c.in_ok-branch-in-If.ensures.code c.in_ok-branch-in-If.ensures.address c.in_ok-emit_statements-in-If.ensures
-    c.in_ok-other-in-If.ensures.code
-    c.in_ok-other-in-If.ensures.other c.in_ok-emit_phrase-in-If.ensures m))
-    ∙ sym
-    (ap (λ (b : ConditionalStatement Statement). append old (conditional_fragment scope inside c.args.line b old)) e))
+    on_ok c.emit_meeting.result (heads_met c.emit_meeting.result (tick_fragment c.args.line)
+    (condition_fragment scope.items c.in-If.condition) (in_order inside c.as_slice.result.now)
+    (phrase_fragment scope inside c.in-If.otherwise) c.args.code.now c.emit_tick.new.code c.emit_condition.new.code
+    c.emit_branch.new.code c.emit_statements.new.code c.emit_jump.new.code c.emit_phrase.new.code
+    c.emit_meeting.new.code c.in_ok-branch-in-If.branch c.in_ok-other-in-If.other c.in_ok-emit_tick.ensures
+    c.in_ok-emit_condition-in-If.ensures c.in_ok-branch-in-If.ensures.code c.in_ok-branch-in-If.ensures.address
+    c.in_ok-emit_statements-in-If.ensures c.in_ok-other-in-If.ensures.code c.in_ok-other-in-If.ensures.other
+    c.in_ok-emit_phrase-in-If.ensures c.emit_meeting.ensures) (λ m. m ∙ sym (ap (λ (b : ConditionalStatement Statement).
+    append c.args.code.now (conditional_fragment scope inside c.args.line b c.args.code.now)) e))
 
 pub emit_selected-emit_whens-requires-clause-rules : goal.emit_selected-emit_whens-requires-clause-rules
 emit_selected-emit_whens-requires-clause-rules t c =
@@ -372,29 +348,15 @@ emit_selected-returns t c =
     let scope = scope_in c.args.self.now.declarations.now in
     let old = c.args.code.now in
     let one = c.args.one.now in
-    let asks = c.emit_whens.new.code in
-    let after = c.emit_jump.new.code in
-    let done = c.emit_statements.new.code in
-    let test = condition_fragment scope.items (selected_condition scope.items c.args.subjects.now one) in
-    let first = in_order (statement_fragment scope) one.statements in
-    let branch_piece : Fragment = λ now. branch_code 0 in
-    let jump_piece : Fragment = λ now. jump_code 0 in
-    let begun : asks ≡ append old (test old) =
-    c.in_ok-emit_whens.ensures ∙ ap (λ (l : List When). append old (condition_fragment scope.items
-    (Any (when_conditions scope.items c.args.subjects.now l)) old)) c.as_slice.ensures in
-    let inner : done ≡ append c.emit_branch.new.code (first c.emit_branch.new.code) =
-    c.in_ok-emit_statements.ensures
-    ∙ ap (λ (l : List Statement). append c.emit_branch.new.code
-    (in_order (statement_fragment scope) l c.emit_branch.new.code)) c.as_slice-2.ensures in
-    record {
-      code = then_piece test (sequence branch_piece (sequence first jump_piece)) old asks after begun
-          (then_piece branch_piece (sequence first jump_piece) asks c.emit_branch.new.code after
-          c.in_ok-branch.ensures.code
-          (then_piece first jump_piece c.emit_branch.new.code done after inner c.in_ok-other.ensures.code));
-      branch = c.in_ok-branch.ensures.address ∙ ap (λ (k : Code). length k.instructions) begun;
-      other = c.in_ok-other.ensures.other ∙ sym (length-append done.instructions (Jump 0 ∷ Join ∷ []))
-          ∙ sym (ap (λ (k : Code). length k.instructions) c.in_ok-other.ensures.code);
-    }
+    let branched = c.emit_branch.new.code in
+    way_opened (condition_fragment scope.items (selected_condition scope.items c.args.subjects.now one))
+    (in_order (statement_fragment scope) one.statements) old c.emit_whens.new.code branched c.emit_statements.new.code
+    c.emit_jump.new.code c.in_ok-branch.branch c.in_ok-other.other
+    (c.in_ok-emit_whens.ensures ∙ ap (λ (l : List When). append old (condition_fragment scope.items
+    (Any (when_conditions scope.items c.args.subjects.now l)) old)) c.as_slice.ensures)
+    c.in_ok-branch.ensures.code (c.in_ok-emit_statements.ensures ∙ ap (λ (l : List Statement).
+    append branched (in_order (statement_fragment scope) l branched)) c.as_slice-2.ensures)
+    c.in_ok-other.ensures.code c.in_ok-branch.ensures.address c.in_ok-other.ensures.other
 
 pub emit_groups-emit_selected-requires : goal.emit_groups-emit_selected-requires
 emit_groups-emit_selected-requires t c =
@@ -491,16 +453,13 @@ pub emit_evaluate-returns : goal.emit_evaluate-returns
 emit_evaluate-returns t c =
     let scope = scope_in c.args.self.now.declarations.now in
     let inside = statement_fragment scope in
-    let old = c.args.code.now in
     let one = c.args.one.now in
     let now = c.emit_subjects.new.code in
-    let ways = c.in_ok-ways.ways.items in
     on_ok c.emit_meetings.result c.emit_meetings.ensures
-    (λ (e : c.emit_meetings.new.code ≡ met_all ways c.emit_phrase.new.code).
-    then_piece (subjects_fragment scope.items one.subjects (first_object one.selected))
-    (selection_fragment scope inside one.subjects one.selected one.other) old now
+    (λ e. then_piece (subjects_fragment scope.items one.subjects (first_object one.selected))
+    (selection_fragment scope inside one.subjects one.selected one.other) c.args.code.now now
     c.emit_meetings.new.code c.in_ok-emit_subjects.ensures
-    (e ∙ ap (met_all ways) c.in_ok-emit_phrase.ensures ∙ c.in_ok-ways.ensures.same one.other
+    (e ∙ ap (met_all c.in_ok-ways.ways.items) c.in_ok-emit_phrase.ensures ∙ c.in_ok-ways.ensures.same one.other
     ∙ ap (λ (l : List Subject). append now (selection_fragment scope inside l c.as_slice-2.result.now one.other now))
     c.as_slice.ensures
     ∙ ap (λ (l : List (Selected Statement)). append now (selection_fragment scope inside one.subjects l one.other now))
@@ -521,13 +480,11 @@ emit_until-returns-in-Before t c =
     let test = condition_fragment scope.items one.condition in
     let onward = vary_on_fragment scope.items one.varying in
     let turn = turn_fragment scope (statement_fragment scope) c.args.line c.args.performed.now in
-    let turns = until_before_fragment test onward turn in
-    is_so c.emit_until_before.result c.emit_until_before.new.code (append old (sequence begin turns old))
-    (append old (until_fragment scope.items one turn old))
-    (ends_so c.emit_until_before.result begin turns old c.emit_vary_begin.new.code c.emit_until_before.new.code
-    c.in_ok-emit_vary_begin.ensures c.emit_until_before.ensures)
-    (sym (ap (λ (w : TestTime). append old (sequence begin (until_from_fragment w test onward turn) old))
-    c.in-Before.is))
+    on_ok c.emit_until_before.result
+    (ends_so c.emit_until_before.result begin (until_before_fragment test onward turn) old c.emit_vary_begin.new.code
+    c.emit_until_before.new.code c.in_ok-emit_vary_begin.ensures c.emit_until_before.ensures)
+    (λ e. e ∙ sym (ap (λ (w : TestTime).
+    append old (sequence begin (until_from_fragment w test onward turn) old)) c.in-Before.is))
 
 pub emit_until-returns-in-After : goal.emit_until-returns-in-After
 emit_until-returns-in-After t c =
@@ -538,13 +495,11 @@ emit_until-returns-in-After t c =
     let test = condition_fragment scope.items one.condition in
     let onward = vary_on_fragment scope.items one.varying in
     let turn = turn_fragment scope (statement_fragment scope) c.args.line c.args.performed.now in
-    let turns = until_after_fragment test onward turn in
-    is_so c.emit_until_after.result c.emit_until_after.new.code (append old (sequence begin turns old))
-    (append old (until_fragment scope.items one turn old))
-    (ends_so c.emit_until_after.result begin turns old c.emit_vary_begin.new.code c.emit_until_after.new.code
-    c.in_ok-emit_vary_begin.ensures c.emit_until_after.ensures)
-    (sym
-    (ap (λ (w : TestTime). append old (sequence begin (until_from_fragment w test onward turn) old)) c.in-After.is))
+    on_ok c.emit_until_after.result
+    (ends_so c.emit_until_after.result begin (until_after_fragment test onward turn) old c.emit_vary_begin.new.code
+    c.emit_until_after.new.code c.in_ok-emit_vary_begin.ensures c.emit_until_after.ensures)
+    (λ e. e ∙ sym (ap (λ (w : TestTime).
+    append old (sequence begin (until_from_fragment w test onward turn) old)) c.in-After.is))
 
 pub emit_until_before-emit_condition-requires-clause-rules : goal.emit_until_before-emit_condition-requires-clause-rules
 emit_until_before-emit_condition-requires-clause-rules t c =
@@ -555,21 +510,14 @@ emit_until_before-emit_condition-requires-clause-rules t c =
 pub emit_until_before-returns : goal.emit_until_before-returns
 emit_until_before-returns t c =
     let scope = scope_in c.args.self.now.declarations.now in
-    let one = c.args.one.now in
-    let old = c.args.code.now in
-    let test = condition_fragment scope.items one.condition in
-    let turn = repetition_fragment (turn_fragment scope (statement_fragment scope) c.args.line c.args.performed.now)
-    (sequence (vary_on_fragment scope.items one.varying) test) in
-    let branch = c.in_ok-branch.branch in
-    let other = c.in_ok-other.other in
-    on_ok c.emit_meeting.result c.emit_meeting.ensures
-    (λ (e : c.emit_meeting.new.code ≡ patched_code branch other c.emit_turn_before.new.code).
-    then_piece test (either_fragment nothing_fragment turn) old c.emit_condition.new.code c.emit_meeting.new.code
-    c.in_ok-emit_condition.ensures
-    (meeting nothing_fragment turn c.emit_condition.new.code c.emit_branch.new.code c.emit_branch.new.code
-    c.emit_jump.new.code c.emit_turn_before.new.code c.emit_meeting.new.code branch other
-    c.in_ok-branch.ensures.code c.in_ok-branch.ensures.address (sym (joined_nothing c.emit_branch.new.code))
-    c.in_ok-other.ensures.code c.in_ok-other.ensures.other c.in_ok-emit_turn_before.ensures e))
+    let test = condition_fragment scope.items c.args.one.now.condition in
+    let turn = turn_fragment scope (statement_fragment scope) c.args.line c.args.performed.now in
+    or_met c.emit_meeting.result test
+    (repetition_fragment turn (sequence (vary_on_fragment scope.items c.args.one.now.varying) test)) c.args.code.now
+    c.emit_condition.new.code c.emit_branch.new.code c.emit_jump.new.code c.emit_turn_before.new.code
+    c.emit_meeting.new.code c.in_ok-branch.branch c.in_ok-other.other c.in_ok-emit_condition.ensures
+    c.in_ok-branch.ensures.code c.in_ok-branch.ensures.address c.in_ok-other.ensures.code
+    c.in_ok-other.ensures.other c.in_ok-emit_turn_before.ensures c.emit_meeting.ensures
 
 pub emit_turn_before-emit_vary_on-requires-clause-rules : goal.emit_turn_before-emit_vary_on-requires-clause-rules
 emit_turn_before-emit_vary_on-requires-clause-rules t c =
@@ -587,21 +535,12 @@ pub emit_turn_before-returns : goal.emit_turn_before-returns
 emit_turn_before-returns t c =
     let scope = scope_in c.args.self.now.declarations.now in
     let one = c.args.one.now in
-    let old = c.args.code.now in
-    let result = c.emit_way_back.result in
-    let new = c.emit_way_back.new.code in
-    let test = condition_fragment scope.items one.condition in
-    let onward = vary_on_fragment scope.items one.varying in
-    let turn = turn_fragment scope (statement_fragment scope) c.args.line c.args.performed.now in
-    let behind = sequence onward test in
-    is_so result new (append old (sequence (sequence turn behind) (λ b. branch_code c.len-begin.result) old))
-    (append old (repetition_fragment turn behind old))
-    (ends_so result (sequence turn behind) (λ b. branch_code c.len-begin.result) old c.emit_condition.new.code new
-    (then_piece turn behind old c.emit_turn.new.code c.emit_condition.new.code c.in_ok-emit_turn.ensures
-    (then_piece onward test c.emit_turn.new.code c.emit_vary_on.new.code c.emit_condition.new.code
-    c.in_ok-emit_vary_on.ensures c.in_ok-emit_condition.ensures))
-    c.emit_way_back.ensures)
-    (ap (λ n. append old (sequence (sequence turn behind) (λ b. branch_code n) old)) c.len-begin.ensures)
+    turn_met c.emit_way_back.result
+    (turn_fragment scope (statement_fragment scope) c.args.line c.args.performed.now)
+    (vary_on_fragment scope.items one.varying) (condition_fragment scope.items one.condition) c.len-begin.result
+    c.args.code.now c.emit_turn.new.code c.emit_vary_on.new.code c.emit_condition.new.code c.emit_way_back.new.code
+    c.len-begin.ensures c.in_ok-emit_turn.ensures c.in_ok-emit_vary_on.ensures c.in_ok-emit_condition.ensures
+    c.emit_way_back.ensures
 
 pub emit_until_after-emit_condition-requires-clause-rules : goal.emit_until_after-emit_condition-requires-clause-rules
 emit_until_after-emit_condition-requires-clause-rules t c =
@@ -619,22 +558,13 @@ pub emit_until_after-returns : goal.emit_until_after-returns
 emit_until_after-returns t c =
     let scope = scope_in c.args.self.now.declarations.now in
     let one = c.args.one.now in
-    let old = c.args.code.now in
-    let result = c.emit_way_back.result in
-    let new = c.emit_way_back.new.code in
-    let test = condition_fragment scope.items one.condition in
     let way = either_fragment nothing_fragment
     (sequence (vary_on_fragment scope.items one.varying) (work_fragment i.ClearTruth)) in
-    let turn = turn_fragment scope (statement_fragment scope) c.args.line c.args.performed.now in
-    let behind = sequence test way in
-    is_so result new (append old (sequence (sequence turn behind) (λ b. branch_code c.len-begin.result) old))
-    (append old (repetition_fragment turn behind old))
-    (ends_so result (sequence turn behind) (λ b. branch_code c.len-begin.result) old c.emit_onward.new.code new
-    (then_piece turn behind old c.emit_turn.new.code c.emit_onward.new.code c.in_ok-emit_turn.ensures
-    (then_piece test way c.emit_turn.new.code c.emit_condition.new.code c.emit_onward.new.code
-    c.in_ok-emit_condition.ensures c.in_ok-emit_onward.ensures))
-    c.emit_way_back.ensures)
-    (ap (λ n. append old (sequence (sequence turn behind) (λ b. branch_code n) old)) c.len-begin.ensures)
+    turn_met c.emit_way_back.result
+    (turn_fragment scope (statement_fragment scope) c.args.line c.args.performed.now)
+    (condition_fragment scope.items one.condition) way c.len-begin.result c.args.code.now c.emit_turn.new.code
+    c.emit_condition.new.code c.emit_onward.new.code c.emit_way_back.new.code c.len-begin.ensures
+    c.in_ok-emit_turn.ensures c.in_ok-emit_condition.ensures c.in_ok-emit_onward.ensures c.emit_way_back.ensures
 
 pub emit_stringing-emit_string-requires-clause-sendings : goal.emit_stringing-emit_string-requires-clause-sendings
 emit_stringing-emit_string-requires-clause-sendings t c =
@@ -721,15 +651,13 @@ emit_filing-returns-in-Read t c =
     let inside = statement_fragment scope in
     let old = c.args.code.now in
     let tick = tick_fragment c.args.line in
-    let verb = λ (file : ProgramFile). meaning.read_verb scope.items file c.in-Read.next c.in-Read.key in
     let piece = on_name_fragment scope.items scope.files c.in-Read.file
-    (statement_on_fragment scope inside c.in-Read.phrases (into_fragment scope.items c.in-Read.into) verb) in
-    let result = c.emit_read.result in
-    let new = c.emit_read.new.code in
-    is_so result new (append old (sequence tick piece old))
-    (append old (sequence tick (file_statement_fragment scope inside c.args.one.now) old))
-    (ends_so result tick piece old c.emit_tick.new.code new c.in_ok-emit_tick.ensures c.emit_read.ensures)
-    (sym (ap (λ (one : FileStatement Statement).
+    (statement_on_fragment scope inside c.in-Read.phrases (into_fragment scope.items c.in-Read.into)
+    (λ (file : ProgramFile). meaning.read_verb scope.items file c.in-Read.next c.in-Read.key)) in
+    on_ok c.emit_read.result
+    (ends_so c.emit_read.result tick piece old c.emit_tick.new.code c.emit_read.new.code c.in_ok-emit_tick.ensures
+    c.emit_read.ensures)
+    (λ e. e ∙ sym (ap (λ (one : FileStatement Statement).
     append old (sequence tick (file_statement_fragment scope inside one) old)) c.in-Read.is))
 
 pub emit_read-read_verb-requires-clause-rules : goal.emit_read-read_verb-requires-clause-rules
@@ -766,19 +694,16 @@ pub emit_read-returns : goal.emit_read-returns
 emit_read-returns t c =
     let scope = scope_in c.args.self.now.declarations.now in
     let inside = statement_fragment scope in
-    let old = c.args.code.now in
     let phrases = c.args.phrases.now in
     let known = file_in scope.items c.in-Some.file.now in
-    let found = first (files_named scope.files c.args.name.now) in
     let piece = statement_on_fragment scope inside phrases (into_fragment scope.items c.args.into.now)
     (λ (file : ProgramFile). meaning.read_verb scope.items file c.args.next c.args.key.now) in
     let behind =
     status_fragment scope inside known.places.status phrases (into_fragment scope.items c.args.into.now known) in
-    let made = sequence (file_fragment c.in_ok-verb.verb known) behind in
-    is_so c.emit_on_file.result c.emit_on_file.new.code (append old (made old))
-    (append old (on_file_fragment found piece old)) c.emit_on_file.ensures
-    (one_found found piece known made old c.in-Some.ensures
-    (ap (λ (verb : Verb). sequence (file_fragment verb known) behind old) c.in_ok-verb.ensures))
+    on_ok c.emit_on_file.result c.emit_on_file.ensures
+    (λ e. e ∙ one_found (first (files_named scope.files c.args.name.now)) piece known
+    (sequence (file_fragment c.in_ok-verb.verb known) behind) c.args.code.now c.in-Some.ensures
+    (ap (λ (verb : Verb). sequence (file_fragment verb known) behind c.args.code.now) c.in_ok-verb.ensures))
 
 pub emit_record-emit_from-requires-clause-rules : goal.emit_record-emit_from-requires-clause-rules
 emit_record-emit_from-requires-clause-rules t c =
@@ -805,21 +730,16 @@ emit_record-returns-in_default t c =
 pub emit_record-returns : goal.emit_record-returns
 emit_record-returns t c =
     let scope = scope_in c.args.self.now.declarations.now in
-    let inside = statement_fragment scope in
-    let old = c.args.code.now in
     let now = c.emit_from.new.code in
-    let new = c.emit_on_file.new.code in
-    let result = c.emit_on_file.result in
     let one = c.args.one.now in
-    let phrases = c.args.phrases.now in
     let known = file_in scope.items c.in-Some.file.now in
     let found = file_with_record scope.files (first (items_named scope.items one.item)) in
-    let piece = alone_fragment scope inside phrases (λ (file : ProgramFile). c.args.verb) in
-    let from = from_fragment scope.items one c.args.from.now in
-    ends_so result from (on_file_fragment found piece) old now new c.in_ok-emit_from.ensures
-    (is_so result new (append now (piece known now)) (append now (on_file_fragment found piece now))
-    c.emit_on_file.ensures
-    (one_found found piece known (piece known) now c.in-Some.ensures refl))
+    let piece =
+    alone_fragment scope (statement_fragment scope) c.args.phrases.now (λ (file : ProgramFile). c.args.verb) in
+    ends_so c.emit_on_file.result (from_fragment scope.items one c.args.from.now) (on_file_fragment found piece)
+    c.args.code.now now c.emit_on_file.new.code c.in_ok-emit_from.ensures
+    (on_ok c.emit_on_file.result c.emit_on_file.ensures
+    (λ e. e ∙ one_found found piece known (piece known) now c.in-Some.ensures refl))
 
 pub emit_delete-returns-in_default : goal.emit_delete-returns-in_default
 emit_delete-returns-in_default t c =
@@ -860,47 +780,31 @@ pub emit_starting-returns : goal.emit_starting-returns
 emit_starting-returns t c =
     let scope = scope_in c.args.self.now.declarations.now in
     let inside = statement_fragment scope in
-    let old = c.args.code.now in
     let phrases = c.args.phrases.now in
     let known = file_in scope.items c.in-Some.file.now in
-    let found = first (files_named scope.files c.args.name.now) in
     let piece =
     alone_fragment scope inside phrases (λ (file : ProgramFile). meaning.start_verb scope.items file c.args.key.now) in
     let behind = status_fragment scope inside known.places.status phrases nothing_fragment in
-    let made = sequence (file_fragment c.in_ok-verb.verb known) behind in
-    is_so c.emit_on_file.result c.emit_on_file.new.code (append old (made old))
-    (append old (on_file_fragment found piece old)) c.emit_on_file.ensures
-    (one_found found piece known made old c.in-Some.ensures
-    (ap (λ (verb : Verb). sequence (file_fragment verb known) behind old) c.in_ok-verb.ensures))
+    on_ok c.emit_on_file.result c.emit_on_file.ensures
+    (λ e. e ∙ one_found (first (files_named scope.files c.args.name.now)) piece known
+    (sequence (file_fragment c.in_ok-verb.verb known) behind) c.args.code.now c.in-Some.ensures
+    (ap (λ (verb : Verb). sequence (file_fragment verb known) behind c.args.code.now) c.in_ok-verb.ensures))
 
 pub emit_on_file-returns : goal.emit_on_file-returns
 emit_on_file-returns t c =
     let scope = scope_in c.args.self.now.declarations.now in
     let inside = statement_fragment scope in
-    let old = c.args.code.now in
-    let phrases = c.args.phrases.now in
     let known = file_in scope.items c.args.file.now in
-    let tested = c.emit_test.new.code in
-    let branched = c.emit_branch.new.code in
-    let done = c.emit_success.new.code in
-    let new = c.emit_meeting.new.code in
-    let file = file_fragment c.args.verb known in
-    let test = test_fragment Successful in
     let into = into_fragment scope.items c.args.into.now known in
-    let success = success_fragment scope inside phrases in
-    let first_way = sequence into success in
-    let failure = failure_fragment scope inside known.places.status phrases in
-    let ways = either_fragment first_way failure in
-    let branch = c.in_ok-branch.branch in
-    let other = c.in_ok-other.other in
-    on_ok c.emit_meeting.result c.emit_meeting.ensures
-    (λ (m : new ≡ patched_code branch other c.emit_failure.new.code).
-    then_piece file (sequence test ways) old c.emit_file.new.code new c.in_ok-emit_file.ensures
-    (then_piece test ways c.emit_file.new.code tested new c.in_ok-emit_test.ensures
-    (meeting first_way failure tested branched done c.emit_jump.new.code c.emit_failure.new.code new branch other
-    c.in_ok-branch.ensures.code c.in_ok-branch.ensures.address
-    (then_piece into success branched c.emit_into.new.code done c.in_ok-emit_into.ensures c.in_ok-emit_success.ensures)
-    c.in_ok-other.ensures.code c.in_ok-other.ensures.other c.in_ok-emit_failure.ensures m)))
+    let success = success_fragment scope inside c.args.phrases.now in
+    heads_met c.emit_meeting.result (file_fragment c.args.verb known) (test_fragment Successful)
+    (sequence into success) (failure_fragment scope inside known.places.status c.args.phrases.now) c.args.code.now
+    c.emit_file.new.code c.emit_test.new.code c.emit_branch.new.code c.emit_success.new.code c.emit_jump.new.code
+    c.emit_failure.new.code c.emit_meeting.new.code c.in_ok-branch.branch c.in_ok-other.other
+    c.in_ok-emit_file.ensures c.in_ok-emit_test.ensures c.in_ok-branch.ensures.code c.in_ok-branch.ensures.address
+    (then_piece into success c.emit_branch.new.code c.emit_into.new.code c.emit_success.new.code
+    c.in_ok-emit_into.ensures c.in_ok-emit_success.ensures)
+    c.in_ok-other.ensures.code c.in_ok-other.ensures.other c.in_ok-emit_failure.ensures c.emit_meeting.ensures
 
 pub emit_success-emit_phrase-requires : goal.emit_success-emit_phrase-requires
 emit_success-emit_phrase-requires t c =
@@ -961,23 +865,14 @@ emit_failure-emit_class_phrase-requires-in-InvalidKey t c =
 pub emit_class_phrase-returns : goal.emit_class_phrase-returns
 emit_class_phrase-returns t c =
     let scope = scope_in c.args.self.now.declarations.now in
-    let old = c.args.code.now in
-    let tested = c.emit_test.new.code in
-    let new = c.emit_meeting.new.code in
     let status = (file_in scope.items c.args.file.now).places.status in
-    let test = test_fragment c.args.class in
-    let first_way = taken_fragment scope (statement_fragment scope) status c.args.arose.now in
-    let unheard = unheard_fragment status in
-    let branch = c.in_ok-branch.branch in
-    let other = c.in_ok-other.other in
-    on_ok c.emit_meeting.result c.emit_meeting.ensures
-    (λ (m : new ≡ patched_code branch other c.emit_unheard.new.code).
-    then_piece test (either_fragment first_way unheard) old tested new c.in_ok-emit_test.ensures
-    (meeting first_way unheard tested c.emit_branch.new.code c.emit_phrase_taken.new.code c.emit_jump.new.code
-    c.emit_unheard.new.code new branch other
-    c.in_ok-branch.ensures.code c.in_ok-branch.ensures.address c.in_ok-emit_phrase_taken.ensures
-    c.in_ok-other.ensures.code c.in_ok-other.ensures.other
-    c.in_ok-emit_unheard.ensures m))
+    head_met c.emit_meeting.result (test_fragment c.args.class)
+    (taken_fragment scope (statement_fragment scope) status c.args.arose.now) (unheard_fragment status)
+    c.args.code.now c.emit_test.new.code c.emit_branch.new.code c.emit_phrase_taken.new.code c.emit_jump.new.code
+    c.emit_unheard.new.code c.emit_meeting.new.code c.in_ok-branch.branch c.in_ok-other.other
+    c.in_ok-emit_test.ensures c.in_ok-branch.ensures.code c.in_ok-branch.ensures.address
+    c.in_ok-emit_phrase_taken.ensures c.in_ok-other.ensures.code c.in_ok-other.ensures.other
+    c.in_ok-emit_unheard.ensures c.emit_meeting.ensures
 
 pub emit_phrase_taken-emit_statements-requires : goal.emit_phrase_taken-emit_statements-requires
 emit_phrase_taken-emit_statements-requires t c =
@@ -996,16 +891,11 @@ pub emit_stringing-returns : goal.emit_stringing-returns
 emit_stringing-returns t c =
     let scope = scope_in c.args.self.now.declarations.now in
     let one = c.args.one.now in
-    let old = c.args.code.now in
     let ticked = c.emit_tick.new.code in
-    let put = c.emit_string.new.code in
-    let new = c.emit_phrases.new.code in
-    let result = c.emit_phrases.result in
-    let tick = tick_fragment c.args.line in
-    let text = string_fragment scope.items one.sendings one.receiver one.pointer in
-    let phrases = phrases_fragment scope (statement_fragment scope) one.phrases in
-    let is : put ≡ append ticked (text ticked) =
-    c.in_ok-emit_string.ensures ∙ ap (λ (all : List Sending).
-    append ticked (string_fragment scope.items all one.receiver one.pointer ticked)) c.as_slice.ensures in
-    ends_so result tick (sequence text phrases) old ticked new c.in_ok-emit_tick.ensures
-    (ends_so result text phrases ticked put new is c.emit_phrases.ensures)
+    three_so c.emit_phrases.result (tick_fragment c.args.line)
+    (string_fragment scope.items one.sendings one.receiver one.pointer)
+    (phrases_fragment scope (statement_fragment scope) one.phrases) c.args.code.now ticked c.emit_string.new.code
+    c.emit_phrases.new.code c.in_ok-emit_tick.ensures
+    (c.in_ok-emit_string.ensures ∙ ap (λ (all : List Sending).
+    append ticked (string_fragment scope.items all one.receiver one.pointer ticked)) c.as_slice.ensures)
+    c.emit_phrases.ensures

@@ -1,4 +1,4 @@
-use Rattle.std.proofs.Common.{◌≡◌, sym, ap, ◌∙◌}
+use Rattle.std.proofs.Common.{sym, ap, ◌∙◌}
 use Rattle.std.specs.Prelude.{not}
 use Rattle.source_tree.specs.declared.condition.Condition.TheVariants.{Name}
 use Rattle.source_tree.specs.ConditionRules.{condition_rules}
@@ -6,12 +6,12 @@ use Rattle.data_instructions.specs.ConditionCodes.{negation}
 use Rattle.declarations.specs.declared.resolved.AskedCondition.{AskedCondition}
 use Rattle.declarations.specs.Resolved.{condition_meant}
 use Rattle.declarations.specs.Named.{items_in}
-use Rattle.codegen.specs.Fragments.{Fragment, append, sequence}
+use Rattle.codegen.specs.Fragments.{Fragment, append}
 use Rattle.codegen.specs.DataCode.{works_fragment}
 use Rattle.codegen.specs.ConditionCode.{condition_fragment}
 use Rattle.codegen.proofs.ConditionLayers.{name_is, name_rules}
 use Rattle.codegen.proofs.Questions.{unless_is, told_rules}
-use Rattle.codegen.proofs.Sequences.{is_so, ends_so}
+use Rattle.codegen.proofs.Sequences.{ends_so, on_ok}
 use Rattle.codegen.proofs.emitter.Emitter.emit_asked_condition.Goals as goal
 
 pub emit_condition_name-requires-clause-rules : goal.emit_condition_name-requires-clause-rules
@@ -25,16 +25,11 @@ pub returns-in_ok-emit_condition_name-in-Name : goal.returns-in_ok-emit_conditio
 returns-in_ok-emit_condition_name-in-Name c =
     let items = items_in c.args.self.now.declarations.now in
     let old = c.args.code.now in
-    let result = c.emit_negation.result in
-    let new = c.emit_negation.new.code in
     let named = c.in-Name.reference.now in
-    let test = condition_fragment items (Name named) in
-    let behind = works_fragment (negation c.in-Name.negated) in
-    let begun : c.emit_condition_name.new.code ≡ append old (test old) =
-    c.in_ok-emit_condition_name-in-Name.ensures
-    ∙ ap (λ (p : Fragment). append old (p old)) (sym (name_is items named)) in
-    is_so result new (append old (sequence test behind old))
-    (append old (condition_fragment items (condition_meant c.args.one) old))
-    (ends_so result test behind old c.emit_condition_name.new.code new begun c.emit_negation.ensures)
-    (ap (append old) (unless_is items (Name named) c.in-Name.negated old)
-    ∙ sym (ap (λ (one : AskedCondition). append old (condition_fragment items (condition_meant one) old)) c.in-Name.is))
+    on_ok c.emit_negation.result
+    (ends_so c.emit_negation.result (condition_fragment items (Name named))
+    (works_fragment (negation c.in-Name.negated)) old c.emit_condition_name.new.code c.emit_negation.new.code
+    (c.in_ok-emit_condition_name-in-Name.ensures
+    ∙ ap (λ (p : Fragment). append old (p old)) (sym (name_is items named))) c.emit_negation.ensures)
+    (λ e. e ∙ ap (append old) (unless_is items (Name named) c.in-Name.negated old) ∙ sym
+    (ap (λ (one : AskedCondition). append old (condition_fragment items (condition_meant one) old)) c.in-Name.is))

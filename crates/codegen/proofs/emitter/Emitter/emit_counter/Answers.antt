@@ -29,14 +29,12 @@ returns c =
     let one = c.args.one.now in
     let a = c.emit_reference.new.code in
     let b = c.emit_all_tallied.new.code in
-    let old = c.args.made.now in
     let new = c.emit_all_tallied.new.made in
-    let made = subst (λ l. Puts items (all_inspected tallied_entries l) a b old new)
+    let made = subst (λ l. Puts items (all_inspected tallied_entries l) a b c.args.made.now new)
     c.as_slice.ensures c.in_ok-emit_all_tallied.ensures in
-    let count = put_count items (counter_entries one) a b old new made in
+    let count = put_count items (counter_entries one) a b c.args.made.now new made in
     let number : c.in_ok-entry_number.field-0 ≡ length (counter_entries one) =
     omega (arith, c.in_ok-entry_number.ensures, c.len.ensures, c.len-before.ensures, count) in
     on_ok c.push.result c.push.ensures.ok
-    (λ e. counter_put items one c.args.code.now a b old new c.args.counters.now
-    c.push.new.self c.in_ok-emit_reference.ensures made
-    (e ∙ ap (λ n. c.args.counters.now ++ n ∷ []) number))
+    (λ e. counter_put items one c.args.code.now a b c.args.made.now new c.args.counters.now c.push.new.self
+    c.in_ok-emit_reference.ensures made (e ∙ ap (λ n. c.args.counters.now ++ n ∷ []) number))

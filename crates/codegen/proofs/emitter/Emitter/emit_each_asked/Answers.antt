@@ -5,8 +5,8 @@ use Rattle.source_tree.specs.Broken.{each}
 use Rattle.source_tree.specs.ConditionRules.{condition_rules}
 use Rattle.source_tree.specs.Evaluate.{object_conditions}
 use Rattle.declarations.specs.Named.{items_in}
-use Rattle.codegen.specs.Fragments.{append, in_order}
-use Rattle.codegen.proofs.Questions.{further_piece, pair_rules, pairs_rules, pairs_go_on}
+use Rattle.codegen.proofs.Questions.{pair_rules}
+use Rattle.codegen.proofs.AskedPairs.{pairs_next, pairs_kept}
 use Rattle.codegen.proofs.emitter.Emitter.emit_each_asked.Goals as goal
 
 pub emit_and_asked-requires-clause-rules : goal.emit_and_asked-requires-clause-rules
@@ -27,18 +27,10 @@ pairs-preserved c =
     let more = c.in-Some.more.now in
     let object = c.in-Some-split_first.object.now in
     let others = c.in-Some-split_first.others.now in
-    let now = c.pairs.code in
-    let kept = each (condition_rules items) in
     record {
-      same = pairs_go_on items subject more object others now c.emit_and_asked.new.code c.in_ok-emit_and_asked.ensures
-          ∙ sym (ap (λ (l : List Subject). append now
-          (in_order (further_piece items) (object_conditions items l c.pairs.rest.now) now)) c.in-Some.ensures.cases.0
-          ∙ ap (λ (l : List Object). append now (in_order (further_piece items)
-          (object_conditions items (subject ∷ more) l) now)) c.in-Some-split_first.ensures.cases.0)
+      same = pairs_next items subject more object others _ c.pairs.rest.now c.in-Some.ensures.cases.0
+          c.in-Some-split_first.ensures.cases.0 c.pairs.code c.emit_and_asked.new.code c.in_ok-emit_and_asked.ensures
           ∙ c.pairs.invariant.same;
-      rules = pairs_rules items subject more object others
-          (sym (ap (λ (l : List Subject). kept (object_conditions items l c.pairs.rest.now)) c.in-Some.ensures.cases.0
-          ∙ ap (λ (l : List Object). kept (object_conditions items (subject ∷ more) l))
-          c.in-Some-split_first.ensures.cases.0)
-          ∙ c.pairs.invariant.rules);
+      rules = pairs_kept items subject more object others _ c.pairs.rest.now c.in-Some.ensures.cases.0
+          c.in-Some-split_first.ensures.cases.0 c.pairs.invariant.rules;
     }

@@ -1,4 +1,4 @@
-use Rattle.std.proofs.Common.{◌≡◌, List, sym, ap, ◌∙◌}
+use Rattle.std.proofs.Common.{List, sym, ap, ◌∙◌}
 use Rattle.source_tree.specs.declared.condition.Condition.TheVariants.{All}
 use Rattle.source_tree.specs.declared.evaluate_statement.Object.{Object}
 use Rattle.source_tree.specs.Broken.{each}
@@ -8,10 +8,8 @@ use Rattle.declarations.specs.Named.{items_in}
 use Rattle.codegen.specs.Fragments.{append}
 use Rattle.codegen.specs.Meeting.{nothing_fragment}
 use Rattle.codegen.specs.ConditionCode.{condition_fragment}
-use Rattle.codegen.specs.Phrases.{patched_code}
-use Rattle.codegen.proofs.Meeting.{meeting}
 use Rattle.codegen.proofs.Fragments.{joined_nothing}
-use Rattle.codegen.proofs.Sequences.{on_ok}
+use Rattle.codegen.proofs.WaysMet.{ways_met}
 use Rattle.codegen.proofs.emitter.Emitter.emit_or_when.Goals as goal
 
 pub emit_when-requires-clause-rules : goal.emit_when-requires-clause-rules
@@ -23,17 +21,12 @@ emit_when-requires-clause-rules c =
 pub returns : goal.returns
 returns c =
     let items = items_in c.args.self.now.declarations.now in
-    let old = c.args.code.now in
-    let one = condition_fragment items (when_condition items c.args.subjects.now c.args.one.now) in
     let jumped = c.emit_jump.new.code in
-    let branch = c.in_ok-branch.branch in
-    let other = c.in_ok-other.other in
-    let met_one : c.emit_when.new.code ≡ append jumped (one jumped) =
-    c.in_ok-emit_when.ensures ∙ ap (λ (l : List Object). append jumped
-    (condition_fragment items (All (object_conditions items c.args.subjects.now l)) jumped)) c.as_slice.ensures in
-    on_ok c.emit_meeting.result c.emit_meeting.ensures
-    (λ (e : c.emit_meeting.new.code ≡ patched_code branch other c.emit_when.new.code).
-    meeting nothing_fragment one old c.emit_branch.new.code c.emit_branch.new.code jumped c.emit_when.new.code
-    c.emit_meeting.new.code branch other
-    c.in_ok-branch.ensures.code c.in_ok-branch.ensures.address (sym (joined_nothing c.emit_branch.new.code))
-    c.in_ok-other.ensures.code c.in_ok-other.ensures.other met_one e)
+    ways_met c.emit_meeting.result nothing_fragment
+    (condition_fragment items (when_condition items c.args.subjects.now c.args.one.now)) c.args.code.now
+    c.emit_branch.new.code c.emit_branch.new.code jumped c.emit_when.new.code c.emit_meeting.new.code
+    c.in_ok-branch.branch c.in_ok-other.other c.in_ok-branch.ensures.code c.in_ok-branch.ensures.address
+    (sym (joined_nothing c.emit_branch.new.code)) c.in_ok-other.ensures.code c.in_ok-other.ensures.other
+    (c.in_ok-emit_when.ensures ∙ ap (λ (l : List Object). append jumped
+    (condition_fragment items (All (object_conditions items c.args.subjects.now l)) jumped)) c.as_slice.ensures)
+    c.emit_meeting.ensures

@@ -1,15 +1,15 @@
-use Rattle.std.proofs.Common.{rules, ◌≡◌, ℕ, false, [], ◌∷◌, ap, arith}
+use Rattle.std.proofs.Common.{rules, ◌≡◌, ℕ, false, [], ◌∷◌, ap, arith, ◌∙◌}
 use Rattle.std.proofs.lemmas.Grind.{common_steps}
 use Rattle.source_tree.specs.ArithmeticRules.{number_receiver}
 use Rattle.data_instructions.specs.declared.calculation.Calculation.TheVariants as calculation
 use Rattle.data_instructions.specs.declared.instruction.DataInstruction.TheVariants as i
 use Rattle.data_instructions.specs.ArithmeticCodes.{duplicate}
 use Rattle.declarations.specs.Named.{items_in}
-use Rattle.codegen.specs.Fragments.{append, sequence}
+use Rattle.codegen.specs.Fragments.{append, Fragment}
 use Rattle.codegen.specs.DataCode.{works_fragment, take_fragment}
-use Rattle.codegen.specs.ArithmeticCode.{void_code, give_fragment, remainder_fragment}
+use Rattle.codegen.specs.ArithmeticCode.{void_code, give_fragment, quotient_scale}
 use Rattle.codegen.proofs.Kept.{front_kept, back_kept, item_kept}
-use Rattle.codegen.proofs.Sequences.{is_so, ends_so}
+use Rattle.codegen.proofs.Sequences.{four_so}
 use Rattle.codegen.proofs.emitter.Emitter.emit_remainder.Goals as goal
 
 pub emit_give-requires-clause-rules : goal.emit_give-requires-clause-rules
@@ -23,24 +23,15 @@ emit_taking-requires-clause-rules c = item_kept (items_in c.args.self.now.declar
 pub returns : goal.returns
 returns c =
     let items = items_in c.args.self.now.declarations.now in
-    let keep = c.args.keep in
-    let old = c.args.code.now in
-    let result = c.emit_taking.result in
-    let new = c.emit_taking.new.code in
-    let scale : ℕ = c.scale_kept.result in
-    let divide = works_fragment (duplicate 1 ∷ duplicate 1 ∷ i.Calculate calculation.Divide ∷ []) in
-    let give = give_fragment items keep c.args.quotient.now in
-    let cut = works_fragment (i.Calculate (calculation.Truncate scale) ∷ i.Calculate calculation.Multiply
-    ∷ i.Calculate calculation.Subtract ∷ void_code keep) in
-    let store = take_fragment items (i.Store false keep) c.args.remainder.now in
-    let begun : c.emit_works.new.code ≡ append old (divide old) =
+    let given = c.emit_give.new.code in
+    let begin = works_fragment (duplicate 1 ∷ duplicate 1 ∷ i.Calculate calculation.Divide ∷ []) in
+    let cut : ℕ → Fragment = λ scale. works_fragment (i.Calculate (calculation.Truncate scale)
+    ∷ i.Calculate calculation.Multiply ∷ i.Calculate calculation.Subtract ∷ void_code c.args.keep) in
+    let begun : c.emit_works.new.code ≡ append c.args.code.now (begin c.args.code.now) =
     first_of (search rules, grind (arith, common_steps)) in
-    is_so result new (append old (sequence divide (sequence give (sequence cut store)) old))
-    (append old (remainder_fragment items keep c.args.quotient.now c.args.remainder.now old))
-    (ends_so result divide (sequence give (sequence cut store)) old c.emit_works.new.code new begun
-    (ends_so result give (sequence cut store) c.emit_works.new.code c.emit_give.new.code new c.in_ok-emit_give.ensures
-    (ends_so result cut store c.emit_give.new.code c.emit_subtracted.new.code new c.in_ok-emit_subtracted.ensures
-    c.emit_taking.ensures)))
-    (ap (λ n. append old (sequence divide (sequence give (sequence (works_fragment (i.Calculate (calculation.Truncate n)
-    ∷ i.Calculate calculation.Multiply ∷ i.Calculate calculation.Subtract ∷ void_code keep)) store)) old))
-    c.scale_kept.ensures)
+    four_so c.emit_taking.result begin (give_fragment items c.args.keep c.args.quotient.now)
+    (cut (quotient_scale items c.args.quotient.now.item))
+    (take_fragment items (i.Store false c.args.keep) c.args.remainder.now) c.args.code.now c.emit_works.new.code given
+    c.emit_subtracted.new.code c.emit_taking.new.code begun c.in_ok-emit_give.ensures
+    (c.in_ok-emit_subtracted.ensures ∙ ap (λ n. append given (cut n given)) c.scale_kept.ensures)
+    c.emit_taking.ensures

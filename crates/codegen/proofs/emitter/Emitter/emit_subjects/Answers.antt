@@ -1,14 +1,12 @@
 use Rattle.std.proofs.Common.{rules, ◌≡◌, false, List, sym, ap, arith, ◌∙◌}
-use Rattle.std.specs.Prelude.{Option}
 use Rattle.std.proofs.lemmas.Grind.{common_steps}
-use Rattle.source_tree.specs.declared.evaluate_statement.Object.{Object}
 use Rattle.source_tree.specs.declared.evaluate_statement.Selected.{Selected}
 use Rattle.source_tree.specs.declared.evaluate_statement.Subject.{Subject}
 use Rattle.source_tree.specs.declared.statement.Statement.{Statement}
 use Rattle.declarations.specs.Named.{items_in}
 use Rattle.codegen.specs.Fragments.{append}
-use Rattle.codegen.specs.SubjectCode.{first_object, each_subject_fragment, is_asked_first, subjects_fragment}
-use Rattle.codegen.proofs.Sequences.{is_so}
+use Rattle.codegen.specs.SubjectCode.{first_object, each_subject_fragment, is_asked_first}
+use Rattle.codegen.proofs.Sequences.{on_ok}
 use Rattle.codegen.proofs.SubjectLooks.{all_looks}
 use Rattle.codegen.proofs.emitter.Emitter.emit_subjects.Goals as goal
 
@@ -24,8 +22,6 @@ returns c =
     ∙ sym (ap (is_asked_first items c.as_slice-subjects.result.now)
     (c.first_object.ensures ∙ ap (λ (l : List (Selected Statement)). first_object l) c.as_slice.ensures))
     ∙ sym c.is_asked_first.ensures ∙ so in
-    is_so c.emit_each_subject.result c.emit_each_subject.new.code
-    (append old (each_subject_fragment items c.as_slice-subjects.result.now old))
-    (append old (subjects_fragment items one.subjects object old)) c.emit_each_subject.ensures
-    (ap (λ (l : List Subject). append old (each_subject_fragment items l old)) c.as_slice-subjects.ensures
+    on_ok c.emit_each_subject.result c.emit_each_subject.ensures
+    (λ e. e ∙ ap (λ (l : List Subject). append old (each_subject_fragment items l old)) c.as_slice-subjects.ensures
     ∙ ap (append old) (all_looks items one.subjects object old asks))

@@ -9,7 +9,7 @@ use Rattle.codegen.specs.Fragments.{append, sequence}
 use Rattle.codegen.specs.DataCode.{work_fragment}
 use Rattle.codegen.specs.ArithmeticCode.{value_fragment, update_fragment}
 use Rattle.codegen.specs.UntilCode.{vary_on_fragment}
-use Rattle.codegen.proofs.Sequences.{is_so, ends_so}
+use Rattle.codegen.proofs.Sequences.{four_so, on_ok}
 use Rattle.codegen.proofs.Varying.{varied, by_kept, varied_kept, vary_on_is}
 use Rattle.codegen.proofs.emitter.Emitter.emit_vary_on.Goals as goal
 
@@ -28,20 +28,12 @@ returns c =
     let items = items_in c.args.self.now.declarations.now in
     let one = c.in-Some.varying in
     let old = c.args.code.now in
-    let result = c.emit_work-2.result in
-    let new = c.emit_work-2.new.code in
-    let clear = work_fragment i.ClearTruth in
     let value = value_fragment items one.by in
     let update = update_fragment items false operator.Add (varied one) in
-    let last = work_fragment c.discard.result in
-    is_so result new (append old (sequence clear (sequence value (sequence update last)) old))
-    (append old (vary_on_fragment items c.args.one.now old))
-    (ends_so result clear (sequence value (sequence update last)) old c.emit_work.new.code new c.in_ok-emit_work.ensures
-    (ends_so result value (sequence update last) c.emit_work.new.code c.emit_value.new.code new
-    c.in_ok-emit_value.ensures
-    (ends_so result update last c.emit_value.new.code c.emit_update.new.code new c.in_ok-emit_update.ensures
-    c.emit_work-2.ensures)))
-    (ap (λ (d : DataInstruction). append old (sequence clear (sequence value (sequence update (work_fragment d))) old))
-    c.discard.ensures
-    ∙ ap (append old) (vary_on_is items one old)
+    on_ok c.emit_work-2.result
+    (four_so c.emit_work-2.result (work_fragment i.ClearTruth) value update (work_fragment c.discard.result) old
+    c.emit_work.new.code c.emit_value.new.code c.emit_update.new.code c.emit_work-2.new.code
+    c.in_ok-emit_work.ensures c.in_ok-emit_value.ensures c.in_ok-emit_update.ensures c.emit_work-2.ensures)
+    (λ e. e ∙ ap (λ (d : DataInstruction). append old (sequence (work_fragment i.ClearTruth) (sequence value (sequence
+    update (work_fragment d))) old)) c.discard.ensures ∙ ap (append old) (vary_on_is items one old)
     ∙ sym (ap (λ (o : Option Varying). append old (vary_on_fragment items o old)) c.in-Some.is))

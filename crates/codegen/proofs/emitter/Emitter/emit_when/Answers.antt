@@ -8,12 +8,12 @@ use Rattle.source_tree.specs.Broken.{each}
 use Rattle.source_tree.specs.ConditionRules.{condition_rules}
 use Rattle.source_tree.specs.Evaluate.{selection_condition, object_conditions}
 use Rattle.declarations.specs.Named.{items_in}
-use Rattle.codegen.specs.Fragments.{Fragment, append, sequence, in_order}
+use Rattle.codegen.specs.Fragments.{Fragment, append, in_order}
 use Rattle.codegen.specs.ConditionCode.{condition_fragment}
 use Rattle.codegen.specs.EvaluateCode.{constant_fragment}
-use Rattle.codegen.proofs.ConditionLayers.{all_is, all_parts}
 use Rattle.codegen.proofs.Questions.{constant_is, further_piece, no_subjects, no_objects, pair_rules, pairs_rules}
-use Rattle.codegen.proofs.Sequences.{is_so, ends_so}
+use Rattle.codegen.proofs.Sequences.{is_so, ends_so, on_ok}
+use Rattle.codegen.proofs.AskedPairs.{pairs_are}
 use Rattle.codegen.proofs.emitter.Emitter.emit_when.Goals as goal
 
 pub returns-in_default : goal.returns-in_default
@@ -73,23 +73,13 @@ emit_each_asked-requires-clause-rules c =
 pub returns : goal.returns
 returns c =
     let items = items_in c.args.self.now.declarations.now in
-    let old = c.args.code.now in
-    let result = c.emit_each_asked.result in
-    let new = c.emit_each_asked.new.code in
     let subject = c.in-Some.subject.now in
     let subjects = c.in-Some.subjects.now in
     let object = c.in-Some-split_first.object.now in
     let objects = c.in-Some-split_first.objects.now in
-    let one = selection_condition items subject object.choice in
-    let others = object_conditions items subjects objects in
-    let further = in_order (further_piece items) others in
-    is_so result new (append old (sequence (condition_fragment items one) further old))
-    (append old (condition_fragment items (All (object_conditions items c.args.subjects.now c.args.objects.now)) old))
-    (ends_so result (condition_fragment items one) further old c.emit_asked.new.code new c.in_ok-emit_asked.ensures
-    c.emit_each_asked.ensures)
-    (ap (append old) (all_parts items one others old)
-    ∙ ap (λ (p : Fragment). append old (p old)) (sym (all_is items (one ∷ others)))
-    ∙ sym (ap (λ (l : List Subject). append old
-    (condition_fragment items (All (object_conditions items l c.args.objects.now)) old)) c.in-Some.ensures.cases.0
-    ∙ ap (λ (l : List Object). append old (condition_fragment items
-    (All (object_conditions items (subject ∷ subjects) l)) old)) c.in-Some-split_first.ensures.cases.0))
+    on_ok c.emit_each_asked.result
+    (ends_so c.emit_each_asked.result (condition_fragment items (selection_condition items subject object.choice))
+    (in_order (further_piece items) (object_conditions items subjects objects)) c.args.code.now
+    c.emit_asked.new.code c.emit_each_asked.new.code c.in_ok-emit_asked.ensures c.emit_each_asked.ensures)
+    (λ e. e ∙ ap (append c.args.code.now) (pairs_are items subject subjects object objects c.args.subjects.now
+    c.args.objects.now c.in-Some.ensures.cases.0 c.in-Some-split_first.ensures.cases.0 c.args.code.now))

@@ -8,12 +8,13 @@ use Rattle.source_tree.specs.Broken.{each}
 use Rattle.source_tree.specs.ConditionRules.{condition_rules}
 use Rattle.source_tree.specs.Evaluate.{object_conditions, when_condition, when_conditions}
 use Rattle.declarations.specs.Named.{items_in}
-use Rattle.codegen.specs.Fragments.{Fragment, append, sequence, in_order}
+use Rattle.codegen.specs.Fragments.{Fragment, append, in_order}
 use Rattle.codegen.specs.ConditionCode.{or_fragment, condition_fragment}
 use Rattle.codegen.specs.EvaluateCode.{constant_fragment}
 use Rattle.codegen.proofs.Kept.{front_kept, back_kept}
-use Rattle.codegen.proofs.Questions.{constant_is, no_whens, whens_are}
-use Rattle.codegen.proofs.Sequences.{is_so, ends_so}
+use Rattle.codegen.proofs.Questions.{constant_is, no_whens}
+use Rattle.codegen.proofs.Sequences.{is_so, ends_so, on_ok}
+use Rattle.codegen.proofs.AskedPairs.{whens_all}
 use Rattle.codegen.proofs.emitter.Emitter.emit_whens.Goals as goal
 
 pub returns-in_default : goal.returns-in_default
@@ -49,19 +50,13 @@ returns c =
     let items = items_in c.args.self.now.declarations.now in
     let subjects = c.args.subjects.now in
     let old = c.args.code.now in
-    let result = c.emit_each_when.result in
-    let new = c.emit_each_when.new.code in
     let first = c.in-Some.first.now in
-    let more = c.in-Some.more.now in
-    let test = condition_fragment items (when_condition items subjects first) in
-    let further =
-    in_order (λ (one : When). or_fragment (condition_fragment items (when_condition items subjects one))) more in
-    let begun : c.emit_when.new.code ≡ append old (test old) =
-    c.in_ok-emit_when.ensures ∙ ap (λ (l : List Object).
-    append old (condition_fragment items (All (object_conditions items subjects l)) old)) c.as_slice.ensures in
-    is_so result new (append old (sequence test further old))
-    (append old (condition_fragment items (Any (when_conditions items subjects c.args.whens.now)) old))
-    (ends_so result test further old c.emit_when.new.code new begun c.emit_each_when.ensures)
-    (ap (append old) (whens_are items subjects first more old)
-    ∙ sym (ap (λ (l : List When). append old (condition_fragment items (Any (when_conditions items subjects l)) old))
-    c.in-Some.ensures.cases.0))
+    let further = in_order (λ (one : When). or_fragment
+    (condition_fragment items (when_condition items subjects one))) c.in-Some.more.now in
+    on_ok c.emit_each_when.result
+    (ends_so c.emit_each_when.result (condition_fragment items (when_condition items subjects first)) further old
+    c.emit_when.new.code c.emit_each_when.new.code (c.in_ok-emit_when.ensures ∙ ap (λ (l : List Object).
+    append old (condition_fragment items (All (object_conditions items subjects l)) old)) c.as_slice.ensures)
+    c.emit_each_when.ensures)
+    (λ e. e ∙ ap (append old)
+    (whens_all items subjects first c.in-Some.more.now c.args.whens.now old c.in-Some.ensures.cases.0))
