@@ -1,10 +1,27 @@
-use Rattle.std.proofs.Common.{List, inl, ⊎_elim, refl, sym, subst}
+use Rattle.std.proofs.Common.{List, inl, inr, ⊎_elim, ap, refl, sym, subst}
 use Rattle.station.specs.Disk.{Sector}
+use Rattle.station.specs.State.{State}
+use Rattle.station.proofs.Calls.{writes_then}
 use Rattle.half_store.specs.Half.{Holds as HoldsHalf}
 use Rattle.file_recovery.proofs.Foreign.{half_is_foreign}
 use Rattle.file_recovery.proofs.Reopened.{same_present}
 use Rattle.volume_copies.proofs.LoadsOfVolumes.{opened_loads, opened_later, unopened_loads, not_layout}
 use Rattle.volume_copies.proofs.load_command.load_into.Goals as goal
+
+-- an opening syncs, and the lines are written then
+pub returns-in-Ok-clause-only : goal.returns-in-Ok-clause-only
+returns-in-Ok-clause-only g c =
+    let opened = c.in-Ok.ensures in
+    writes_then g.D.Device _ _ _ _ _ _ (λ failed. inr failed)
+    (record {
+      honest = opened.honest;
+      sectors = opened.sectors;
+      failures = opened.failures;
+      console = λ honest. record {
+        events = ap (λ (s : State). s.events) (opened.state honest);
+        lines = ap (λ (s : State). s.lines) (opened.state honest);
+      };
+    }) c.load_lines.ensures.only
 
 pub returns-in-Ok-clause-loads : goal.returns-in-Ok-clause-loads
 returns-in-Ok-clause-loads g c = λ honest files holds there.
