@@ -1,4 +1,4 @@
-/* The calls of reads.cob by SQLite, on a table with an index.
+/* The calls of reads.cob by SQLite, on a table with an index. Rows with equal alternate keys are in the order of their arrival.
    peer FILE WHAT COUNT    WHAT is one of W N A R S U D, as in reads.cob; it prints the last prime key */
 #include <sqlite3.h>
 #include <stdint.h>
@@ -53,9 +53,9 @@ static void take_row(sqlite3_stmt *statement, char *record) {
 
 static const char *text_of(char what) {
     switch (what) {
-    case 'W': return "INSERT INTO rows VALUES (?1, ?2, ?3)";
+    case 'W': return "INSERT INTO rows VALUES (?1, ?2, ?3, ?4)";
     case 'N': return "SELECT k, a, rest FROM rows ORDER BY k";
-    case 'A': return "SELECT k, a, rest FROM rows ORDER BY a";
+    case 'A': return "SELECT k, a, rest FROM rows ORDER BY a, arrival";
     case 'R': return "SELECT k, a, rest FROM rows WHERE k = ?1";
     case 'S': return "SELECT k, a, rest FROM rows WHERE k >= ?1 ORDER BY k LIMIT 1";
     case 'U': return "UPDATE rows SET rest = ?3 WHERE k = ?1";
@@ -85,6 +85,7 @@ static void call_for_each(sqlite3_stmt *statement, char what, uint64_t count, ch
         if (what == 'W') {
             put_digits(record + KEY, other);
             bind(statement, 2, record + KEY, KEY);
+            sqlite3_bind_int64(statement, 4, (sqlite3_int64)i);
         }
         if (what == 'W' || what == 'U')
             bind(statement, 3, record + 2 * KEY, REST);
@@ -110,8 +111,8 @@ int main(int argc, char **argv) {
     run(db, "PRAGMA synchronous = FULL");
     run(db, "PRAGMA cache_size = 4096");
     if (what == 'W') {
-        run(db, "CREATE TABLE rows (k BLOB PRIMARY KEY, a BLOB, rest BLOB) WITHOUT ROWID");
-        run(db, "CREATE INDEX by_a ON rows (a)");
+        run(db, "CREATE TABLE rows (k BLOB PRIMARY KEY, a BLOB, rest BLOB, arrival INTEGER) WITHOUT ROWID");
+        run(db, "CREATE INDEX by_a ON rows (a, arrival)");
     }
     sqlite3_stmt *statement = prepare(db, text_of(what));
     if (what == 'N' || what == 'A')
