@@ -1,16 +1,24 @@
 -- What the layout has of the item of a number, by what the program's list of items has.
-use Rattle.std.proofs.Common.{◌≡◌, [], Option, Some, None, Bor, refl, ap}
-use Rattle.std.specs.Prelude.{is_some}
+use Rattle.std.proofs.Common.{◌≡◌, ℕ, Bool, true, false, not, ◌&&◌, ◌==◌, List, [], length, map, Option, Some, None, Bor}
+use Rattle.std.proofs.Common.{refl, sym, ap, ◌∙◌}
+use Rattle.std.specs.Prelude.{slice_get, is_some}
 use Rattle.std.specs.Option.{option_map, option_copied}
 use Rattle.std.proofs.lemmas.Option.{same_Some}
 use Rattle.layout.specs.declared.placed.PlacedItem.{PlacedItem}
 use Rattle.layout.specs.Placing.{placed_item}
+use Rattle.source_tree.specs.declared.expression.Operand.TheVariants as operand
+use Rattle.source_tree.specs.declared.reference.QualifiedName.{QualifiedName}
+use Rattle.source_tree.specs.declared.reference.Reference.{Reference}
 use Rattle.source_tree.specs.Arithmetic.{receiver_of}
+use Rattle.source_tree.specs.ArithmeticRules.{is_numeric_kind}
 use Rattle.source_tree.specs.InspectLayout.{found_size}
+use Rattle.source_tree.specs.Parts.{has_part}
 use Rattle.source_tree.specs.Places.{LocatedItem}
 use Rattle.source_tree.specs.ProgramFiles.{plain_place}
 use Rattle.codegen.specs.ArithmeticCode.{receiver_scale, scale_of_item}
-use Rattle.codegen.specs.DataCode.{dimensions_of}
+use Rattle.codegen.specs.ConditionCode.{is_single, is_numeric_item, is_numeric_operand, is_operand_at_hand}
+use Rattle.codegen.specs.DataCode.{item_number, dimensions_of}
+use Rattle.codegen.proofs.ItemParts.{placed_at, has_part_is}
 
 pub dimensions_there : (found : Option LocatedItem) (placed : PlacedItem) → Some placed ≡ option_map placed_item found
     → placed.dimensions ≡ dimensions_of found
@@ -52,3 +60,61 @@ same_there (Some placed) (Some found) e = refl
 pub place_there : (found : Option LocatedItem) → is_some found ≡ is_some (plain_place found)
 place_there None = refl
 place_there (Some found) = refl
+
+-- what the layout has of the item that a name names
+pub placed_named : (items : List LocatedItem) (all : List PlacedItem) (name : QualifiedName) (n : ℕ)
+    → all ≡ map placed_item items → n ≡ item_number items name
+    → slice_get all n ≡ option_map placed_item (slice_get items (item_number items name))
+placed_named items all name n are is =
+    placed_at items all n are ∙ ap (λ m. option_map placed_item (slice_get items m)) is
+
+-- ---- an operand alone that is an item
+
+module _ (items : List LocatedItem) (one : Reference) where
+  numeric_found : (whole : Bool) (found : Option LocatedItem) (placed : PlacedItem)
+      → Some placed ≡ option_map placed_item found
+      → (whole && is_numeric_kind placed.item.kind) ≡ (whole && is_numeric_item found)
+  numeric_found whole None placed e = absurd cc
+  numeric_found whole (Some found) placed e =
+      ap (λ (p : PlacedItem). whole && is_numeric_kind p.item.kind) (same_Some placed (placed_item found) e)
+
+  pub numeric_there : (placed : PlacedItem)
+      → Some placed ≡ option_map placed_item (slice_get items (item_number items one.item))
+      → (not (is_some one.part) && is_numeric_kind placed.item.kind) ≡ is_numeric_operand items (operand.Item one)
+  numeric_there placed e =
+      numeric_found (not (is_some one.part)) (slice_get items (item_number items one.item)) placed e
+      ∙ ap (λ b. not b && is_numeric_item (slice_get items (item_number items one.item))) (sym (has_part_is one))
+
+  none_numeric : (whole : Bool) (found : Option LocatedItem) → None ≡ option_map placed_item found
+      → false ≡ (whole && is_numeric_item found)
+  none_numeric whole (Some found) e = absurd cc
+  none_numeric true None e = refl
+  none_numeric false None e = refl
+
+  pub not_numeric : None ≡ option_map placed_item (slice_get items (item_number items one.item))
+      → false ≡ is_numeric_operand items (operand.Item one)
+  not_numeric e = none_numeric (not (has_part one)) (slice_get items (item_number items one.item)) e
+
+  single_found : (whole : Bool) (found : Option LocatedItem) (placed : PlacedItem)
+      → Some placed ≡ option_map placed_item found
+      → (whole && length placed.dimensions == 0) ≡ (whole && is_single found)
+  single_found whole None placed e = absurd cc
+  single_found whole (Some found) placed e =
+      ap (λ (p : PlacedItem). whole && length p.dimensions == 0) (same_Some placed (placed_item found) e)
+
+  pub hand_there : (placed : PlacedItem)
+      → Some placed ≡ option_map placed_item (slice_get items (item_number items one.item))
+      → (not (is_some one.part) && length placed.dimensions == 0) ≡ is_operand_at_hand items (operand.Item one)
+  hand_there placed e =
+      single_found (not (is_some one.part)) (slice_get items (item_number items one.item)) placed e
+      ∙ ap (λ b. not b && is_single (slice_get items (item_number items one.item))) (sym (has_part_is one))
+
+  none_single : (whole : Bool) (found : Option LocatedItem) → None ≡ option_map placed_item found
+      → false ≡ (whole && is_single found)
+  none_single whole (Some found) e = absurd cc
+  none_single true None e = refl
+  none_single false None e = refl
+
+  pub not_at_hand : None ≡ option_map placed_item (slice_get items (item_number items one.item))
+      → false ≡ is_operand_at_hand items (operand.Item one)
+  not_at_hand e = none_single (not (has_part one)) (slice_get items (item_number items one.item)) e

@@ -1,6 +1,6 @@
 //! The code of conditions, which sets the truth (COBOL-85, Nucleus, "Conditional expressions").
 
-ghost use Rattle.std.specs.Prelude.{◌≡◌, [], map, true, OnOk};
+ghost use Rattle.std.specs.Prelude.{◌≡◌, ◌==◌, ◌&&◌, not, is_some, length, [], map, true, OnOk};
 ghost use Rattle.std.specs.Option.{option_map};
 ghost use Rattle.source_tree.specs.declared.condition.Condition.{Condition};
 ghost use Rattle.source_tree.specs.declared.expression.Operand.TheVariants as operand;
@@ -9,7 +9,7 @@ ghost use Rattle.source_tree.specs.Broken.{each};
 ghost use Rattle.source_tree.specs.Conditions as meaning;
 ghost use Rattle.source_tree.specs.EntryRules.{entry_rules};
 ghost use Rattle.source_tree.specs.NameRules.{any_item, reference_rules, operand_rules};
-ghost use Rattle.source_tree.specs.ArithmeticRules.{expression_rules};
+ghost use Rattle.source_tree.specs.ArithmeticRules.{is_numeric_kind, expression_rules};
 ghost use Rattle.source_tree.specs.ConditionRules.{side_rules, relation_rules, condition_rules};
 ghost use Rattle.source_tree.specs.ValueRules.{has_form};
 ghost use Rattle.data_instructions.specs.ConditionCodes.{negation};
@@ -32,8 +32,8 @@ use data_instructions::{DataInstruction, Test};
 use decimal18::Dec;
 use items::Kind;
 use source_tree::{
-    Class, Condition, Expression, Figurative, Literal, LiteralValue, Operand, Place, Reference,
-    Relation, Side, SignTest,
+    BoxedPart, Class, Condition, Dimension, Expression, Figurative, Literal, LiteralValue, Operand,
+    Place, Reference, Relation, Side, SignTest,
 };
 use std::alloc::AllocError;
 
@@ -246,9 +246,7 @@ impl<'a> Emitter<'a> {
             .items
             .get(self.item_number(&reference.item))
         {
-            Some(found) => {
-                reference.part.is_none() && matches!(found.item.kind, Kind::Numeric(_))
-            }
+            Some(found) => is_number(found.item.kind, &reference.part),
             None => false,
         }
     }
@@ -268,7 +266,7 @@ impl<'a> Emitter<'a> {
             .items
             .get(self.item_number(&reference.item))
         {
-            Some(found) => reference.part.is_none() && found.dimensions.as_slice().is_empty(),
+            Some(found) => is_single(found.dimensions.as_slice(), &reference.part),
             None => false,
         }
     }
@@ -482,4 +480,18 @@ impl<'a> Emitter<'a> {
         self.emit_condition(code, one)?;
         emit_meeting(code, branch, other)
     }
+}
+
+/// An item of that kind, seen through that part, is a number. A part is none.
+fn is_number(kind: Kind, part: &Option<BoxedPart>) -> bool
+    ensures { result ≡ (not (is_some part.now) && is_numeric_kind kind) }
+{
+    part.is_none() && matches!(kind, Kind::Numeric(_))
+}
+
+/// A reference to an item of those dimensions has neither subscripts nor that part.
+fn is_single(dimensions: &[Dimension], part: &Option<BoxedPart>) -> bool
+    ensures { result ≡ (not (is_some part.now) && length dimensions.now == 0) }
+{
+    part.is_none() && dimensions.is_empty()
 }
