@@ -133,7 +133,7 @@ fn times(alloc: Global, tokens: &mut Tokens<'_>) -> Result<Repetition, ReadFault
     ensures { Reads (rule.times_reader tokens.old) result tokens.new }
 {
     let count = integer(alloc, tokens)?;
-    tokens.expect(Reserved::Times)?;
+    let (count, ()) = beside(count, tokens.expect(Reserved::Times))?;
     Ok(Repetition::Times(count))
 }
 
@@ -143,6 +143,6 @@ fn counted(alloc: Global, tokens: &mut Tokens<'_>) -> Result<Repetition, ReadFau
     ensures { Reads (rule.counted_reader tokens.old) result tokens.new }
 {
     let item = reference(alloc, tokens)?;
-    tokens.expect(Reserved::Times)?;
+    let (item, ()) = beside(item, tokens.expect(Reserved::Times))?;
     Ok(Repetition::CountedBy(item))
 }
