@@ -227,18 +227,6 @@ module _ {T E : Type 0} (old now new : Performs) (procedures : List Procedure) (
       (adds_within number (each_performs (statement_performs procedures) first)
       (phrase_performs (statement_performs procedures) second) before more.added)) after
 
-  pub adds_phrases : (first : Option (List Statement)) → AddsPhrase procedures number old now first
-      → OnOk rest (AddsPhrase procedures number now new second)
-      → statement_performs procedures one
-      ≡ phrase_performs (statement_performs procedures) first ++ phrase_performs (statement_performs procedures) second
-      → OnOk rest (AppendsPerforms old new (in_paragraph number (statement_performs procedures one)))
-  adds_phrases first before after same =
-      on_ok_weaker rest
-      (λ (more : AddsPhrase procedures number now new second).
-      subst (λ (l : List Performance). AppendsPerforms old new (in_paragraph number l)) (sym same)
-      (adds_within number (phrase_performs (statement_performs procedures) first)
-      (phrase_performs (statement_performs procedures) second) before.added more.added)) after
-
 -- a phrase after others
 pub adds_behind : {T E : Type 0} (old now new : Performs) (procedures : List Procedure) (number : ℕ) (rest : Result T E)
     (first : List Performance) (second : Option (List Statement))

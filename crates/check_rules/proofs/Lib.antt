@@ -9,3 +9,4 @@ pub mod Counted
 pub mod PerformedRanges
 pub mod Back
 pub mod KeysFound
+pub mod StatementBreaches

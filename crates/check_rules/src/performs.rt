@@ -11,9 +11,8 @@ ghost use Rattle.check_rules.specs.Performs.{AppendsPerforms, AddsPhrase, in_par
 use crate::checker::Checker;
 use perform_graph::PerformedRange;
 use source_tree::{
-    Arithmetic, ConditionalStatement, Evaluate, FilePhrases, FileStatement, Name, Paragraph,
-    PerformStatement, Performed, Phrases, Place, Section, Selected, Sentence, Statement,
-    StringStatement, Verb,
+    ConditionalStatement, Evaluate, FilePhrases, FileStatement, Name, Paragraph, Performed,
+    Phrases, Place, Section, Selected, Sentence, Statement, Verb,
 };
 use sqlite_items::Items;
 use std::alloc::{AllocError, Global};
@@ -73,7 +72,6 @@ impl<'a> Checker<'a> {
 
     /// What the PERFORMs in a statement perform.
     #[cycle(performs)]
-    #[tactic(auto, using(declarations::proofs::PerformLayers::statement_is))]
     fn statement_performs(
         &self,
         number: usize,
@@ -85,15 +83,7 @@ impl<'a> Checker<'a> {
             (spec.statement_performs (procedures_in self.now.declarations.now) one.now))) }
     {
         match &one.verb {
-            Verb::Arithmetic(
-                Arithmetic {
-                    phrases: Phrases { arose, did_not },
-                    ..
-                },
-            ) => {
-                self.phrase_performs(number, arose, all)?;
-                self.phrase_performs(number, did_not, all)
-            }
+            Verb::Arithmetic(arithmetic) => self.pair_performs(number, &arithmetic.phrases, all),
             Verb::ConditionalStatement(
                 ConditionalStatement::If {
                     statements,
@@ -104,19 +94,13 @@ impl<'a> Checker<'a> {
                 self.statements_performs(number, statements.as_slice(), all)?;
                 self.phrase_performs(number, otherwise, all)
             }
-            Verb::ConditionalStatement(ConditionalStatement::Evaluate(one)) =>
-                self.evaluate_performs(number, one, all),
-            Verb::PerformStatement(PerformStatement { performed, .. }) => {
-                self.performed_performs(number, performed, all)
+            Verb::ConditionalStatement(ConditionalStatement::Evaluate(evaluate)) =>
+                self.evaluate_performs(number, evaluate, all),
+            Verb::PerformStatement(performing) => {
+                self.performed_performs(number, &performing.performed, all)
             }
-            Verb::StringStatement(
-                StringStatement {
-                    phrases: Phrases { arose, did_not },
-                    ..
-                },
-            ) => {
-                self.phrase_performs(number, arose, all)?;
-                self.phrase_performs(number, did_not, all)
+            Verb::StringStatement(stringing) => {
+                self.pair_performs(number, &stringing.phrases, all)
             }
             Verb::FileStatement(filing) => self.filing_performs(number, filing, all),
             Verb::DataStatement(_) | Verb::TextStatement(_) | Verb::ControlStatement(_) => Ok(()),

@@ -13,9 +13,9 @@ ghost use Rattle.declarations.specs.Named.{IsDeclared, files_in, items_in, scope
 use crate::checker::Checker;
 use entry_rules::BrokenRule;
 use source_tree::{
-    Arithmetic, ConditionalStatement, DataStatement, Evaluate, FilePhrases, FileStatement,
-    Paragraph, PerformStatement, Performed, Phrases, Section, Selected, Sentence, Statement,
-    Subject, TextStatement, Verb,
+    ConditionalStatement, DataStatement, Evaluate, FilePhrases, FileStatement, Paragraph,
+    PerformStatement, Performed, Phrases, Section, Selected, Sentence, Statement, Subject,
+    TextStatement, Verb,
 };
 use sqlite_items::Items;
 
@@ -59,15 +59,9 @@ impl<'a> Checker<'a> {
     {
         match &one.verb {
             Verb::DataStatement(moving) => self.moving_rules(moving),
-            Verb::Arithmetic(
-                Arithmetic {
-                    operation,
-                    phrases: Phrases { arose, did_not },
-                },
-            ) => {
-                self.operation_rules(operation)?;
-                self.phrase_rules(arose)?;
-                self.phrase_rules(did_not)
+            Verb::Arithmetic(arithmetic) => {
+                self.operation_rules(&arithmetic.operation)?;
+                self.opposite_rules(&arithmetic.phrases)
             }
             Verb::ConditionalStatement(
                 ConditionalStatement::If {
@@ -93,8 +87,7 @@ impl<'a> Checker<'a> {
             Verb::TextStatement(text) => self.text_rules(text),
             Verb::StringStatement(stringing) => {
                 self.string_rules(stringing)?;
-                self.phrase_rules(&stringing.phrases.arose)?;
-                self.phrase_rules(&stringing.phrases.did_not)
+                self.opposite_rules(&stringing.phrases)
             }
             Verb::FileStatement(filing) => self.file_statement_rules(filing),
             Verb::ControlStatement(_) => Ok(()),

@@ -1,12 +1,14 @@
-use Rattle.std.proofs.Common.{◌≡◌, List, Some, sym, ap, subst, arith, ◌∙◌}
+use Rattle.std.proofs.Common.{rules, ◌≡◌, List, Some, sym, ap, subst, arith, ◌∙◌}
+use Rattle.std.proofs.lemmas.Result.{on_ok_weaker}
 use Rattle.source_tree.specs.declared.evaluate_statement.Selected.{Selected}
 use Rattle.source_tree.specs.declared.statement.Statement.{Statement}
+use Rattle.source_tree.specs.declared.statement.Verb.TheVariants as verb
 use Rattle.source_tree.specs.Recursion.{each_performs, selected_performs, statement_performs}
 use Rattle.declarations.specs.Named.{procedures_in}
 use Rattle.check_rules.specs.Performs.{AppendsPerforms, in_paragraph}
 use Rattle.declarations.proofs.PerformLayers.{statement_is}
-use Rattle.check_rules.proofs.Adding.{adds_next, nothing_performed, adds_ways, adds_phrases, adds_behind, phrase_none}
-use Rattle.check_rules.proofs.Adding.{phrase_some}
+use Rattle.check_rules.proofs.Adding.{adds_next, nothing_performed, adds_ways, adds_behind, adds_verb}
+use Rattle.check_rules.proofs.Adding.{phrase_none, phrase_some}
 use Rattle.check_rules.proofs.checker.Checker.+performs.Goals as goal
 
 pub phrase_performs-statements_performs-requires : goal.phrase_performs-statements_performs-requires
@@ -15,20 +17,13 @@ phrase_performs-statements_performs-requires t c =
     c.in-Some.is ∙ ap (λ (l : List Statement). Some l) (sym c.as_slice.ensures) in
     let d = rw e at c.decreases in (omega (arith, d), c.requires)
 
-pub statement_performs-returns-in_ok-phrase_performs-in-Arithmetic :
-    goal.statement_performs-returns-in_ok-phrase_performs-in-Arithmetic
-statement_performs-returns-in_ok-phrase_performs-in-Arithmetic t c =
-    adds_phrases c.args.all.now c.phrase_performs.new.all c.phrase_performs-in-Arithmetic.new.all (procedures_in
-    c.args.self.now.declarations.now) c.args.number c.args.one.now c.phrase_performs-in-Arithmetic.result _ _
-    c.in_ok-phrase_performs-in-Arithmetic.ensures c.phrase_performs-in-Arithmetic.ensures (grind (arith, statement_is))
-
 pub statement_performs-returns-in_ok-statements_performs-in-ConditionalStatement-If :
     goal.statement_performs-returns-in_ok-statements_performs-in-ConditionalStatement-If
 statement_performs-returns-in_ok-statements_performs-in-ConditionalStatement-If t c =
-    adds_ways c.args.all.now c.statements_performs.new.all c.phrase_performs-in-ConditionalStatement-If.new.all
+    adds_ways c.args.all.now c.statements_performs.new.all c.phrase_performs.new.all
     (procedures_in c.args.self.now.declarations.now) c.args.number c.args.one.now
-    c.phrase_performs-in-ConditionalStatement-If.result _ c.as_slice.result.now
-    c.in_ok-statements_performs-in-ConditionalStatement-If.ensures c.phrase_performs-in-ConditionalStatement-If.ensures
+    c.phrase_performs.result _ c.as_slice.result.now
+    c.in_ok-statements_performs-in-ConditionalStatement-If.ensures c.phrase_performs.ensures
     (grind (arith, statement_is))
 
 pub statement_performs-returns-in-DataStatement : goal.statement_performs-returns-in-DataStatement
@@ -82,12 +77,31 @@ phrase_performs-returns-in-Some t c =
     c.args.all.now c.statements_performs.new.all c.statements_performs.result c.args.phrase.now c.as_slice.result.now e
     c.statements_performs.ensures
 
-pub statement_performs-returns-in_ok-phrase_performs-in-StringStatement :
-    goal.statement_performs-returns-in_ok-phrase_performs-in-StringStatement
-statement_performs-returns-in_ok-phrase_performs-in-StringStatement t c =
-    adds_phrases c.args.all.now c.phrase_performs-in-StringStatement.new.all
-    c.phrase_performs-in-StringStatement-2.new.all
-    (procedures_in c.args.self.now.declarations.now) c.args.number c.args.one.now
-    c.phrase_performs-in-StringStatement-2.result _ _
-    c.in_ok-phrase_performs-in-StringStatement.ensures c.phrase_performs-in-StringStatement-2.ensures
-    (grind (arith, statement_is))
+pub statement_performs-returns-in-Arithmetic : goal.statement_performs-returns-in-Arithmetic
+statement_performs-returns-in-Arithmetic t c =
+    on_ok_weaker c.pair_performs.result
+    (adds_verb (procedures_in c.args.self.now.declarations.now) c.args.number c.args.one.now
+    (verb.Arithmetic c.in-Arithmetic.arithmetic) c.in-Arithmetic.is) c.pair_performs.ensures
+
+pub statement_performs-returns-in-StringStatement : goal.statement_performs-returns-in-StringStatement
+statement_performs-returns-in-StringStatement t c =
+    on_ok_weaker c.pair_performs-in-StringStatement.result
+    (adds_verb (procedures_in c.args.self.now.declarations.now) c.args.number c.args.one.now
+    (verb.StringStatement c.in-StringStatement.stringing) c.in-StringStatement.is)
+    c.pair_performs-in-StringStatement.ensures
+
+pub statement_performs-returns-in-PerformStatement : goal.statement_performs-returns-in-PerformStatement
+statement_performs-returns-in-PerformStatement t c =
+    on_ok_weaker c.performed_performs.result
+    (adds_verb (procedures_in c.args.self.now.declarations.now) c.args.number c.args.one.now
+    (verb.PerformStatement c.in-PerformStatement.performing) c.in-PerformStatement.is) c.performed_performs.ensures
+
+pub statement_performs-returns-in-FileStatement : goal.statement_performs-returns-in-FileStatement
+statement_performs-returns-in-FileStatement t c =
+    on_ok_weaker c.filing_performs.result
+    (adds_verb (procedures_in c.args.self.now.declarations.now) c.args.number c.args.one.now
+    (verb.FileStatement c.in-FileStatement.filing) c.in-FileStatement.is) c.filing_performs.ensures
+
+pub statement_performs-returns-in-ConditionalStatement-Evaluate :
+    goal.statement_performs-returns-in-ConditionalStatement-Evaluate
+statement_performs-returns-in-ConditionalStatement-Evaluate t c = search (rules, statement_is)
