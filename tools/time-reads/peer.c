@@ -1,5 +1,6 @@
 /* The calls of reads.cob by SQLite, on a table with an index. Rows with equal alternate keys are in the order of their arrival.
-   peer FILE WHAT COUNT    WHAT is one of W N A R S U D, as in reads.cob; it prints the last prime key */
+   peer FILE WHAT COUNT    WHAT is one of W N A R S U D, as in reads.cob, but U updates rows without reading them. It prints the last
+                           prime key. */
 #include <sqlite3.h>
 #include <stdint.h>
 #include <stdio.h>
@@ -85,7 +86,8 @@ static void call_for_each(sqlite3_stmt *statement, char what, uint64_t count, ch
         if (what == 'W') {
             put_digits(record + KEY, other);
             bind(statement, 2, record + KEY, KEY);
-            sqlite3_bind_int64(statement, 4, (sqlite3_int64)i);
+            if (sqlite3_bind_int64(statement, 4, (sqlite3_int64)i) != SQLITE_OK)
+                fail("bind", "refused");
         }
         if (what == 'W' || what == 'U')
             bind(statement, 3, record + 2 * KEY, REST);
