@@ -1,5 +1,5 @@
 -- The leaves of the catalog of a volume that gets the second mark.
-use Rattle.std.proofs.Common.{◌≡◌, ◌<◌, ◌≤◌, ◌+◌, ◌^◌, ◌++◌, ℕ, suc, List, [], ◌∷◌, length, refl, ap, sym}
+use Rattle.std.proofs.Common.{◌≡◌, ◌<◌, ◌≤◌, ◌+◌, ◌^◌, ◌++◌, ℕ, List, [], ◌∷◌, length, refl, ap, sym}
 use Rattle.std.proofs.Common.{subst, ◌∙◌, append_assoc, arith}
 use Rattle.std.specs.Prelude.{map, take, drop, Option, Some, None, IfSome}
 use Rattle.std.specs.List.{All, flat_map, insert}
@@ -19,12 +19,10 @@ use Rattle.btree_pages.specs.Node.{Node}
 use Rattle.btree_pages.specs.RowLayouts.{capacity, rest_length}
 use Rattle.btree.specs.Builds.{IsLeafOf, rows_of_nodes}
 use Rattle.btree.specs.Calls.{pages_on}
-use Rattle.btree.specs.Entries.{Entry, HasLengths, entries_of, entries_of_rows, entry_of, first_entry}
-use Rattle.btree.specs.Entries.{first_entry_after}
+use Rattle.btree.specs.Entries.{Entry, HasLengths, entries_of_rows, entry_of}
 use Rattle.btree.specs.Laws.{keys_listed}
-use Rattle.btree.specs.Rooted.{RootedTree}
 use Rattle.btree.specs.Tree.{IsTreeOrEmpty}
-use Rattle.btree.proofs.Ascending.{entry_at, first_at, next_at, none_at}
+use Rattle.btree.proofs.Ascending.{entry_at, none_at}
 use Rattle.btree.proofs.Frames.{same_pages}
 use Rattle.btree.proofs.There.{tree_ascends}
 use Rattle.records.specs.Files.{Files}
@@ -34,7 +32,6 @@ use Rattle.volume_format.specs.Forest.{IsTreeIn}
 use Rattle.volume_format.specs.Volume.{FileTrees, MapHolds, catalog_entry, catalog_tree, trees_of}
 use Rattle.alternate_keys.specs.Migrated.{AreFilled}
 use Rattle.alternate_keys.specs.Placed.{HasTrees}
-use Rattle.alternate_keys.proofs.Catalogs.{catalog_holds}
 use Rattle.alternate_keys.proofs.Migrating.{IsFileAt, counted_entry, entry_with, same_keys, trees_between}
 
 -- the keys of the new leaves ascend
@@ -179,35 +176,6 @@ row_inserted n leaves leaf new place key rest entry value is room made at key_is
       subst (λ (node : Node). AreFilled (n + 1) leaves node) (sym same) (filled_row n leaves leaf row is room),
       ap (λ (node : Node). rows_of_nodes leaves ++ node.rows) same ∙ rows_added leaves leaf row,
     )
-
--- The entries of the catalog, one after the other.
-module _ (m : Map) (files : Files) (holds : MapHolds m files) (first : m.mark ≡ 0) (tree : RootedTree)
-    (layout : tree.layout ≡ catalog_layout 0) (root : tree.root ≡ m.catalog) where
-  abbrev pub all_listed : List Entry
-  all_listed = map (catalog_entry 0) holds.kept
-
-  pub catalog_there : (pages : List (Option Sector)) → pages ≡ m.pages
-      → IsTreeOrEmpty tree.layout pages tree.root holds.keeps.catalog
-  catalog_there pages same =
-      subst (λ (p : List (Option Sector)). IsTreeOrEmpty tree.layout p tree.root holds.keeps.catalog) (sym same)
-      (catalog_holds m files holds tree (layout ∙ ap catalog_layout (sym first)) root)
-
-  entries_are : entries_of tree.layout holds.keeps.catalog ≡ all_listed
-  entries_are = ap (λ (l : RowLayout). entries_of l holds.keeps.catalog) (layout ∙ ap catalog_layout (sym first))
-      ∙ holds.keeps.listed ∙ ap (λ (n : ℕ). map (catalog_entry n) holds.kept) first
-
-  pub first_listed : (next : Option Entry) → (IsTreeOrEmpty tree.layout m.pages tree.root holds.keeps.catalog
-      → next ≡ first_entry (entries_of tree.layout holds.keeps.catalog)) → next ≡ entry_at 0 all_listed
-  first_listed next is = is (catalog_there m.pages refl) ∙ ap first_entry entries_are ∙ first_at all_listed
-
-  pub next_listed : (n : ℕ) (e : Entry) (next : Option Entry) → entry_at n all_listed ≡ Some e
-      → next ≡ first_entry_after (entries_of tree.layout holds.keeps.catalog) e.key
-      → next ≡ entry_at (n + 1) all_listed
-  next_listed n e next at is =
-      let ascend = subst (λ (es : List Entry). Ascend (keys_listed es)) entries_are
-      (tree_ascends tree.layout m.pages tree.root holds.keeps.catalog (catalog_there m.pages refl)) in
-      is ∙ ap (λ (es : List Entry). first_entry_after es e.key) entries_are ∙ next_at all_listed n e ascend at
-      ∙ ap (λ (k : ℕ). entry_at k all_listed) (let more : suc n ≡ n + 1 = omega arith in more)
 
 -- the file of an entry, with its trees, after calls that only read
 pub trees_now : {D : Type 0} (d : Devices D) (p q : PageMap) (a b : D) (files : Files)

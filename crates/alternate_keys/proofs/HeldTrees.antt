@@ -4,20 +4,22 @@ use Rattle.std.specs.Prelude.{Option, Some}
 use Rattle.std.specs.Option.{option_map}
 use Rattle.station.specs.Disk.{Sector}
 use Rattle.station.specs.declared.device.Device.{Ghosts as Devices}
-use Rattle.pages.specs.Pages.{Agrees}
+use Rattle.pages.specs.Pages.{Agrees, IsUnchanged}
 use Rattle.pages.specs.declared.page_map.PageMap.{PageMap}
 use Rattle.btree.specs.Calls.{pages_on}
 use Rattle.btree.specs.Entries.{Entry}
 use Rattle.btree.proofs.Frames.{same_pages}
 use Rattle.records.specs.declared.key.KeyOfReference.TheVariants.{Prime}
 use Rattle.records.specs.Spec.{Spec}
-use Rattle.records.specs.Rows.{Pair}
+use Rattle.records.specs.Rows.{Pair, Row}
 use Rattle.records.specs.Changes.{row_at}
 use Rattle.records.specs.Files.{NamedFile}
 use Rattle.volume_format.specs.Calls.{LooksAt}
 use Rattle.volume_format.specs.Forest.{TreeLevels}
 use Rattle.volume_format.specs.Trees.{entry_under}
+use Rattle.row_trees.specs.RowTree.{ChainedTree, IsRowTree}
 use Rattle.alternate_keys.specs.Placed.{HasTrees}
+use Rattle.alternate_keys.specs.Seen.{HasRows}
 use Rattle.alternate_keys.proofs.FoundRow.{FoundRow, found_at}
 
 module _ {D : Type 0} (d : Devices D) where
@@ -39,6 +41,14 @@ module _ {D : Type 0} (d : Devices D) where
         has = subst (λ (l : List (Option Sector)). HasTrees spec named generation l left right listing)
             (sym (same_pages p q (d.state a) (d.state b) looks.unchanged still)) held.has;
       }
+
+  -- the rows are there still, after calls that only read
+  pub rows_still : {spec : Spec} {rows : List Row} {prime : ChainedTree} (p q : PageMap) (a b : D) → IsUnchanged p q
+      → d.state b ≡ d.state a → (there : HasRows spec (pages_on d p a) rows prime)
+      → IsRowTree (pages_on d q b) prime there.planted
+  rows_still {spec} {rows} {prime} p q a b unchanged still there =
+      subst (λ (l : List (Option Sector)). IsRowTree l prime there.planted)
+      (sym (same_pages p q (d.state a) (d.state b) unchanged still)) there.stands
 
   -- and the row of a pair was found in them
   pub record HoldsRow (spec : Spec) (named : NamedFile) (generation : ℕ) (left right : List TreeLevels)

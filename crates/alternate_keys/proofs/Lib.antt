@@ -56,6 +56,8 @@ pub mod MovingRows
 pub mod ListedFile
 pub mod RowCounts
 pub mod Migrating
+pub mod CatalogEntries
+pub mod ClearedKeys
 pub mod CatalogLeaves
 pub mod FilledPages
 pub mod Remaking

@@ -1,6 +1,6 @@
--- The row that an entry was found for, and what is told of it.
+-- The row that an entry was found for, and what a search says of it.
 use Rattle.std.proofs.Common.{◌≡◌, ℕ, List, [], ◌∷◌, length, refl, sym, ap, subst, ◌∙◌}
-use Rattle.std.specs.Prelude.{Contains, Option, Some, IfSome}
+use Rattle.std.specs.Prelude.{Contains, Option, Some}
 use Rattle.std.specs.Option.{option_map}
 use Rattle.std.proofs.lemmas.List.Elements.{All-contains, All-cons, All-head, All-nil}
 use Rattle.station.specs.Disk.{Sector}

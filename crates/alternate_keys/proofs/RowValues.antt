@@ -15,7 +15,8 @@ use Rattle.records.specs.Changes.{changes, arrivals_after}
 use Rattle.records.proofs.Maps.{bytes_same}
 use Rattle.volume_format.specs.Trees.{entry_under}
 use Rattle.file_bytes.specs.Rows.{row_value}
-use Rattle.alternate_keys.specs.Moved.{old_key}
+use Rattle.alternate_keys.specs.Moved.{IsRowOf, old_key}
+use Rattle.alternate_keys.proofs.NewRows.{bytes_long}
 
 -- the arrival at a place of the list
 arrival_there : (arrivals : List ℕ) (i : ℕ) (more : List ℕ) → i < length arrivals → All (λ (a : ℕ). a < 256 ^ 8)
@@ -108,3 +109,38 @@ pub numbers_more : (numbers : List ℕ) (k : ℕ) → k < length numbers → fla
 numbers_more numbers k low =
     ap (λ (n : ℕ). flat_map (big_bytes 8) (take n numbers)) (let e : k + 1 ≡ suc k = omega arith in e)
     ∙ taken_one numbers k low
+
+-- the arrival that a row gets with another record, read from its old value
+pub arrival_given : (spec : Spec) (row : Row) → IsRowOf spec row → (old bytes : List ℕ) (arrival k given : ℕ)
+    → old ≡ row_value row → k < length spec.alternates
+    → given ≡ (if changes (take spec.record_length old) bytes (slice_index_or spec.alternates k no_key) then arrival
+    else big_number 8 (drop (spec.record_length + 8 * k) old))
+    → given ≡ slice_index_or (arrivals_after row.bytes bytes arrival spec.alternates row.arrivals) k 0
+arrival_given spec row is old bytes arrival k given same low given_is =
+    let n = spec.record_length in
+    let key = slice_index_or spec.alternates k no_key in
+    given_is
+    ∙ ap (λ (l : List ℕ). if changes (take n l) bytes key then arrival else big_number 8 (drop (n + 8 * k) l)) same
+    ∙ ap (λ (l : List ℕ). if changes l bytes key then arrival else big_number 8 (drop (n + 8 * k) (row_value row)))
+    (record_read n row.bytes row.arrivals is.long)
+    ∙ ap (λ (a : ℕ). if changes row.bytes bytes key then arrival else a)
+    (arrival_read n row.bytes row.arrivals is.long k (omega (arith, is.count, low)) is.low)
+    ∙ sym (arrivals_at row.bytes bytes arrival spec.alternates row.arrivals k low is.count)
+
+-- a record with the first arrivals, and with one more
+pub numbers_next : (bytes out next numbers : List ℕ) (k given : ℕ) → k < length numbers
+    → given ≡ slice_index_or numbers k 0 → out ≡ bytes ++ flat_map (big_bytes 8) (take k numbers)
+    → next ≡ out ++ big_bytes 8 given → next ≡ bytes ++ flat_map (big_bytes 8) (take (k + 1) numbers)
+numbers_next bytes out next numbers k given low given_is out_is next_is =
+    next_is ∙ ap (λ (a : ℕ). out ++ big_bytes 8 a) given_is
+    ∙ ap (λ (l : List ℕ). l ++ big_bytes 8 (slice_index_or numbers k 0)) out_is
+    ∙ append_assoc bytes (flat_map (big_bytes 8) (take k numbers)) (big_bytes 8 (slice_index_or numbers k 0))
+    ∙ ap (λ (l : List ℕ). bytes ++ l) (sym (numbers_more numbers k low))
+
+pub long_next : (out eight next : List ℕ) (n k given : ℕ) → length out ≡ n + 8 * k → eight ≡ big_bytes 8 given
+    → next ≡ out ++ eight → length next ≡ n + 8 * (k + 1)
+long_next out eight next n k given long eight_is next_is =
+    let eight_long = ap (λ (l : List ℕ). length l) eight_is ∙ bytes_long 8 given in
+    let all = ap (λ (l : List ℕ). length l) next_is in
+    let parts = length-append out eight in
+    omega (arith, long, eight_long, all, parts)

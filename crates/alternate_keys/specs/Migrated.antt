@@ -4,6 +4,7 @@ use Rattle.std.specs.List.{All}
 use Rattle.station.specs.Disk.{Sector, IsCrashImage}
 use Rattle.station.specs.State.{State}
 use Rattle.station.specs.Blocks.{CrashLeaves}
+use Rattle.station.specs.declared.device.Device.{Ghosts as Devices}
 use Rattle.pages.specs.Layout.{IsForeign, map_count}
 use Rattle.pages.specs.Image.{Volume, Map, Reads}
 use Rattle.pages.specs.Use.{free_count}
@@ -21,6 +22,10 @@ use Rattle.alternate_keys.specs.Opened.{HoldsNone}
 -- the newest root in the image has this mark of a volume of pages
 abbrev pub HasMark : ℕ → List Sector → Type 0
 HasMark mark image = (v : Volume) × Reads image v × (v.root.mark ≡ mark)
+
+-- where the device is honest, and its image has this mark
+abbrev pub IfMarked : {D : Type 0} → Devices D → D → ℕ → Type 0 → Type 0
+IfMarked d now mark claim = d.is_honest now → HasMark mark (d.state now).disk.present → claim
 
 -- it has the second mark, and holds these files
 abbrev pub IsMigrated : Files → List Sector → Type 0

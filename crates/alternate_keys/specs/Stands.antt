@@ -1,6 +1,9 @@
--- What the store stands for, and why a change is refused.
-use Rattle.std.specs.Prelude.{◌≡◌, ◌<◌, ◌≤◌, ◌⊎◌, ◌+◌, ◌*◌, ◌^◌, Bool, ℕ, List, [], length, Option, Some, None, if◌then◌else◌}
+-- Which files the store holds, and why a change is refused.
+use Rattle.std.specs.Prelude.{◌≡◌, ◌<◌, ◌≤◌, ◌⊎◌, ◌+◌, ◌*◌, ◌^◌, Bool, ℕ, List, [], length, Option, Some, None}
+use Rattle.std.specs.Prelude.{if◌then◌else◌}
+use Rattle.std.specs.Prelude.{Result, IfOk}
 use Rattle.station.specs.Disk.{Disk, Sector}
+use Rattle.station.specs.declared.device.Device.{Ghosts as Devices}
 use Rattle.pages.specs.Layout.{map_count}
 use Rattle.pages.specs.Image.{Volume, Reads, map_of}
 use Rattle.pages.specs.Use.{free_count}
@@ -12,7 +15,7 @@ use Rattle.records.specs.declared.fault.StoreFault.TheVariants.{Device, Full, Da
 use Rattle.records.specs.Files.{File, Files, file_at}
 use Rattle.records.specs.Stores.{MakesLong}
 use Rattle.volume_format.specs.Chained.{chained_bytes}
-use Rattle.volume_format.specs.Volume.{MapHolds}
+use Rattle.volume_format.specs.Volume.{MapHolds, Holds}
 use Rattle.alternate_keys.specs.Notes.{AreNotesOf}
 use Rattle.alternate_keys.specs.Opened.{OpenedVolume}
 
@@ -27,6 +30,11 @@ pub record Represents (pages : PageMap) (disk : Disk) (files : Files) : Type 0 w
 pub record IsStoreOf (store : OpenedVolume) (disk : Disk) (files : Files) : Type 0 where
   pub represents : Represents store.pages disk files
   pub notes : AreNotesOf store.notes (map_now store.pages disk.present)
+
+-- where the image of the device holds files, the store that was opened stands for them
+abbrev pub StandsForFiles : {D : Type 0} → Devices D → Result OpenedVolume StoreFault → D → D → Type 0
+StandsForFiles d result old new = d.is_honest old → (files : Files) → Holds (d.state old).disk.present files
+    → IfOk result (λ store. IsStoreOf store (d.state new).disk files)
 
 -- how many alternate keys the file has
 abbrev pub keys_of : Option File → ℕ
@@ -46,7 +54,8 @@ enough volume is_new file =
 -- too few sectors are free, the files are more than 255, or no generation is left
 abbrev pub LacksSpace : Volume → Bool → List ℕ → Files → Type 0
 LacksSpace volume is_new name after =
-    (free_count volume < enough volume is_new (file_at name after)) ⊎ (255 < length after) ⊎ (2 ^ 63 ≤ volume.root.generation + 1)
+    (free_count volume < enough volume is_new (file_at name after)) ⊎ (255 < length after)
+    ⊎ (2 ^ 63 ≤ volume.root.generation + 1)
 
 -- The volume in an image lacks room for these files after a change of the file of this name.
 pub record LacksRoom (image : List Sector) (is_new : Bool) (name : List ℕ) (after : Files) : Type 0 where

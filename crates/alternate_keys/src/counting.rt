@@ -1,9 +1,8 @@
 //! Whether the catalog has room for one more file.
-ghost use Rattle.std.specs.Prelude.{◌≡◌, ◌≤◌, ◌<◌, true, false, length, Err, List, IfOk, IfErr, IfSome};
+ghost use Rattle.std.specs.Prelude.{◌≡◌, ◌≤◌, ◌<◌, true, false, length, Err, IfOk, IfErr, IfSome};
 ghost use Rattle.pages.specs.Pages.{is_spent, sectors_of, IsOpen};
-ghost use Rattle.btree.specs.Calls.{IfAgrees, pages_on};
+ghost use Rattle.btree.specs.Calls.{OnTree};
 ghost use Rattle.btree.specs.Entries.{HasLengths, entries_of, first_entry, first_entry_after};
-ghost use Rattle.btree.specs.Tree.{TreeNode, IsTreeOrEmpty};
 ghost use Rattle.volume_format.specs.Calls.{LooksAt};
 ghost use Rattle.alternate_keys.specs.Created.{OnFiles};
 ghost use Rattle.alternate_keys.specs.Faults.{IsReadFault};
@@ -59,13 +58,10 @@ pub(crate) fn first_in<D: Device>(
     requires short { tree.now.layout.key_length ≤ 128 }
     ensures looks { LooksAt D.Device (result ≡ Err StoreFault.Device) pages.old device.old pages.new
         device.new }
-    ensures entry { IfAgrees D.Device pages.old device.old ((levels : List (List TreeNode))
-        → IsTreeOrEmpty tree.now.layout (pages_on D.Device pages.old device.old) tree.now.root
-        levels →
+    ensures entry { OnTree D.Device tree.now.layout tree.now.root pages.old device.old (λ levels.
         IfOk result (λ entry. entry ≡ first_entry (entries_of tree.now.layout levels))) }
-    ensures damaged { IfAgrees D.Device pages.old device.old ((levels : List (List TreeNode))
-        → IsTreeOrEmpty tree.now.layout (pages_on D.Device pages.old device.old) tree.now.root
-        levels → result ≡ Err StoreFault.Damaged → ⊥) }
+    ensures damaged { OnTree D.Device tree.now.layout tree.now.root pages.old device.old
+        (λ levels. result ≡ Err StoreFault.Damaged → ⊥) }
     ensures lengths { IfOk result (λ entry. IfSome entry (HasLengths tree.now.layout)) }
     ensures spent { result ≡ Err StoreFault.Spent → is_spent pages.old ≡ true }
     ensures cause { IfErr result IsReadFault }
@@ -88,14 +84,11 @@ pub(crate) fn next_in<D: Device>(
     requires short { tree.now.layout.key_length ≤ 128 }
     ensures looks { LooksAt D.Device (result ≡ Err StoreFault.Device) pages.old device.old pages.new
         device.new }
-    ensures entry { IfAgrees D.Device pages.old device.old ((levels : List (List TreeNode))
-        → IsTreeOrEmpty tree.now.layout (pages_on D.Device pages.old device.old) tree.now.root
-        levels →
-        IfOk result
+    ensures entry { OnTree D.Device tree.now.layout tree.now.root pages.old device.old
+        (λ levels. IfOk result
         (λ next. next ≡ first_entry_after (entries_of tree.now.layout levels) entry.now.key)) }
-    ensures damaged { IfAgrees D.Device pages.old device.old ((levels : List (List TreeNode))
-        → IsTreeOrEmpty tree.now.layout (pages_on D.Device pages.old device.old) tree.now.root
-        levels → result ≡ Err StoreFault.Damaged → ⊥) }
+    ensures damaged { OnTree D.Device tree.now.layout tree.now.root pages.old device.old
+        (λ levels. result ≡ Err StoreFault.Damaged → ⊥) }
     ensures lengths { IfOk result (λ entry. IfSome entry (HasLengths tree.now.layout)) }
     ensures spent { result ≡ Err StoreFault.Spent → is_spent pages.old ≡ true }
     ensures cause { IfErr result IsReadFault }

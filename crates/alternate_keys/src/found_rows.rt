@@ -1,4 +1,4 @@
-//! What is told of the row of an entry.
+//! What a search says of the row of an entry.
 ghost use Rattle.std.specs.Prelude.{◌≡◌, ◌≤◌, ◌<◌, ◌+◌, true, false, Err, Ok, Some, List, length, take, drop, IfOk, OnOk, OnErr, IfErr};
 ghost use Rattle.byteorder.specs.Endian.{big_number};
 ghost use Rattle.station.specs.Calls.{OnlyReads};
@@ -31,7 +31,7 @@ use records::{Found, KeyOfReference, Organization};
 use row_trees::RowTree;
 use station::Device;
 
-/// What is told of a row by its entry in the tree of rows. Its record is put into `bytes`.
+/// What a search says of a row, by its entry in the tree of rows. The row's record is put into `bytes`.
 pub(crate) fn read_prime_row<D: Device>(
     buffer: &mut RecordBuffer,
     prime: &RowTree,
@@ -87,7 +87,8 @@ fn has_front(key: &[u8], value: &[u8]) -> bool
     key[..count] == value[..]
 }
 
-/// What is told of a row by its entry in the tree of an alternate key, which the notes have. Its record is put into `bytes`.
+/// What a search says of a row, by its entry in the tree of an alternate key. The notes have the entry. The row's record is put into
+/// `bytes`.
 pub(crate) fn read_alternate_row<D: Device>(
     notes: &mut SearchNotes,
     prime: &RowTree,

@@ -23,7 +23,7 @@ use row_trees::RowTree;
 use station::Device;
 use std::alloc::Global;
 
-/// Puts a new row into the tree of rows, beside which others stay. `false` tells that its prime key or number is there, and then nothing
+/// Puts a new row into the tree of rows, beside which others stay. `false` means that its prime key or number is there, and then nothing
 /// was changed.
 pub(crate) fn insert_row<D: Device>(
     alloc: Global,

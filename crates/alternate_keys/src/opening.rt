@@ -1,16 +1,13 @@
 //! A volume is made, and opened.
-ghost use Rattle.std.specs.Prelude.{◌≡◌, ◌⊎◌, ◌≤◌, ◌↔◌, false, Err, [], IfOk, IfErr, OnOk, OnErr};
-ghost use Rattle.station.specs.State.{state_after_sync};
-ghost use Rattle.station.specs.History.{Through, EachImage};
-ghost use Rattle.station.specs.Failures.{Blames, CountsFailure};
-ghost use Rattle.station.specs.Opening.{IsOpening};
-ghost use Rattle.pages.specs.Layout.{IsForeign};
+ghost use Rattle.std.specs.Prelude.{◌≡◌, ◌≤◌, ◌↔◌, false, [], IfOk, OnOk};
+ghost use Rattle.station.specs.History.{EachImage};
+ghost use Rattle.station.specs.Failures.{CountsFailure};
 ghost use Rattle.pages.specs.Pages.{sectors_of, committed_of};
 ghost use Rattle.pages.specs.Use.{free_count};
-ghost use Rattle.records.specs.Files.{Files};
 ghost use Rattle.volume_format.specs.Volume.{Holds};
-ghost use Rattle.alternate_keys.specs.Opened.{HasMap, IsOpenRefusal, IsReadCause, FailsWith};
-ghost use Rattle.alternate_keys.specs.Stands.{IsStoreOf};
+ghost use Rattle.pages.specs.Opens.{LeavesPossible};
+ghost use Rattle.alternate_keys.specs.Opened.{BlamesDevice, IsSynced, IsAtMostSynced, IsReadyOn, OpensMap, RefusesForImage, OpensWhatHolds, FailsIfForeign};
+ghost use Rattle.alternate_keys.specs.Stands.{StandsForFiles};
 
 use crate::notes::SearchNotes;
 use crate::store::PagedStore;
@@ -48,35 +45,23 @@ impl PagedStore {
         requires most { capacity ≤ 4096 }
         ensures honest { D.is_honest device.old ↔ D.is_honest device.new }
         ensures sectors { D.sectors device.new ≡ D.sectors device.old }
-        ensures failures { Blames (result ≡ Err StoreFault.Device) (D.failures device.old)
-            (D.failures device.new) }
+        ensures failures { BlamesDevice D.Device device.old device.new result }
 
         // Until it has succeeded, a crash leaves what was possible before.
-        ensures moments { D.is_honest device.old → Through (D.history device.old)
-            (D.history device.new) (D.state device.new) (IsOpening (D.state device.old)) }
-        ensures state { D.is_honest device.old
-            → OnOk result (D.state device.new ≡ state_after_sync (D.state device.old)) }
-        ensures unwritten { D.is_honest device.old
-            → OnErr result ((D.state device.new ≡ D.state device.old)
-            ⊎ (D.state device.new ≡ state_after_sync (D.state device.old))) }
+        ensures moments { LeavesPossible D.Device device.old device.new }
+        ensures state { IsSynced D.Device result device.old device.new }
+        ensures unwritten { IsAtMostSynced D.Device result device.old device.new }
 
         // The store stands for the files that the disk holds, where it holds some.
-        ensures stands { D.is_honest device.old → (files : Files)
-            → Holds (D.state device.old).disk.present files →
-            IfOk result (λ store. IsStoreOf store (D.state device.new).disk files) }
-        ensures ready { IfOk result
-            (λ store. (store.spent ≡ false) × (sectors_of store.pages ≤ D.sectors device.old)) }
+        ensures stands { StandsForFiles D.Device result device.old device.new }
+        ensures ready { IfOk result (IsReadyOn (D.sectors device.old)) }
 
-        // Only a disk that holds a map is opened. Where it holds files, the device and memory alone refuse. `Layout` comes exactly where the
-        // newest root is the other store's, and `Damaged` only where the disk holds no files.
-        ensures map { D.is_honest device.old
-            → OnOk result (HasMap (D.state device.old).disk.present) }
-        ensures refused { D.is_honest device.old
-            → IfErr result (IsOpenRefusal (D.state device.old).disk.present) }
-        ensures opens { D.is_honest device.old → (files : Files)
-            → Holds (D.state device.old).disk.present files → IfErr result IsReadCause }
-        ensures foreign { D.is_honest device.old → IsForeign (D.state device.old).disk.present
-            → FailsWith StoreFault.Layout result }
+        // Only a disk that holds a map is opened. Where it holds files, the device and memory alone refuse. `Layout` is returned exactly where
+        // the newest root is the other store's, and `Damaged` only where the disk holds no files.
+        ensures map { OpensMap D.Device result device.old }
+        ensures refused { RefusesForImage D.Device result device.old }
+        ensures opens { OpensWhatHolds D.Device result device.old }
+        ensures foreign { FailsIfForeign D.Device result device.old }
     {
         match PageMap::open(alloc, device, capacity) {
             Ok(pages) => Ok(PagedStore {

@@ -1,26 +1,23 @@
 //! A volume gets the second mark.
-ghost use Rattle.std.specs.Prelude.{◌≡◌, ◌⊎◌, ◌≤◌, ◌<◌, ◌+◌, ◌++◌, ◌↔◌, true, false, Err, ℕ, List, length, IfOk, IfErr, OnOk, OnErr, IsOkUnless};
+ghost use Rattle.std.specs.Prelude.{◌≡◌, ◌≤◌, ◌<◌, ◌+◌, ◌++◌, ◌↔◌, true, false, Err, ℕ, List, length, IfOk, IfErr, OnOk, OnErr, IsOkUnless};
 ghost use Rattle.std.specs.List.{All};
-ghost use Rattle.station.specs.State.{state_after_sync};
-ghost use Rattle.station.specs.History.{Through, EachImage};
-ghost use Rattle.station.specs.Failures.{Blames};
+ghost use Rattle.station.specs.History.{EachImage};
 ghost use Rattle.station.specs.Opening.{IsOpening};
-ghost use Rattle.pages.specs.Layout.{IsForeign};
 ghost use Rattle.pages.specs.Pages.{map_now, is_spent, mark_of, committed_of, sectors_of, filled_of, next_generation, IsOpen};
 ghost use Rattle.pages.specs.Use.{free_count};
 ghost use Rattle.btree.specs.Builds.{IsLeafOf, rows_of_nodes};
 ghost use Rattle.btree.specs.Calls.{IfAgrees, pages_on};
 ghost use Rattle.btree.specs.Results.{FewFilled};
-ghost use Rattle.records.specs.Files.{Files, NamedFile};
+ghost use Rattle.records.specs.Files.{NamedFile};
 ghost use Rattle.records.specs.Spec.{Spec};
 ghost use Rattle.volume_format.specs.Calls.{LooksAt};
 ghost use Rattle.volume_format.specs.Catalog.{catalog_layout, catalog_value};
 ghost use Rattle.volume_format.specs.Forest.{TreeLevels};
-ghost use Rattle.volume_format.specs.Volume.{MapHolds, Holds};
+ghost use Rattle.volume_format.specs.Volume.{MapHolds};
 ghost use Rattle.alternate_keys.specs.Created.{OnFiles, OnListed, Prepares};
 ghost use Rattle.alternate_keys.specs.Faults.{IsReadFault, IsWriteFault};
-ghost use Rattle.alternate_keys.specs.Migrated.{with_mark, HasMark, IsMigrated, IsMigrating, IsMigrateRefusal, AreCatalogLeaves, AreFilled, ListsCounted};
-ghost use Rattle.alternate_keys.specs.Opened.{FailsWith};
+ghost use Rattle.alternate_keys.specs.Migrated.{with_mark, IfMarked, IsMigrated, IsMigrating, IsMigrateRefusal, AreCatalogLeaves, AreFilled, ListsCounted};
+ghost use Rattle.alternate_keys.specs.Opened.{BlamesDevice, FailsWith, IfForeign, OnHeldFiles, PassesThrough, SyncsAtMost, SyncsOnly};
 ghost use Rattle.alternate_keys.specs.Placed.{HasTrees};
 
 use crate::clearing::clear_among;
@@ -47,38 +44,31 @@ const CACHE: usize = 64;
 pub fn migrate<D: Device>(alloc: Global, device: &mut D) -> Result<(), StoreFault>
     ensures honest { D.is_honest device.old ↔ D.is_honest device.new }
     ensures sectors { D.sectors device.new ≡ D.sectors device.old }
-    ensures failures { Blames (result ≡ Err StoreFault.Device) (D.failures device.old)
-        (D.failures device.new) }
+    ensures failures { BlamesDevice D.Device device.old device.new result }
 
     // At each moment a crash leaves what was possible before, or the same files.
-    ensures moments { D.is_honest device.old → (files : Files)
-        → Holds (D.state device.old).disk.present files →
-        Through (D.history device.old) (D.history device.new) (D.state device.new)
-        (IsMigrating (D.state device.old) files) }
+    ensures moments { OnHeldFiles D.Device device.old (λ files.
+        PassesThrough D.Device device.old device.new (IsMigrating (D.state device.old) files)) }
 
     // After `Ok` it leaves them on a volume with the second mark.
-    ensures migrated { D.is_honest device.old → (files : Files)
-        → Holds (D.state device.old).disk.present files →
-        OnOk result (EachImage (IsMigrated files) (D.state device.new)) }
+    ensures migrated { OnHeldFiles D.Device device.old
+        (λ files. OnOk result (EachImage (IsMigrated files) (D.state device.new))) }
 
     // A volume that has this mark is left as it was, also if the call is refused.
-    ensures idle { D.is_honest device.old → HasMark 1 (D.state device.old).disk.present
-        → OnOk result (D.state device.new ≡ state_after_sync (D.state device.old)) }
-    ensures unchanged { D.is_honest device.old → HasMark 1 (D.state device.old).disk.present
-        → OnErr result ((D.state device.new ≡ D.state device.old)
-        ⊎ (D.state device.new ≡ state_after_sync (D.state device.old))) }
+    ensures idle { IfMarked D.Device device.old 1
+        (OnOk result (SyncsOnly D.Device device.old device.new)) }
+    ensures unchanged { IfMarked D.Device device.old 1
+        (OnErr result (SyncsAtMost D.Device device.old device.new)) }
 
     // If it is refused for lack of room, nothing was written.
     ensures unwritten { result ≡ Err StoreFault.Full → D.is_honest device.old
-        → D.state device.new ≡ state_after_sync (D.state device.old) }
+        → SyncsOnly D.Device device.old device.new }
 
     // The other store's volume is only opened.
-    ensures foreign { D.is_honest device.old → IsForeign (D.state device.old).disk.present
-        → FailsWith StoreFault.Layout result × ((D.state device.new ≡ D.state device.old)
-        ⊎ (D.state device.new ≡ state_after_sync (D.state device.old))) }
-    ensures opening { D.is_honest device.old → IsForeign (D.state device.old).disk.present →
-        Through (D.history device.old) (D.history device.new) (D.state device.new)
-        (IsOpening (D.state device.old)) }
+    ensures foreign { IfForeign D.Device device.old (FailsWith StoreFault.Layout result
+        × SyncsAtMost D.Device device.old device.new) }
+    ensures opening { IfForeign D.Device device.old
+        (PassesThrough D.Device device.old device.new (IsOpening (D.state device.old))) }
     ensures refused { D.is_honest device.old
         → IfErr result (IsMigrateRefusal (D.state device.old).disk.present) }
 {

@@ -1,13 +1,13 @@
 //! A row that is sought in the trees of its file.
-ghost use Rattle.std.specs.Prelude.{◌≡◌, ◌≤◌, Err, length, IfOk, OnOk, OnErr, IfErr};
+ghost use Rattle.std.specs.Prelude.{◌≡◌, ◌≤◌, Err, OnErr, IfErr};
 ghost use Rattle.pages.specs.Pages.{sectors_of, IsOpen};
-ghost use Rattle.btree.specs.Calls.{OnPages, pages_on};
+ghost use Rattle.btree.specs.Calls.{OnPages};
 ghost use Rattle.btree.specs.Results.{OnlyIfSpent};
 ghost use Rattle.btree.specs.Places.{IsLeafPlace};
-ghost use Rattle.records.specs.Stores.{spec_of, IsKey, record_of};
+ghost use Rattle.records.specs.Stores.{spec_of, IsKey};
 ghost use Rattle.volume_format.specs.Calls.{LooksAt};
 ghost use Rattle.chains.specs.Refusals.{IsRecordRefusal};
-ghost use Rattle.alternate_keys.specs.Searches.{OnSought};
+ghost use Rattle.alternate_keys.specs.Searches.{ReturnsSought, ReadsSought, FindsNoDamage};
 
 use crate::found_rows::{read_alternate_row, read_prime_row};
 use crate::look::look_near;
@@ -43,16 +43,12 @@ pub fn seek_row<D: Device>(
     // If the leaf that is noted is one of its tree, so is the leaf that is noted then, and this is the answer.
     ensures place { OnPages D.Device pages.old device.old
         (λ before. IsLeafPlace notes.old.place before → IsLeafPlace notes.new.place before) }
-    ensures found { OnSought D.Device file.now key pages.old device.old prime.now under.now aim
-        at.now (λ row told. IsLeafPlace notes.old.place (pages_on D.Device pages.old device.old)
-        → IfOk result (λ answer. answer ≡ told)) }
-    ensures bytes { OnSought D.Device file.now key pages.old device.old prime.now under.now aim
-        at.now (λ row told. IsLeafPlace notes.old.place (pages_on D.Device pages.old device.old)
-        → length bytes.old ≡ file.now.record_length →
-        OnOk result (bytes.new ≡ record_of bytes.old row)) }
-    ensures damaged { OnSought D.Device file.now key pages.old device.old prime.now under.now aim
-        at.now (λ row told. IsLeafPlace notes.old.place (pages_on D.Device pages.old device.old)
-        → length bytes.old ≡ file.now.record_length → result ≡ Err PagesError.Damaged → ⊥) }
+    ensures found { ReturnsSought D.Device file.now key pages.old device.old prime.now under.now aim
+        at.now notes.old.place result }
+    ensures bytes { ReadsSought D.Device file.now key pages.old device.old prime.now under.now aim
+        at.now notes.old.place bytes.old bytes.new result }
+    ensures damaged { FindsNoDamage D.Device file.now key pages.old device.old prime.now
+        under.now aim at.now notes.old.place bytes.old result }
     ensures file { (notes.new.name.items ≡ notes.old.name.items)
         × (notes.new.listing ≡ notes.old.listing) }
     ensures spent { OnlyIfSpent pages.old result }

@@ -52,4 +52,22 @@ pub mod Passing
 pub mod Ascending
 pub mod Building
 pub mod Counting
+pub mod NeighbourCalls
+pub mod ReadMaps
+pub mod ShrinkCalls
+pub mod JoinedPairs
+pub mod RemovalCalls
+pub mod ReplaceCalls
+pub mod CountCalls
+pub mod DescentCalls
+pub mod ParentCalls
 mod Examples
+mod Changing
+mod Children
+mod ClearedLevels
+mod NamedTrees
+mod PlacedLeaves
+mod PutTwo
+mod SmallMaps
+mod StepsUp
+mod TwoRows

@@ -1,14 +1,17 @@
 -- What the calls on a device and a map of pages are asked for, said once.
-use Rattle.std.specs.Prelude.{◌≡◌, ℕ, List, Option, Result, IfOk}
+use Rattle.std.specs.Prelude.{◌≡◌, ◌≤◌, ℕ, List, Option, Result, Err, IfOk}
+use Rattle.station.specs.Calls.{OnlyReads}
 use Rattle.station.specs.Disk.{Sector}
 use Rattle.station.specs.declared.device.Device.{Ghosts as Devices}
 use Rattle.pages.specs.declared.page_map.PageMap.{PageMap}
-use Rattle.pages.specs.Pages.{map_now, Agrees}
+use Rattle.pages.specs.Pages.{map_now, sectors_of, Agrees}
 use Rattle.btree_pages.specs.declared.row_layout.RowLayout.{RowLayout}
 use Rattle.pages.specs.declared.error.PagesError.{PagesError}
+use Rattle.pages.specs.declared.error.PagesError.TheVariants.{Device}
 use Rattle.btree.specs.Tree.{TreeNode, IsTreeOrEmpty}
 use Rattle.btree.specs.Entries.{Entry, entries_of}
 use Rattle.btree.specs.Rooted.{RootedTree}
+use Rattle.btree.specs.Results.{ReturnsDamaged}
 
 module _ {D : Type 0} (device : Devices D) where
   -- the pages of the map, with what was changed, over what the device's disk holds
@@ -18,6 +21,18 @@ module _ {D : Type 0} (device : Devices D) where
   -- where the device is honest and agrees with the map of pages
   abbrev pub IfAgrees : PageMap → D → Type 0 → Type 0
   IfAgrees pages now claim = device.is_honest now → Agrees pages (device.state now).disk → claim
+
+  -- there, the map of pages agrees with the device after a call too
+  abbrev pub KeepsAgreement : PageMap → D → PageMap → D → Type 0
+  KeepsAgreement old before new after = IfAgrees old before (Agrees new (device.state after).disk)
+
+  -- the device has each sector of the map of pages
+  abbrev pub FitsDevice : PageMap → D → Type 0
+  FitsDevice pages now = sectors_of pages ≤ device.sectors now
+
+  -- the device is only read by a call with this result, and it failed if `Device` is returned
+  abbrev pub OnlyReadsFor : {T : Type 0} → D → D → Result T PagesError → Type 0
+  OnlyReadsFor before after result = OnlyReads device (result ≡ Err Device) before after
 
   -- and where the pages under this root are a tree besides: of its levels
   abbrev pub OnTree : RowLayout → ℕ → PageMap → D → (List (List TreeNode) → Type 0) → Type 0
@@ -39,6 +54,17 @@ module _ {D : Type 0} (device : Devices D) where
       device.is_honest now → Agrees old (device.state now).disk → (levels : List (List TreeNode)) → IsTreeOrEmpty layout (pages_on old now) root levels →
       claim (pages_on old now) levels (pages_on new now)
 
+  -- where the pages under the root of this tree are a tree; and `Damaged` is returned only if they are none
+  abbrev pub IfTree : RootedTree → PageMap → D → Type 0 → Type 0
+  IfTree tree pages now claim = OnTree tree.layout tree.root pages now (λ levels. claim)
+
+  abbrev pub DamagedOnlyIfNoTree : {T : Type 0} → RootedTree → PageMap → D → Result T PagesError → Type 0
+  DamagedOnlyIfNoTree tree pages now result = OnNoTree tree.layout tree.root pages now (ReturnsDamaged result)
+
   -- what a search answers of the entries of a tree
   abbrev pub AnswersEntry : RootedTree → PageMap → D → (List Entry → Option Entry) → Result (Option Entry) PagesError → Type 0
   AnswersEntry tree pages now find result = OnTree tree.layout tree.root pages now (λ levels. IfOk result (λ entry. entry ≡ find (entries_of tree.layout levels)))
+
+  -- and of a key
+  abbrev pub AnswersKey : RootedTree → PageMap → D → (List Entry → List ℕ → Option Entry) → List ℕ → Result (Option Entry) PagesError → Type 0
+  AnswersKey tree pages now find key result = AnswersEntry tree pages now (λ entries. find entries key) result

@@ -1,11 +1,15 @@
 -- An entry that comes to a leaf after its first row, and one that gets another value in its leaf.
-use Rattle.std.specs.Prelude.{◌≡◌, ◌<◌, ◌≤◌, ◌+◌, ◌++◌, ℕ, List, [], length, take, drop, slice_index_or, slice_set, Option, Some, None}
-use Rattle.station.specs.Disk.{Sector}
+use Rattle.std.specs.Prelude.{◌≡◌, ◌<◌, ◌≤◌, ◌+◌, ◌++◌, ℕ, List, [], length, take, drop, slice_index_or, slice_set, Option, Some, None, Bool, true, Result, Ok}
+use Rattle.station.specs.Disk.{Disk, Sector}
+use Rattle.pages.specs.Pages.{Agrees}
+use Rattle.pages.specs.declared.page_map.PageMap.{PageMap}
+use Rattle.pages.specs.declared.error.PagesError.{PagesError}
 use Rattle.btree_pages.specs.declared.row_layout.RowLayout.{RowLayout}
 use Rattle.btree_pages.specs.declared.row_layout.Kind.TheVariants.{Leaf}
 use Rattle.btree_pages.specs.Keys.{key_of, keys_of, Ascend, AllBelow, AllAbove}
 use Rattle.btree_pages.specs.Node.{Node, node_in}
 use Rattle.btree_pages.specs.Edits.{node_with_row, with_rest}
+use Rattle.btree.specs.Changes.{pages_of_map}
 
 -- The second bytes spell the leaf of the first ones with the entry at a place after its first row, between lesser keys and greater ones.
 pub record EntersIn (layout : RowLayout) (bytes : Sector) (key value : List ℕ) (new : Sector) : Type 0 where
@@ -46,3 +50,12 @@ pub record SetsOn (layout : RowLayout) (page : ℕ) (key value : List ℕ) (befo
   pub at : slice_index_or before page None ≡ Some bytes
   pub sets : SetsIn layout bytes key value new
   pub is : after ≡ slice_set before page (Some new)
+
+-- `true` is returned only if the page became so
+abbrev pub TrueOnlyIfEntered : RowLayout → ℕ → List ℕ → List ℕ → PageMap → PageMap → Result Bool PagesError → Type 0
+TrueOnlyIfEntered layout page key value old new result =
+    result ≡ Ok true → (disk : Disk) → Agrees old disk → EntersOn layout page key value (pages_of_map old disk.present) (pages_of_map new disk.present)
+
+abbrev pub TrueOnlyIfSet : RowLayout → ℕ → List ℕ → List ℕ → PageMap → PageMap → Result Bool PagesError → Type 0
+TrueOnlyIfSet layout page key value old new result =
+    result ≡ Ok true → (disk : Disk) → Agrees old disk → SetsOn layout page key value (pages_of_map old disk.present) (pages_of_map new disk.present)

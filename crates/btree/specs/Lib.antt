@@ -15,6 +15,7 @@ pub mod Entering
 pub mod Outcomes
 pub mod Shrinks
 pub mod Results
+pub mod TreeEdits
 pub mod Puts
 pub mod Removals
 pub mod Clears

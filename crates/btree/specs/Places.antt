@@ -1,7 +1,10 @@
 -- The leaf of a tree where a search ended.
-use Rattle.std.specs.Prelude.{◌≡◌, ◌≢◌, ◌≤◌, ℕ, List, [], ◌∷◌, length, map, Contains, Option, Some, None, Bool, true, false, if◌then◌else◌}
+use Rattle.std.specs.Prelude.{◌≡◌, ◌≢◌, ◌≤◌, ℕ, List, [], ◌∷◌, length, map, Contains, Option, Some, None, Bool, true, false, Result, IfOk, if◌then◌else◌}
 use Rattle.std.specs.Ordering.{is_gt}
 use Rattle.station.specs.Disk.{Sector}
+use Rattle.station.specs.declared.device.Device.{Ghosts as Devices}
+use Rattle.pages.specs.declared.page_map.PageMap.{PageMap}
+use Rattle.pages.specs.declared.error.PagesError.{PagesError}
 use Rattle.btree_pages.specs.declared.row_layout.RowLayout.{RowLayout}
 use Rattle.btree_pages.specs.declared.row_layout.Kind.TheVariants.{Leaf}
 use Rattle.btree_pages.specs.Keys.{key_cmp, keys_of, Ascend}
@@ -9,6 +12,9 @@ use Rattle.btree_pages.specs.Node.{node_in}
 use Rattle.btree.specs.declared.place.LeafPlace.{LeafPlace}
 use Rattle.btree.specs.Entries.{Entry, entries_of, entries_of_rows, first_entry_after}
 use Rattle.btree.specs.Tree.{TreeNode, IsTree, leaves_of, node_of}
+use Rattle.btree.specs.Rooted.{RootedTree}
+use Rattle.btree.specs.Results.{ReturnsDamaged}
+use Rattle.btree.specs.Calls.{OnTree, OnNoTree, OnPages, pages_on}
 
 -- one of the tree's leaves has that page
 abbrev pub HasLeaf : List (List TreeNode) → ℕ → Type 0
@@ -45,3 +51,20 @@ abbrev pub IsNextOf : RowLayout → List (Option Sector) → ℕ → List ℕ �
 IsNextOf layout pages root key entry =
     (levels : List (List TreeNode)) → IsTree layout pages root levels
     → Some entry ≡ first_entry_after (entries_of layout levels) key
+
+module _ {D : Type 0} (device : Devices D) where
+  -- From a leaf place of its own tree, a search returns whether this is the first entry after the key in a tree.
+  abbrev pub AnswersNear : RootedTree → PageMap → D → LeafPlace → List ℕ → Entry → Result Bool PagesError → Type 0
+  AnswersNear tree pages now place key entry result = OnTree device tree.layout tree.root pages now
+      (λ levels. IsLeafPlace place (pages_on device pages now) → IfOk result
+      (λ found. if_found found entry ≡ first_entry_after (entries_of tree.layout levels) key))
+
+  -- from there, `Damaged` is returned only if the pages under the root are no tree
+  abbrev pub DamagedOnlyIfNoTreeNear : {T : Type 0} → RootedTree → PageMap → D → LeafPlace → Result T PagesError → Type 0
+  DamagedOnlyIfNoTreeNear tree pages now place result = OnNoTree device tree.layout tree.root pages now
+      (ReturnsDamaged result × IsLeafPlace place (pages_on device pages now))
+
+  -- and the place after the call is one too
+  abbrev pub KeepsLeafPlace : PageMap → D → LeafPlace → LeafPlace → Type 0
+  KeepsLeafPlace pages now place place' =
+      OnPages device pages now (λ before. IsLeafPlace place before → IsLeafPlace place' before)

@@ -7,7 +7,7 @@ use Rattle.pages.specs.declared.page_map.PageMap.{PageMap}
 use Rattle.btree_pages.specs.declared.row_layout.RowLayout.{RowLayout}
 use Rattle.btree_pages.specs.declared.row_layout.Kind.{Kind}
 use Rattle.btree_pages.specs.declared.row_layout.Kind.TheVariants.{Inner}
-use Rattle.btree_pages.specs.RowLayouts.{row_length}
+use Rattle.btree_pages.specs.RowLayouts.{row_length, rest_length}
 use Rattle.btree_pages.specs.Keys.{key_of, rest_of}
 use Rattle.btree_pages.specs.Node.{Node}
 use Rattle.btree.specs.declared.split_result.SplitResult.{SplitResult}
@@ -82,6 +82,10 @@ PutsTogether old new left right joined =
     (image : List Sector) (one two : List (List ℕ)) → AreTwo (pages_of_map old image) left.page right.page →
     ReplacesNodes left.node.layout left.node.kind (pages_of_map old image) (node_with left.page one ∷ node_with right.page two ∷ []) (pages_of_map new image) (run_of joined)
 
+-- and have the rows of both
+abbrev pub HasBothRows : List (List ℕ) → List (List ℕ) → SplitResult → Type 0
+HasBothRows one two joined = rows_of (run_of joined) ≡ one ++ two
+
 -- so do two neighbours, and the page above them learns it
 abbrev pub JoinsPair : PageMap → PageMap → ℕ → Node → ℕ → Child → Child → RemovalOutcome → Type 0
 JoinsPair old new page node place left right outcome =
@@ -99,6 +103,10 @@ NeverTwo old left right told = told → (image : List Sector) → 0 < left → 0
 abbrev pub NeverLeads : PageMap → PathStep → Node → Type 0 → Type 0
 NeverLeads old step node told =
     told → (image : List Sector) → node.kind ≡ Inner → step.place < length node.rows → 0 < step.page → IsIn (pages_of_map old image) step.page → ⊥
+
+-- a key and the rest of a row have the lengths of the node's
+abbrev pub HasRowLengths : Node → List ℕ → List ℕ → Type 0
+HasRowLengths node key rest = (length key ≡ node.layout.key_length) × (length rest ≡ rest_length node.layout node.kind)
 
 -- the rows of the answer are these, with one more at a place
 abbrev pub HasInserted : List (List ℕ) → ℕ → List ℕ → SplitResult → Type 0

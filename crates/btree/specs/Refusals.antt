@@ -1,5 +1,5 @@
 -- Why a call that changes a tree is refused.
-use Rattle.std.specs.Prelude.{⊤}
+use Rattle.std.specs.Prelude.{⊤, Result, IfErr}
 use Rattle.pages.specs.declared.error.PagesError.{PagesError}
 use Rattle.pages.specs.declared.error.PagesError.TheVariants.{Device, Full, Damaged, Memory, Spent, ForeignMark}
 
@@ -47,6 +47,10 @@ IsChangeRefusal Damaged = ⊤
 IsChangeRefusal Memory = ⊤
 IsChangeRefusal Spent = ⊤
 IsChangeRefusal ForeignMark = ⊥
+
+-- an error is returned only for such a reason
+abbrev pub ErrOnlyIfChangeRefusal : {T : Type 0} → Result T PagesError → Type 0
+ErrOnlyIfChangeRefusal result = IfErr result IsChangeRefusal
 
 -- one that may need new pages is refused where no page number is left too
 abbrev pub IsInsertRefusal : PagesError → Type 0

@@ -1,12 +1,9 @@
 //! A tree is built of its leaves.
-ghost use Rattle.std.specs.Prelude.{◌≡◌, ◌≤◌, ◌<◌, ◌+◌, Err, List, length, IfOk, IfErr};
+ghost use Rattle.std.specs.Prelude.{◌≡◌, ◌≤◌, ◌+◌, length, IfOk, IfErr};
 ghost use Rattle.std.specs.List.{All};
-ghost use Rattle.station.specs.Disk.{Sector};
 ghost use Rattle.pages.specs.Pages.{IsOpen, KeepsCommitted};
 ghost use Rattle.btree_pages.specs.RowLayouts.{IsRowLayout, capacity};
-ghost use Rattle.btree_pages.specs.Keys.{Ascend, keys_of};
-ghost use Rattle.btree.specs.Builds.{IsLeafOf, Builds, rows_of_nodes};
-ghost use Rattle.btree.specs.Changes.{pages_of_map};
+ghost use Rattle.btree.specs.Builds.{IsLeafOf, OkOnlyIfBuilt};
 ghost use Rattle.btree.specs.Refusals.{IsWriteRefusal};
 ghost use Rattle.btree.specs.Results.{OnlyIfSpent, FullIfUsed, FewChanged, FewFilled};
 
@@ -31,9 +28,7 @@ impl Tree {
         requires few { length leaves.now ≤ capacity layout Kind.Inner }
 
         // If their keys ascend, it is a tree.
-        ensures built { Ascend (keys_of layout (rows_of_nodes leaves.now)) → IfOk result
-            (λ tree. (image : List Sector) → Builds layout (pages_of_map pages.old image)
-            (rows_of_nodes leaves.now) (pages_of_map pages.new image) tree.root) }
+        ensures built { OkOnlyIfBuilt layout pages.old leaves.now pages.new result }
         ensures layout { IfOk result (λ tree. tree.layout ≡ layout) }
 
         // Each leaf takes a page, and so does the page above them.

@@ -1,9 +1,8 @@
 //! A tree gives up its pages.
-ghost use Rattle.std.specs.Prelude.{◌≡◌, ◌≢◌, ◌≤◌, ◌<◌, ◌++◌, Err, true, List, [], length, map, IfOk, IfErr, OnOk, OnErr};
+ghost use Rattle.std.specs.Prelude.{◌≡◌, ◌≤◌, ◌<◌, ◌++◌, Err, true, List, [], length, map, IfOk, IfErr, OnOk};
 ghost use Rattle.std.specs.List.{All};
 ghost use Rattle.station.specs.Disk.{Sector};
-ghost use Rattle.station.specs.Calls.{OnlyReads};
-ghost use Rattle.pages.specs.Pages.{is_spent, sectors_of, catalog_of, page_count, filled_of, Agrees, IsOpen, SameCommitted, KeepsCommitted, IsUnchanged};
+ghost use Rattle.pages.specs.Pages.{is_spent, page_count, IsOpen, SameCommitted, KeepsCommitted, IsUnchanged};
 ghost use Rattle.btree_pages.specs.RowLayouts.{IsRowLayout};
 ghost use Rattle.btree_pages.specs.Keys.{child_of};
 ghost use Rattle.btree.specs.Tree.{TreeNode, rows_of, pages_of, IsOnPage};
@@ -11,9 +10,10 @@ ghost use Rattle.btree.specs.Laws.{IsSmall};
 ghost use Rattle.btree.specs.Moves.{Moves, numbers_of};
 ghost use Rattle.btree.specs.Changes.{pages_of_map};
 ghost use Rattle.btree.specs.Clears.{HasPages, IsDown, levels_below};
-ghost use Rattle.btree.specs.Refusals.{IsRestRefusal, IsChangeRefusal};
-ghost use Rattle.btree.specs.Calls.{IfAgrees, OnNoTree, OnPages, OnChange, OnTreeChange};
-ghost use Rattle.btree.specs.Results.{ReturnsDamaged, OnlyIfSpent, ExactlyIfSpent};
+ghost use Rattle.btree.specs.Refusals.{IsRestRefusal, ErrOnlyIfChangeRefusal};
+ghost use Rattle.btree.specs.Calls.{OnPages, OnChange, FitsDevice, OnlyReadsFor, KeepsAgreement, DamagedOnlyIfNoTree};
+ghost use Rattle.btree.specs.Results.{OnlyIfSpent, ExactlyIfSpent, OnlyIfSpentAt, ErrOnlyIfSame, OkOnlyIfEmpty, SameLayout, SameCatalog, FillsNoMore};
+ghost use Rattle.btree.specs.TreeEdits.{OkOnlyIfCleared};
 
 use crate::descend::LEVELS;
 use crate::node::read_node;
@@ -24,7 +24,7 @@ use station::Device;
 use std::alloc::Global;
 
 impl Tree {
-    /// Gives up all pages of the tree, whose root is 0 then. `Damaged` tells that the pages under the root are no tree. After a refusal
+    /// Gives up all pages of the tree, whose root is 0 then. `Damaged` means that the pages under the root are no tree. After a refusal
     /// the pages that aren't committed are given up with the map of pages. Of the leaves only the first one is read. The number of
     /// each page is kept in memory. Whatever the bytes are, no level is kept that names more pages than the volume has page numbers, so
     /// the number of pages bounds that memory.
@@ -34,27 +34,22 @@ impl Tree {
         device: &mut D,
     ) -> Result<(), PagesError>
         requires open { IsOpen pages.old }
-        requires sectors { sectors_of pages.old ≤ D.sectors device.old }
-        ensures only { OnlyReads D.Device (result ≡ Err PagesError.Device) device.old device.new }
+        requires sectors { FitsDevice D.Device pages.old device.old }
+        ensures only { OnlyReadsFor D.Device device.old device.new result }
 
         // Each page of the tree leaves the map, and the others stay as they are.
-        ensures cleared { OnTreeChange D.Device self.old.layout self.old.root pages.old pages.new
-            device.old
-            (λ before levels after. OnOk result (Moves before (pages_of levels) after [])) }
-        ensures damaged { OnNoTree D.Device self.old.layout self.old.root pages.old device.old
-            (ReturnsDamaged result) }
-        ensures layout { self.new.layout ≡ self.old.layout }
-        ensures root { OnOk result (self.new.root ≡ 0) }
-        ensures same { OnErr result (self.new ≡ self.old) }
-        ensures filled { filled_of pages.new ≤ filled_of pages.old }
+        ensures cleared { OkOnlyIfCleared D.Device self.old pages.old device.old pages.new result }
+        ensures damaged { DamagedOnlyIfNoTree D.Device self.old pages.old device.old result }
+        ensures layout { SameLayout self.old self.new }
+        ensures root { OkOnlyIfEmpty self.new result }
+        ensures same { ErrOnlyIfSame self.old self.new result }
+        ensures filled { FillsNoMore pages.old pages.new }
         ensures committed { SameCommitted pages.old pages.new }
-        ensures catalog { catalog_of pages.new ≡ catalog_of pages.old }
-        ensures agrees { IfAgrees D.Device pages.old device.old
-            (Agrees pages.new (D.state device.new).disk) }
+        ensures catalog { SameCatalog pages.old pages.new }
+        ensures agrees { KeepsAgreement D.Device pages.old device.old pages.new device.new }
         ensures open { IsOpen pages.new }
-        ensures spent { result ≡ Err PagesError.Spent
-            → (is_spent pages.old ≡ true) × (self.old.root ≢ 0) }
-        ensures cause { IfErr result IsChangeRefusal }
+        ensures spent { OnlyIfSpentAt self.old.root pages.old result }
+        ensures cause { ErrOnlyIfChangeRefusal result }
     {
         let alloc = self.alloc;
         let layout = self.layout();
@@ -72,14 +67,14 @@ impl Tree {
     }
 }
 
-/// Takes these pages out of the map. `Damaged` tells that one of the numbers is no page's.
+/// Takes these pages out of the map. `Damaged` means that one of the numbers is no page's.
 fn release_pages(pages: &mut PageMap, numbers: &[u32]) -> Result<(), PagesError>
     requires { IsOpen pages.old }
     ensures released { OnOk result ((image : List Sector)
         → Moves (pages_of_map pages.old image) numbers.now (pages_of_map pages.new image) []) }
     ensures damaged { result ≡ Err PagesError.Damaged → (image : List Sector) →
         All (λ page. (0 < page) × (page < length (pages_of_map pages.old image))) numbers.now → ⊥ }
-    ensures filled { filled_of pages.new ≤ filled_of pages.old }
+    ensures filled { FillsNoMore pages.old pages.new }
     ensures keeps { KeepsCommitted pages.old pages.new }
     ensures spent { OnlyIfSpent pages.old result }
     ensures cause { IfErr result IsRestRefusal }
@@ -120,12 +115,11 @@ fn children_of<D: Device>(
     numbers: &[u32],
 ) -> Result<Vec<u32>, PagesError>
     requires open { IsOpen pages.old }
-    requires sectors { sectors_of pages.old ≤ D.sectors device.old }
+    requires sectors { FitsDevice D.Device pages.old device.old }
     requires layout { IsRowLayout layout }
-    ensures only { OnlyReads D.Device (result ≡ Err PagesError.Device) device.old device.new }
+    ensures only { OnlyReadsFor D.Device device.old device.new result }
     ensures unchanged { IsUnchanged pages.old pages.new }
-    ensures agrees { IfAgrees D.Device pages.old device.old
-        (Agrees pages.new (D.state device.new).disk) }
+    ensures agrees { KeepsAgreement D.Device pages.old device.old pages.new device.new }
     ensures open { IsOpen pages.new }
     ensures children { OnPages D.Device pages.old device.old
         (λ before. (level : List TreeNode)
@@ -137,7 +131,7 @@ fn children_of<D: Device>(
         → length (rows_of level) ≤ length before → ⊥) }
     ensures few { IfOk result (λ children. length children.items ≤ page_count pages.old) }
     ensures spent { OnlyIfSpent pages.old result }
-    ensures cause { IfErr result IsChangeRefusal }
+    ensures cause { ErrOnlyIfChangeRefusal result }
 {
     let room = pages.page_count();
     let mut children = Vec::new(alloc);
@@ -164,13 +158,12 @@ pub(crate) fn below<D: Device>(
     numbers: &[u32],
 ) -> Result<Vec<u32>, PagesError>
     requires open { IsOpen pages.old }
-    requires sectors { sectors_of pages.old ≤ D.sectors device.old }
+    requires sectors { FitsDevice D.Device pages.old device.old }
     requires layout { IsRowLayout layout }
     requires some { 0 < length numbers.now }
-    ensures only { OnlyReads D.Device (result ≡ Err PagesError.Device) device.old device.new }
+    ensures only { OnlyReadsFor D.Device device.old device.new result }
     ensures unchanged { IsUnchanged pages.old pages.new }
-    ensures agrees { IfAgrees D.Device pages.old device.old
-        (Agrees pages.new (D.state device.new).disk) }
+    ensures agrees { KeepsAgreement D.Device pages.old device.old pages.new device.new }
     ensures open { IsOpen pages.new }
     ensures below { OnPages D.Device pages.old device.old
         (λ before. (levels : List (List TreeNode))
@@ -181,7 +174,7 @@ pub(crate) fn below<D: Device>(
         → IsDown layout before numbers.now levels → ⊥) }
     ensures few { IfOk result (λ children. length children.items ≤ page_count pages.old) }
     ensures spent { ExactlyIfSpent pages.old result }
-    ensures cause { IfErr result IsChangeRefusal }
+    ensures cause { ErrOnlyIfChangeRefusal result }
 {
     let first = read_node(pages, device, layout, numbers[0])?;
     match first.kind() {
@@ -200,25 +193,24 @@ fn clear_levels<D: Device>(
     depth: usize,
 ) -> Result<(), PagesError>
     requires open { IsOpen pages.old }
-    requires sectors { sectors_of pages.old ≤ D.sectors device.old }
+    requires sectors { FitsDevice D.Device pages.old device.old }
     requires layout { IsRowLayout layout }
-    ensures only { OnlyReads D.Device (result ≡ Err PagesError.Device) device.old device.new }
+    ensures only { OnlyReadsFor D.Device device.old device.new result }
     ensures cleared { OnChange D.Device pages.old pages.new device.old
         (λ before after. (levels : List (List TreeNode)) → IsSmall before → IsDown layout before
         numbers.items levels → OnOk result (Moves before (pages_of levels) after [])) }
     ensures damaged { OnPages D.Device pages.old device.old
         (λ before. result ≡ Err PagesError.Damaged → (levels : List (List TreeNode)) → IsSmall
         before → IsDown layout before numbers.items levels → length levels ≤ depth → ⊥) }
-    ensures filled { filled_of pages.new ≤ filled_of pages.old }
+    ensures filled { FillsNoMore pages.old pages.new }
     ensures committed { SameCommitted pages.old pages.new }
-    ensures catalog { catalog_of pages.new ≡ catalog_of pages.old }
-    ensures agrees { IfAgrees D.Device pages.old device.old
-        (Agrees pages.new (D.state device.new).disk) }
+    ensures catalog { SameCatalog pages.old pages.new }
+    ensures agrees { KeepsAgreement D.Device pages.old device.old pages.new device.new }
     ensures open { IsOpen pages.new }
     ensures spent { OnlyIfSpent pages.old result }
     ensures told { is_spent pages.old ≡ true → 0 < length numbers.items → 0 < depth
         → result ≡ Err PagesError.Spent }
-    ensures cause { IfErr result IsChangeRefusal }
+    ensures cause { ErrOnlyIfChangeRefusal result }
 {
     if numbers.is_empty() {
         return Ok(());

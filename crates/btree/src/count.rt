@@ -1,17 +1,16 @@
 //! How many entries a tree has.
-ghost use Rattle.std.specs.Prelude.{◌≡◌, ◌≢◌, ◌≤◌, ◌<◌, ◌+◌, Err, true, List, length, IfOk, IfErr};
+ghost use Rattle.std.specs.Prelude.{◌≡◌, ◌≤◌, ◌<◌, ◌+◌, Err, true, List, length, IfOk, IfErr};
 ghost use Rattle.std.specs.List.{All};
-ghost use Rattle.station.specs.Calls.{OnlyReads};
-ghost use Rattle.pages.specs.Pages.{is_spent, page_count, sectors_of, Agrees, IsOpen, IsUnchanged};
+ghost use Rattle.pages.specs.Pages.{is_spent, page_count, IsOpen, IsUnchanged};
 ghost use Rattle.btree_pages.specs.RowLayouts.{IsRowLayout};
 ghost use Rattle.btree.specs.Tree.{TreeNode, rows_of, rows_in_order, IsOnPage};
 ghost use Rattle.btree.specs.Laws.{IsSmall};
 ghost use Rattle.btree.specs.Entries.{entries_of};
 ghost use Rattle.btree.specs.Moves.{numbers_of};
 ghost use Rattle.btree.specs.Clears.{IsDown};
-ghost use Rattle.btree.specs.Refusals.{IsChangeRefusal};
-ghost use Rattle.btree.specs.Calls.{IfAgrees, OnNoTree, OnPages, OnTree};
-ghost use Rattle.btree.specs.Results.{ReturnsDamaged, OnlyIfSpent};
+ghost use Rattle.btree.specs.Refusals.{ErrOnlyIfChangeRefusal};
+ghost use Rattle.btree.specs.Calls.{OnPages, OnTree, FitsDevice, OnlyReadsFor, KeepsAgreement, DamagedOnlyIfNoTree};
+ghost use Rattle.btree.specs.Results.{OnlyIfSpent, OnlyIfSpentAt};
 
 use crate::clear::below;
 use crate::descend::LEVELS;
@@ -27,20 +26,17 @@ impl Tree {
     /// page numbers of two levels are kept in memory, no more of each than the volume has.
     pub fn count<D: Device>(&self, pages: &mut PageMap, device: &mut D) -> Result<u64, PagesError>
         requires open { IsOpen pages.old }
-        requires sectors { sectors_of pages.old ≤ D.sectors device.old }
-        ensures only { OnlyReads D.Device (result ≡ Err PagesError.Device) device.old device.new }
+        requires sectors { FitsDevice D.Device pages.old device.old }
+        ensures only { OnlyReadsFor D.Device device.old device.new result }
         ensures unchanged { IsUnchanged pages.old pages.new }
-        ensures agrees { IfAgrees D.Device pages.old device.old
-            (Agrees pages.new (D.state device.new).disk) }
+        ensures agrees { KeepsAgreement D.Device pages.old device.old pages.new device.new }
         ensures open { IsOpen pages.new }
         ensures count { OnTree D.Device self.now.layout self.now.root pages.old device.old
             (λ levels. IfOk result
             (λ count. count ≡ length (entries_of self.now.layout levels))) }
-        ensures damaged { OnNoTree D.Device self.now.layout self.now.root pages.old device.old
-            (ReturnsDamaged result) }
-        ensures spent { result ≡ Err PagesError.Spent
-            → (is_spent pages.old ≡ true) × (self.now.root ≢ 0) }
-        ensures cause { IfErr result IsChangeRefusal }
+        ensures damaged { DamagedOnlyIfNoTree D.Device self.now pages.old device.old result }
+        ensures spent { OnlyIfSpentAt self.now.root pages.old result }
+        ensures cause { ErrOnlyIfChangeRefusal result }
     {
         if self.root == 0 {
             return Ok(0);
@@ -62,13 +58,12 @@ fn count_rows<D: Device>(
     numbers: &[u32],
 ) -> Result<u64, PagesError>
     requires open { IsOpen pages.old }
-    requires sectors { sectors_of pages.old ≤ D.sectors device.old }
+    requires sectors { FitsDevice D.Device pages.old device.old }
     requires layout { IsRowLayout layout }
     requires few { length numbers.now ≤ page_count pages.old + 1 }
-    ensures only { OnlyReads D.Device (result ≡ Err PagesError.Device) device.old device.new }
+    ensures only { OnlyReadsFor D.Device device.old device.new result }
     ensures unchanged { IsUnchanged pages.old pages.new }
-    ensures agrees { IfAgrees D.Device pages.old device.old
-        (Agrees pages.new (D.state device.new).disk) }
+    ensures agrees { KeepsAgreement D.Device pages.old device.old pages.new device.new }
     ensures open { IsOpen pages.new }
     ensures count { OnPages D.Device pages.old device.old
         (λ before. (level : List TreeNode)
@@ -78,7 +73,7 @@ fn count_rows<D: Device>(
         (λ before. result ≡ Err PagesError.Damaged → (level : List TreeNode)
         → All (IsOnPage layout before Kind.Leaf) level → numbers_of level ≡ numbers.now → ⊥) }
     ensures spent { OnlyIfSpent pages.old result }
-    ensures cause { IfErr result IsChangeRefusal }
+    ensures cause { ErrOnlyIfChangeRefusal result }
 {
     // There are few page numbers, and at most 4,080 rows on each page, so the sum is in its bounds.
     let _page_count = pages.page_count();
@@ -103,13 +98,12 @@ fn count_levels<D: Device>(
     depth: usize,
 ) -> Result<u64, PagesError>
     requires open { IsOpen pages.old }
-    requires sectors { sectors_of pages.old ≤ D.sectors device.old }
+    requires sectors { FitsDevice D.Device pages.old device.old }
     requires layout { IsRowLayout layout }
     requires few { length numbers.items ≤ page_count pages.old + 1 }
-    ensures only { OnlyReads D.Device (result ≡ Err PagesError.Device) device.old device.new }
+    ensures only { OnlyReadsFor D.Device device.old device.new result }
     ensures unchanged { IsUnchanged pages.old pages.new }
-    ensures agrees { IfAgrees D.Device pages.old device.old
-        (Agrees pages.new (D.state device.new).disk) }
+    ensures agrees { KeepsAgreement D.Device pages.old device.old pages.new device.new }
     ensures open { IsOpen pages.new }
     ensures count { OnPages D.Device pages.old device.old
         (λ before. (levels : List (List TreeNode)) → IsSmall before
@@ -121,7 +115,7 @@ fn count_levels<D: Device>(
     ensures spent { OnlyIfSpent pages.old result }
     ensures told { is_spent pages.old ≡ true → 0 < length numbers.items → 0 < depth
         → result ≡ Err PagesError.Spent }
-    ensures cause { IfErr result IsChangeRefusal }
+    ensures cause { ErrOnlyIfChangeRefusal result }
 {
     if numbers.is_empty() {
         return Ok(0);

@@ -1,14 +1,13 @@
 //! The way of a key down a tree.
-ghost use Rattle.std.specs.Prelude.{◌≡◌, ◌≤◌, Err, List, length, IfOk, IfErr};
-ghost use Rattle.station.specs.Calls.{OnlyReads};
-ghost use Rattle.pages.specs.Pages.{sectors_of, Agrees, IsOpen, IsUnchanged};
+ghost use Rattle.std.specs.Prelude.{◌≡◌, ◌≤◌, List, length, IfOk, IfErr};
+ghost use Rattle.pages.specs.Pages.{IsOpen, IsUnchanged};
 ghost use Rattle.btree_pages.specs.RowLayouts.{IsRowLayout};
 ghost use Rattle.btree_pages.specs.Node.{IsNode};
 ghost use Rattle.btree.specs.Tree.{TreeNode, IsTree};
 ghost use Rattle.btree.specs.Path.{EndsAt};
 ghost use Rattle.btree.specs.Steps.{LeadsTo};
 ghost use Rattle.btree.specs.Reading.{IsSearchRefusal, NoTree};
-ghost use Rattle.btree.specs.Calls.{IfAgrees, OnPages};
+ghost use Rattle.btree.specs.Calls.{OnPages, FitsDevice, OnlyReadsFor, KeepsAgreement};
 ghost use Rattle.btree.specs.Results.{ReturnsDamaged, ExactlyIfSpent};
 
 use crate::key::Key;
@@ -41,7 +40,7 @@ pub(crate) struct Way {
     pub right: Option<Key>,
 }
 
-/// Goes down from a page to the leaf where the key belongs. `Damaged` tells that the page is no tree's root. `Memory` comes only
+/// Goes down from a page to the leaf where the key belongs. `Damaged` means that the page is no tree's root. `Memory` comes only
 /// where keys are longer than 128 bytes.
 pub(crate) fn follow<D: Device>(
     alloc: Global,
@@ -52,12 +51,11 @@ pub(crate) fn follow<D: Device>(
     key: &[u8],
 ) -> Result<Way, PagesError>
     requires open { IsOpen pages.old }
-    requires sectors { sectors_of pages.old ≤ D.sectors device.old }
+    requires sectors { FitsDevice D.Device pages.old device.old }
     requires layout { IsRowLayout layout }
-    ensures only { OnlyReads D.Device (result ≡ Err PagesError.Device) device.old device.new }
+    ensures only { OnlyReadsFor D.Device device.old device.new result }
     ensures unchanged { IsUnchanged pages.old pages.new }
-    ensures agrees { IfAgrees D.Device pages.old device.old
-        (Agrees pages.new (D.state device.new).disk) }
+    ensures agrees { KeepsAgreement D.Device pages.old device.old pages.new device.new }
     ensures open { IsOpen pages.new }
     ensures way { OnPages D.Device pages.old device.old
         (λ before. (levels : List (List TreeNode)) → IsTree layout before root levels → IfOk result
@@ -97,12 +95,11 @@ pub(crate) fn descend<D: Device>(
     key: &[u8],
 ) -> Result<Descent, PagesError>
     requires open { IsOpen pages.old }
-    requires sectors { sectors_of pages.old ≤ D.sectors device.old }
+    requires sectors { FitsDevice D.Device pages.old device.old }
     requires layout { IsRowLayout layout }
-    ensures only { OnlyReads D.Device (result ≡ Err PagesError.Device) device.old device.new }
+    ensures only { OnlyReadsFor D.Device device.old device.new result }
     ensures unchanged { IsUnchanged pages.old pages.new }
-    ensures agrees { IfAgrees D.Device pages.old device.old
-        (Agrees pages.new (D.state device.new).disk) }
+    ensures agrees { KeepsAgreement D.Device pages.old device.old pages.new device.new }
     ensures open { IsOpen pages.new }
     ensures way { OnPages D.Device pages.old device.old
         (λ before. (levels : List (List TreeNode)) → IsTree layout before root levels

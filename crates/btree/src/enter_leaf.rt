@@ -1,18 +1,16 @@
 //! An entry comes to a leaf in memory that has room, where no page above the leaf has to be told.
 ghost use Rattle.std.specs.Prelude.{◌≡◌, Ok, true, false, length, IfErr};
-ghost use Rattle.station.specs.Disk.{Disk};
-ghost use Rattle.pages.specs.Pages.{IsOpen, Agrees, KeepsCommitted};
+ghost use Rattle.pages.specs.Pages.{IsOpen, KeepsCommitted};
 ghost use Rattle.btree_pages.specs.RowLayouts.{IsRowLayout};
-ghost use Rattle.btree.specs.Changes.{pages_of_map};
 ghost use Rattle.btree.specs.Refusals.{IsPutRefusal};
 ghost use Rattle.btree.specs.Results.{OnlyIfSpent, FewChanged, FewFilled};
-ghost use Rattle.btree.specs.Entering.{EntersIn, EntersOn};
+ghost use Rattle.btree.specs.Entering.{EntersIn, TrueOnlyIfEntered};
 
 use crate::node::view_node;
 use btree_pages::{Kind, RowLayout};
 use pages::{PageMap, PagesError};
 
-/// Puts an entry into the leaf of that page number, after its first row. `false` tells that the leaf isn't in memory, or that the
+/// Puts an entry into the leaf of that page number, after its first row. `false` means that the leaf isn't in memory, or that the
 /// entry can't come there, and then nothing was done.
 pub(crate) fn enter_leaf(
     pages: &mut PageMap,
@@ -25,10 +23,8 @@ pub(crate) fn enter_leaf(
     requires layout { IsRowLayout layout }
     requires key { length key.now ≡ layout.key_length }
     requires value { length value.now ≡ layout.value_length }
-    ensures done { result ≡ Ok true → (disk : Disk) → Agrees pages.old disk
-        → EntersOn layout page key.now value.now (pages_of_map pages.old disk.present)
-        (pages_of_map pages.new disk.present) }
     ensures same { result ≡ Ok false → pages.new ≡ pages.old }
+    ensures done { TrueOnlyIfEntered layout page key.now value.now pages.old pages.new result }
     ensures changed_pages { FewChanged 1 pages.old pages.new }
     ensures filled { FewFilled 1 pages.old pages.new }
     ensures keeps { KeepsCommitted pages.old pages.new }
@@ -50,7 +46,7 @@ pub(crate) fn enter_leaf(
     Ok(true)
 }
 
-/// Puts the bytes of the leaf that these bytes spell, with an entry more after its first row, into `spelled`. `false` tells that they
+/// Puts the bytes of the leaf that these bytes spell, with an entry more after its first row, into `spelled`. `false` means that they
 /// spell no leaf, that it has no room, that the key is there, or that the entry would be the first one.
 fn spell_entered(
     bytes: &[u8; 4096],

@@ -1,14 +1,12 @@
 //! A new entry.
-ghost use Rattle.std.specs.Prelude.{◌≡◌, ◌≤◌, ◌<◌, ◌+◌, Err, Ok, Some, None, length, true, false, IsSome, IfOk, IfErr, OnErr};
-ghost use Rattle.station.specs.Calls.{OnlyReads};
-ghost use Rattle.pages.specs.Pages.{IsOpen, Agrees, SameCommitted, committed_of, catalog_of, sectors_of, changed_pages_of, IsUnchanged};
-ghost use Rattle.pages.specs.Use.{free_count};
+ghost use Rattle.std.specs.Prelude.{◌≡◌, Ok, None, length, IfOk, IfErr};
+ghost use Rattle.pages.specs.Pages.{IsOpen, SameCommitted, IsUnchanged};
 ghost use Rattle.btree_pages.specs.RowLayouts.{IsRowLayout};
-ghost use Rattle.btree.specs.Entries.{entries_of, entry_with};
 ghost use Rattle.btree.specs.Changes.{Inserts};
 ghost use Rattle.btree.specs.Refusals.{IsInsertRefusal};
-ghost use Rattle.btree.specs.Calls.{IfAgrees, OnNoTree, OnTree, OnTreeChange};
-ghost use Rattle.btree.specs.Results.{ReturnsDamaged, ExactlyIfSpent, FullIfUsed, FewChanged, FewFilled};
+ghost use Rattle.btree.specs.Calls.{OnNoTree, OnTree, OnTreeChange, FitsDevice, OnlyReadsFor, KeepsAgreement, IfTree, DamagedOnlyIfNoTree};
+ghost use Rattle.btree.specs.Results.{ReturnsDamaged, ExactlyIfSpent, FullIfUsed, FewChanged, FewFilled, FullOnlyIfFewFree, FalseOnlyIfSame, ErrOnlyIfSame, SameLayout, SameCatalog};
+ghost use Rattle.btree.specs.TreeEdits.{FalseOnlyIfPresent, TrueOnlyIfInserted};
 
 use crate::descend::{descend, follow};
 use crate::enter_leaf::enter_leaf;
@@ -29,8 +27,8 @@ impl Tree {
         self.root = root;
     }
 
-    /// Puts a new entry into the tree. `false` tells that its key is there, and then nothing was changed. After a refusal the pages that
-    /// aren't committed are given up with the map of pages, and the tree has the root that it had. `Damaged` tells that the pages under
+    /// Puts a new entry into the tree. `false` means that its key is there, and then nothing was changed. After a refusal the pages that
+    /// aren't committed are given up with the map of pages, and the tree has the root that it had. `Damaged` means that the pages under
     /// the root are no tree, `Full` that no page number is left.
     pub fn insert<D: Device>(
         &mut self,
@@ -40,41 +38,34 @@ impl Tree {
         value: &[u8],
     ) -> Result<bool, PagesError>
         requires open { IsOpen pages.old }
-        requires sectors { sectors_of pages.old ≤ D.sectors device.old }
+        requires sectors { FitsDevice D.Device pages.old device.old }
         requires key { length key.now ≡ self.old.layout.key_length }
         requires value { length value.now ≡ self.old.layout.value_length }
-        ensures only { OnlyReads D.Device (result ≡ Err PagesError.Device) device.old device.new }
+        ensures only { OnlyReadsFor D.Device device.old device.new result }
 
         // The list of entries has the new one at its place, and the pages around the tree stay.
-        ensures inserted { OnTreeChange D.Device self.old.layout self.old.root pages.old pages.new
-            device.old
-            (λ before levels after. result ≡ Ok true → Inserts self.old.layout before levels after
-            key.now value.now (Some self.new.root)) }
-        ensures there { OnTree D.Device self.old.layout self.old.root pages.old device.old
-            (λ levels. result ≡ Ok false
-            → IsSome (entry_with (entries_of self.old.layout levels) key.now)) }
-        ensures same { result ≡ Ok false → IsUnchanged pages.old pages.new × (self.new ≡ self.old) }
-        ensures damaged { OnNoTree D.Device self.old.layout self.old.root pages.old device.old
-            (ReturnsDamaged result) }
-        ensures layout { self.new.layout ≡ self.old.layout }
-        ensures refused { OnErr result (self.new ≡ self.old) }
+        ensures inserted { TrueOnlyIfInserted D.Device self.old pages.old device.old key.now
+            value.now self.new pages.new result }
+        ensures there { FalseOnlyIfPresent D.Device self.old pages.old device.old key.now result }
+        ensures same { FalseOnlyIfSame self.old pages.old self.new pages.new result }
+        ensures damaged { DamagedOnlyIfNoTree D.Device self.old pages.old device.old result }
+        ensures layout { SameLayout self.old self.new }
+        ensures refused { ErrOnlyIfSame self.old self.new result }
 
         // At most so many pages are changed, whatever the answer.
-        ensures changed_pages { OnTree D.Device self.old.layout self.old.root pages.old device.old
-            (λ levels. FewChanged 42 pages.old pages.new) }
-        ensures filled { OnTree D.Device self.old.layout self.old.root pages.old device.old
-            (λ levels. FewFilled 42 pages.old pages.new) }
+        ensures changed_pages { IfTree D.Device self.old pages.old device.old
+            (FewChanged 42 pages.old pages.new) }
+        ensures filled { IfTree D.Device self.old pages.old device.old
+            (FewFilled 42 pages.old pages.new) }
         ensures committed { SameCommitted pages.old pages.new }
-        ensures catalog { catalog_of pages.new ≡ catalog_of pages.old }
-        ensures agrees { IfAgrees D.Device pages.old device.old
-            (Agrees pages.new (D.state device.new).disk) }
+        ensures catalog { SameCatalog pages.old pages.new }
+        ensures agrees { KeepsAgreement D.Device pages.old device.old pages.new device.new }
         ensures open { IsOpen pages.new }
 
-        // `Full` tells that each page number is used, and so that few sectors were free. `Spent` comes exactly where the map is spent.
+        // `Full` means that each page number is used, and so that few sectors were free. `Spent` comes exactly where the map is spent.
         ensures full { FullIfUsed pages.new result }
-        ensures room { OnTree D.Device self.old.layout self.old.root pages.old device.old
-            (λ levels. result ≡ Err PagesError.Full
-            → free_count (committed_of pages.old) < length (changed_pages_of pages.old) + 42) }
+        ensures room { IfTree D.Device self.old pages.old device.old
+            (FullOnlyIfFewFree 42 pages.old result) }
         ensures spent { ExactlyIfSpent pages.old result }
         ensures cause { IfErr result IsInsertRefusal }
     {
@@ -107,11 +98,11 @@ fn insert_slowly<D: Device>(
     value: &[u8],
 ) -> Result<Option<u32>, PagesError>
     requires open { IsOpen pages.old }
-    requires sectors { sectors_of pages.old ≤ D.sectors device.old }
+    requires sectors { FitsDevice D.Device pages.old device.old }
     requires layout { IsRowLayout layout }
     requires key { length key.now ≡ layout.key_length }
     requires value { length value.now ≡ layout.value_length }
-    ensures only { OnlyReads D.Device (result ≡ Err PagesError.Device) device.old device.new }
+    ensures only { OnlyReadsFor D.Device device.old device.new result }
     ensures inserted { OnTreeChange D.Device layout root pages.old pages.new device.old
         (λ before levels after.
         IfOk result (Inserts layout before levels after key.now value.now)) }
@@ -122,9 +113,8 @@ fn insert_slowly<D: Device>(
     ensures filled { OnTree D.Device layout root pages.old device.old
         (λ levels. FewFilled 42 pages.old pages.new) }
     ensures committed { SameCommitted pages.old pages.new }
-    ensures catalog { catalog_of pages.new ≡ catalog_of pages.old }
-    ensures agrees { IfAgrees D.Device pages.old device.old
-        (Agrees pages.new (D.state device.new).disk) }
+    ensures catalog { SameCatalog pages.old pages.new }
+    ensures agrees { KeepsAgreement D.Device pages.old device.old pages.new device.new }
     ensures open { IsOpen pages.new }
     ensures full { FullIfUsed pages.new result }
     ensures spent { ExactlyIfSpent pages.old result }
@@ -157,11 +147,11 @@ fn insert_entry<D: Device>(
     value: &[u8],
 ) -> Result<Option<u32>, PagesError>
     requires open { IsOpen pages.old }
-    requires sectors { sectors_of pages.old ≤ D.sectors device.old }
+    requires sectors { FitsDevice D.Device pages.old device.old }
     requires layout { IsRowLayout layout }
     requires key { length key.now ≡ layout.key_length }
     requires value { length value.now ≡ layout.value_length }
-    ensures only { OnlyReads D.Device (result ≡ Err PagesError.Device) device.old device.new }
+    ensures only { OnlyReadsFor D.Device device.old device.new result }
     ensures inserted { OnTreeChange D.Device layout root pages.old pages.new device.old
         (λ before levels after.
         IfOk result (Inserts layout before levels after key.now value.now)) }
@@ -172,9 +162,8 @@ fn insert_entry<D: Device>(
     ensures filled { OnTree D.Device layout root pages.old device.old
         (λ levels. FewFilled 42 pages.old pages.new) }
     ensures committed { SameCommitted pages.old pages.new }
-    ensures catalog { catalog_of pages.new ≡ catalog_of pages.old }
-    ensures agrees { IfAgrees D.Device pages.old device.old
-        (Agrees pages.new (D.state device.new).disk) }
+    ensures catalog { SameCatalog pages.old pages.new }
+    ensures agrees { KeepsAgreement D.Device pages.old device.old pages.new device.new }
     ensures open { IsOpen pages.new }
     ensures full { FullIfUsed pages.new result }
     ensures spent { ExactlyIfSpent pages.old result }

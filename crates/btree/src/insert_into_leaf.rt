@@ -1,15 +1,14 @@
 //! A new row comes into a tree.
-ghost use Rattle.std.specs.Prelude.{◌≡◌, ◌≤◌, ◌<◌, ◌+◌, ◌*◌, Err, Some, List, length, IfOk, IfErr, IfSome};
+ghost use Rattle.std.specs.Prelude.{◌≡◌, ◌≤◌, ◌<◌, ◌+◌, ◌*◌, Err, List, length, IfOk, IfErr, IfSome};
 ghost use Rattle.station.specs.Disk.{Sector};
-ghost use Rattle.station.specs.Calls.{OnlyReads};
-ghost use Rattle.pages.specs.Pages.{IsOpen, Agrees, SameCommitted, catalog_of, sectors_of, changed_pages_of, filled_of, KeepsCommitted};
+ghost use Rattle.pages.specs.Pages.{IsOpen, SameCommitted, changed_pages_of, filled_of, KeepsCommitted};
 ghost use Rattle.btree_pages.specs.RowLayouts.{IsRowLayout};
 ghost use Rattle.btree.specs.Tree.{TreeNode, IsTree};
 ghost use Rattle.btree.specs.Path.{EndsAt};
 ghost use Rattle.btree.specs.Changes.{pages_of_map, HasKeys, IsRootAfter, InsertsIntoLeaf};
 ghost use Rattle.btree.specs.Refusals.{IsWriteRefusal, IsInsertRefusal};
-ghost use Rattle.btree.specs.Calls.{IfAgrees, OnPages, OnChange};
-ghost use Rattle.btree.specs.Results.{OnlyIfSpent, FullIfUsed, FewChanged, FewFilled};
+ghost use Rattle.btree.specs.Calls.{OnPages, OnChange, FitsDevice, OnlyReadsFor, KeepsAgreement};
+ghost use Rattle.btree.specs.Results.{OnlyIfSpent, FullIfUsed, FewChanged, FewFilled, SameCatalog};
 
 use crate::descend::Descent;
 use crate::propagate_split::propagate_split;
@@ -66,13 +65,13 @@ pub(crate) fn insert_into_leaf<D: Device>(
     value: &[u8],
 ) -> Result<u32, PagesError>
     requires open { IsOpen pages.old }
-    requires sectors { sectors_of pages.old ≤ D.sectors device.old }
+    requires sectors { FitsDevice D.Device pages.old device.old }
     requires layout { IsRowLayout layout }
     requires leaf { (descent.leaf.layout ≡ layout) × (descent.leaf.kind ≡ Kind.Leaf) }
     requires place { place ≤ length descent.leaf.rows }
     requires key { length key.now ≡ layout.key_length }
     requires value { length value.now ≡ layout.value_length }
-    ensures only { OnlyReads D.Device (result ≡ Err PagesError.Device) device.old device.new }
+    ensures only { OnlyReadsFor D.Device device.old device.new result }
     ensures entered { OnChange D.Device pages.old pages.new device.old
         (λ before after.
         IfOk result (λ new. InsertsIntoLeaf layout root before after descent.path.items
@@ -86,9 +85,8 @@ pub(crate) fn insert_into_leaf<D: Device>(
         ≤ length (changed_pages_of pages.old) + 2 * length descent.path.items + 3 }
     ensures filled { filled_of pages.new ≤ filled_of pages.old + 2 * length descent.path.items + 3 }
     ensures committed { SameCommitted pages.old pages.new }
-    ensures catalog { catalog_of pages.new ≡ catalog_of pages.old }
-    ensures agrees { IfAgrees D.Device pages.old device.old
-        (Agrees pages.new (D.state device.new).disk) }
+    ensures catalog { SameCatalog pages.old pages.new }
+    ensures agrees { KeepsAgreement D.Device pages.old device.old pages.new device.new }
     ensures open { IsOpen pages.new }
     ensures cause { IfErr result IsInsertRefusal }
     ensures full { FullIfUsed pages.new result }

@@ -1,19 +1,18 @@
 //! A page of a tree is read.
-ghost use Rattle.std.specs.Prelude.{◌≡◌, ◌≤◌, ◌<◌, Err, Some, IfOk, IfErr, OnErr};
-ghost use Rattle.station.specs.Calls.{OnlyReads};
-ghost use Rattle.pages.specs.Pages.{sectors_of, Agrees, IsOpen, IsUnchanged};
+ghost use Rattle.std.specs.Prelude.{◌≡◌, Err, Some, IfOk, IfErr, OnErr};
+ghost use Rattle.pages.specs.Pages.{IsOpen, IsUnchanged};
 ghost use Rattle.btree_pages.specs.RowLayouts.{IsRowLayout};
 ghost use Rattle.btree_pages.specs.Node.{IsNode, node_in};
 ghost use Rattle.btree.specs.Tree.{node_at, fewest};
 ghost use Rattle.btree.specs.Reading.{IsReadRefusal, SpellsNoNode, NoneStands, HasShape};
-ghost use Rattle.btree.specs.Calls.{IfAgrees, OnPages};
+ghost use Rattle.btree.specs.Calls.{OnPages, FitsDevice, OnlyReadsFor, KeepsAgreement};
 ghost use Rattle.btree.specs.Results.{ReturnsDamaged, ExactlyIfSpent};
 
 use btree_pages::{Kind, NodeView, RowLayout, TreePage};
 use pages::{PageMap, PagesError};
 use station::Device;
 
-/// The page of a tree that these bytes spell. `Damaged` tells that they spell none, or one that has too few rows.
+/// The page of a tree that these bytes spell. `Damaged` means that they spell none, or one that has too few rows.
 pub(crate) fn view_node(bytes: &[u8; 4096], layout: RowLayout) -> Result<NodeView<'_>, PagesError>
     requires { IsRowLayout layout }
     ensures node { IfOk result (λ node. node_in layout bytes.now ≡ Some node) }
@@ -32,7 +31,7 @@ pub(crate) fn view_node(bytes: &[u8; 4096], layout: RowLayout) -> Result<NodeVie
     Ok(node)
 }
 
-/// The page of that number. `Damaged` tells that it is none of a tree, or has too few rows.
+/// The page of that number. `Damaged` means that it is none of a tree, or has too few rows.
 pub fn read_node<D: Device>(
     pages: &mut PageMap,
     device: &mut D,
@@ -40,12 +39,11 @@ pub fn read_node<D: Device>(
     page: u32,
 ) -> Result<TreePage, PagesError>
     requires open { IsOpen pages.old }
-    requires sectors { sectors_of pages.old ≤ D.sectors device.old }
+    requires sectors { FitsDevice D.Device pages.old device.old }
     requires layout { IsRowLayout layout }
-    ensures only { OnlyReads D.Device (result ≡ Err PagesError.Device) device.old device.new }
+    ensures only { OnlyReadsFor D.Device device.old device.new result }
     ensures unchanged { IsUnchanged pages.old pages.new }
-    ensures agrees { IfAgrees D.Device pages.old device.old
-        (Agrees pages.new (D.state device.new).disk) }
+    ensures agrees { KeepsAgreement D.Device pages.old device.old pages.new device.new }
     ensures open { IsOpen pages.new }
     ensures node { OnPages D.Device pages.old device.old
         (λ before. IfOk result (λ node. node_at layout before page ≡ Some node)) }
@@ -93,12 +91,11 @@ fn node_read<D: Device>(
     page: u32,
 ) -> Result<TreePage, PagesError>
     requires open { IsOpen pages.old }
-    requires sectors { sectors_of pages.old ≤ D.sectors device.old }
+    requires sectors { FitsDevice D.Device pages.old device.old }
     requires layout { IsRowLayout layout }
-    ensures only { OnlyReads D.Device (result ≡ Err PagesError.Device) device.old device.new }
+    ensures only { OnlyReadsFor D.Device device.old device.new result }
     ensures unchanged { IsUnchanged pages.old pages.new }
-    ensures agrees { IfAgrees D.Device pages.old device.old
-        (Agrees pages.new (D.state device.new).disk) }
+    ensures agrees { KeepsAgreement D.Device pages.old device.old pages.new device.new }
     ensures open { IsOpen pages.new }
     ensures node { OnPages D.Device pages.old device.old
         (λ before. IfOk result (λ node. node_at layout before page ≡ Some node)) }
@@ -125,12 +122,11 @@ fn node_loaded<D: Device>(
     page: u32,
 ) -> Result<TreePage, PagesError>
     requires open { IsOpen pages.old }
-    requires sectors { sectors_of pages.old ≤ D.sectors device.old }
+    requires sectors { FitsDevice D.Device pages.old device.old }
     requires layout { IsRowLayout layout }
-    ensures only { OnlyReads D.Device (result ≡ Err PagesError.Device) device.old device.new }
+    ensures only { OnlyReadsFor D.Device device.old device.new result }
     ensures unchanged { IsUnchanged pages.old pages.new }
-    ensures agrees { IfAgrees D.Device pages.old device.old
-        (Agrees pages.new (D.state device.new).disk) }
+    ensures agrees { KeepsAgreement D.Device pages.old device.old pages.new device.new }
     ensures open { IsOpen pages.new }
     ensures node { OnPages D.Device pages.old device.old
         (λ before. IfOk result (λ node. node_at layout before page ≡ Some node)) }

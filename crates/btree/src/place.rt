@@ -1,14 +1,13 @@
 //! The leaf where a search ended, in which the next search in order begins.
-ghost use Rattle.std.specs.Prelude.{◌≡◌, ◌≢◌, ◌<◌, ◌≤◌, ◌↔◌, List, Option, Err, Ok, true, false, IfOk, IfErr};
-ghost use Rattle.station.specs.Calls.{OnlyReads};
+ghost use Rattle.std.specs.Prelude.{◌≡◌, ◌≢◌, ◌<◌, ◌↔◌, List, Option, Ok, true, false, IfErr};
 ghost use Rattle.station.specs.Disk.{Disk, Sector};
-ghost use Rattle.pages.specs.Pages.{sectors_of, Agrees, IsOpen, IsUnchanged, KeepsCommitted, is_spent, map_now};
+ghost use Rattle.pages.specs.Pages.{Agrees, IsOpen, IsUnchanged, KeepsCommitted, is_spent, map_now};
 ghost use Rattle.btree_pages.specs.RowLayouts.{IsRowLayout};
-ghost use Rattle.btree.specs.Entries.{HasLengths, entries_of, first_entry_after};
+ghost use Rattle.btree.specs.Entries.{HasLengths};
 ghost use Rattle.btree.specs.Reading.{IsSearchRefusal};
-ghost use Rattle.btree.specs.Calls.{IfAgrees, OnTree, OnNoTree, OnPages, pages_on};
-ghost use Rattle.btree.specs.Results.{ReturnsDamaged, ExactlyIfSpentAt};
-ghost use Rattle.btree.specs.Places.{IsLeafPlace, if_found, SpellsLeaf, IsNextIn, IsNextOf};
+ghost use Rattle.btree.specs.Calls.{FitsDevice, OnlyReadsFor, KeepsAgreement};
+ghost use Rattle.btree.specs.Results.{ExactlyIfSpentAt};
+ghost use Rattle.btree.specs.Places.{IsLeafPlace, SpellsLeaf, IsNextIn, IsNextOf, AnswersNear, DamagedOnlyIfNoTreeNear, KeepsLeafPlace};
 
 use crate::entry::Entry;
 use crate::node::view_node;
@@ -67,24 +66,18 @@ impl Tree {
         entry: &mut Entry,
     ) -> Result<bool, PagesError>
         requires open { IsOpen pages.old }
-        requires sectors { sectors_of pages.old ≤ D.sectors device.old }
-        ensures only { OnlyReads D.Device (result ≡ Err PagesError.Device) device.old device.new }
+        requires sectors { FitsDevice D.Device pages.old device.old }
+        ensures only { OnlyReadsFor D.Device device.old device.new result }
         ensures unchanged { IsUnchanged pages.old pages.new }
-        ensures agrees { IfAgrees D.Device pages.old device.old
-            (Agrees pages.new (D.state device.new).disk) }
+        ensures agrees { KeepsAgreement D.Device pages.old device.old pages.new device.new }
         ensures open { IsOpen pages.new }
 
         // If the noted leaf is one of its own tree, the answer is that of `next`, and the leaf that is noted then is one of this tree.
-        ensures entry { OnTree D.Device self.now.layout self.now.root pages.old device.old
-            (λ levels.
-            IsLeafPlace place.old (pages_on D.Device pages.old device.old) → IfOk result (λ found.
-            if_found found entry.new
-            ≡ first_entry_after (entries_of self.now.layout levels) key.now)) }
-        ensures place { OnPages D.Device pages.old device.old
-            (λ before. IsLeafPlace place.old before → IsLeafPlace place.new before) }
-        ensures damaged { OnNoTree D.Device self.now.layout self.now.root pages.old device.old
-            (ReturnsDamaged result
-            × IsLeafPlace place.old (pages_on D.Device pages.old device.old)) }
+        ensures entry { AnswersNear D.Device self.now pages.old device.old place.old key.now
+            entry.new result }
+        ensures place { KeepsLeafPlace D.Device pages.old device.old place.old place.new }
+        ensures damaged { DamagedOnlyIfNoTreeNear D.Device self.now pages.old device.old place.old
+            result }
         ensures spent { ExactlyIfSpentAt self.now.root pages.old result }
         ensures lengths { result ≡ Ok true → HasLengths self.now.layout entry.new }
         ensures cause { IfErr result (IsSearchRefusal self.now.layout) }

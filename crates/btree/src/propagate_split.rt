@@ -1,12 +1,11 @@
 //! A change goes up from a leaf, along the way that led down to it.
-ghost use Rattle.std.specs.Prelude.{◌≡◌, ◌≤◌, ◌<◌, ◌*◌, Err, Some, length, IfOk, IfErr, IfSome};
-ghost use Rattle.station.specs.Calls.{OnlyReads};
-ghost use Rattle.pages.specs.Pages.{IsOpen, Agrees, SameCommitted, catalog_of, sectors_of, KeepsCommitted};
+ghost use Rattle.std.specs.Prelude.{◌≡◌, ◌*◌, Err, Some, length, IfOk, IfErr, IfSome};
+ghost use Rattle.pages.specs.Pages.{IsOpen, SameCommitted, KeepsCommitted};
 ghost use Rattle.btree_pages.specs.RowLayouts.{IsRowLayout};
 ghost use Rattle.btree.specs.Changes.{HasKeys, PropagatesBy, NeverPropagates};
 ghost use Rattle.btree.specs.Refusals.{IsParentRefusal, IsInsertRefusal};
-ghost use Rattle.btree.specs.Calls.{IfAgrees, OnPages, OnChange};
-ghost use Rattle.btree.specs.Results.{ReturnsDamaged, OnlyIfSpent, FullIfUsed, FewChanged, FewFilled};
+ghost use Rattle.btree.specs.Calls.{OnPages, OnChange, FitsDevice, OnlyReadsFor, KeepsAgreement};
+ghost use Rattle.btree.specs.Results.{ReturnsDamaged, OnlyIfSpent, FullIfUsed, FewChanged, FewFilled, SameCatalog};
 ghost use Rattle.btree.specs.Puts.{PutsParent, NeverLeads};
 
 use crate::node::read_node;
@@ -27,10 +26,10 @@ pub(crate) fn propagate_split<D: Device>(
     split: SplitResult,
 ) -> Result<Option<SplitResult>, PagesError>
     requires open { IsOpen pages.old }
-    requires sectors { sectors_of pages.old ≤ D.sectors device.old }
+    requires sectors { FitsDevice D.Device pages.old device.old }
     requires layout { IsRowLayout layout }
     requires keys { HasKeys layout split }
-    ensures only { OnlyReads D.Device (result ≡ Err PagesError.Device) device.old device.new }
+    ensures only { OnlyReadsFor D.Device device.old device.new result }
     ensures propagates { OnChange D.Device pages.old pages.new device.old
         (λ before after.
         IfOk result (λ up. PropagatesBy layout path.now before after (Some split) up)) }
@@ -40,9 +39,8 @@ pub(crate) fn propagate_split<D: Device>(
     ensures changed_pages { FewChanged (2 * length path.now) pages.old pages.new }
     ensures filled { FewFilled (2 * length path.now) pages.old pages.new }
     ensures committed { SameCommitted pages.old pages.new }
-    ensures catalog { catalog_of pages.new ≡ catalog_of pages.old }
-    ensures agrees { IfAgrees D.Device pages.old device.old
-        (Agrees pages.new (D.state device.new).disk) }
+    ensures catalog { SameCatalog pages.old pages.new }
+    ensures agrees { KeepsAgreement D.Device pages.old device.old pages.new device.new }
     ensures open { IsOpen pages.new }
     ensures cause { IfErr result IsInsertRefusal }
     ensures full { FullIfUsed pages.new result }
@@ -61,7 +59,7 @@ pub(crate) fn propagate_split<D: Device>(
     Ok(up)
 }
 
-/// The page at a step learns what became of the child that the step led to. `Damaged` tells that the step leads to no such page.
+/// The page at a step learns what became of the child that the step led to. `Damaged` means that the step leads to no such page.
 fn update_parent_at(
     pages: &mut PageMap,
     step: PathStep,

@@ -6,7 +6,7 @@ ghost use Rattle.btree_pages.specs.RowLayouts.{rest_length, capacity};
 ghost use Rattle.btree.specs.Changes.{CanTake, IsSplit};
 ghost use Rattle.btree.specs.Refusals.{IsPutRefusal, IsWriteRefusal};
 ghost use Rattle.btree.specs.Results.{ExactlyIfSpent, FullIfUsed, FewChanged, FewFilled};
-ghost use Rattle.btree.specs.Puts.{PutsWhere, HasInserted};
+ghost use Rattle.btree.specs.Puts.{PutsWhere, HasInserted, HasRowLengths};
 
 use crate::split_node::split_node;
 use crate::split_result::{Right, SplitResult};
@@ -57,8 +57,7 @@ fn put_in_one(
     requires page { IsPage pages.old page }
     requires room { length node.rows < capacity node.layout node.kind }
     requires place { place ≤ length node.rows }
-    requires key { length key.now ≡ node.layout.key_length }
-    requires rest { length rest.now ≡ rest_length node.layout node.kind }
+    requires row { HasRowLengths node key.now rest.now }
     ensures rows { IfOk result (HasInserted node.rows place (key.now ++ rest.now)) }
     ensures pages { IfOk result (PutsWhere CanTake pages.old pages.new page node) }
     ensures split { IfOk result (λ split. IsSplit page node split) }
@@ -91,8 +90,7 @@ fn put_in_two(
     requires page { IsPage pages.old page }
     requires full { capacity node.layout node.kind ≤ length node.rows }
     requires place { place ≤ length node.rows }
-    requires key { length key.now ≡ node.layout.key_length }
-    requires rest { length rest.now ≡ rest_length node.layout node.kind }
+    requires row { HasRowLengths node key.now rest.now }
     ensures rows { IfOk result (HasInserted node.rows place (key.now ++ rest.now)) }
     ensures pages { IfOk result (PutsWhere CanTake pages.old pages.new page node) }
     ensures split { IfOk result (λ split. IsSplit page node split) }

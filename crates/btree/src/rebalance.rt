@@ -1,11 +1,10 @@
 //! A page that too few rows are left for is joined with a neighbour, or takes rows of it.
 ghost use Rattle.std.specs.Prelude.{◌≡◌, ◌≢◌, ◌≤◌, ◌<◌, ◌+◌, ◌++◌, Err, Some, [], length, map, take, drop, slice_index_or, IfSome, IfOk, IfErr, OnOk};
 ghost use Rattle.byteorder.specs.Endian.{big_bytes};
-ghost use Rattle.station.specs.Calls.{OnlyReads};
-ghost use Rattle.pages.specs.Pages.{IsOpen, IsPage, Agrees, SameCommitted, catalog_of, sectors_of, KeepsCommitted, IsUnchanged};
+ghost use Rattle.pages.specs.Pages.{IsOpen, IsPage, SameCommitted, KeepsCommitted, IsUnchanged};
 ghost use Rattle.btree_pages.specs.RowLayouts.{IsRowLayout, capacity};
 ghost use Rattle.btree_pages.specs.Keys.{rest_of};
-ghost use Rattle.btree.specs.Tree.{TreeNode, node_at, row_of, rows_of, fewest};
+ghost use Rattle.btree.specs.Tree.{TreeNode, node_at, row_of, fewest};
 ghost use Rattle.btree.specs.Fills.{IsEven};
 ghost use Rattle.btree.specs.Reading.{IsReadRefusal, NoneOfKind};
 ghost use Rattle.btree.specs.Nodes.{SameNode};
@@ -13,9 +12,9 @@ ghost use Rattle.btree.specs.Propagates.{run_of};
 ghost use Rattle.btree.specs.Changes.{CanStand, HasKeys};
 ghost use Rattle.btree.specs.Outcomes.{FitsAbove, IsJoined, IsPair, RebalancesNeighbours};
 ghost use Rattle.btree.specs.Refusals.{IsPutRefusal, IsRestRefusal};
-ghost use Rattle.btree.specs.Calls.{IfAgrees, OnPages, OnChange};
-ghost use Rattle.btree.specs.Results.{ReturnsDamaged, OnlyIfSpent, ExactlyIfSpent, FewChanged, FewFilled, LeavesFewChanged, LeavesFewFilled};
-ghost use Rattle.btree.specs.Puts.{PutsTogether, JoinsPair, NeverTwo};
+ghost use Rattle.btree.specs.Calls.{OnPages, OnChange, FitsDevice, OnlyReadsFor, KeepsAgreement};
+ghost use Rattle.btree.specs.Results.{ReturnsDamaged, OnlyIfSpent, ExactlyIfSpent, FewChanged, FewFilled, LeavesFewChanged, LeavesFewFilled, SameCatalog};
+ghost use Rattle.btree.specs.Puts.{PutsTogether, JoinsPair, NeverTwo, HasBothRows};
 
 use crate::node::read_node;
 use crate::path_step::PathStep;
@@ -27,7 +26,7 @@ use pages::{PageMap, PagesError};
 use station::Device;
 
 /// Too few rows are left for the child that a step led to. It is joined with the neighbour to its left, or to its right where it is
-/// the first. `Damaged` tells that the step leads to no such page.
+/// the first. `Damaged` means that the step leads to no such page.
 pub(crate) fn rebalance_at<D: Device>(
     pages: &mut PageMap,
     device: &mut D,
@@ -37,11 +36,11 @@ pub(crate) fn rebalance_at<D: Device>(
     lone: Child,
 ) -> Result<RemovalOutcome, PagesError>
     requires open { IsOpen pages.old }
-    requires sectors { sectors_of pages.old ≤ D.sectors device.old }
+    requires sectors { FitsDevice D.Device pages.old device.old }
     requires layout { IsRowLayout layout }
     requires node { node.layout ≡ layout }
     requires lone { (lone.node.layout ≡ layout) × (0 < length lone.node.rows) }
-    ensures only { OnlyReads D.Device (result ≡ Err PagesError.Device) device.old device.new }
+    ensures only { OnlyReadsFor D.Device device.old device.new result }
     ensures rebalances { OnChange D.Device pages.old pages.new device.old
         (λ before after. IfOk result (λ outcome. (left right : TreeNode)
         → CanStand before step.page node → IsPair layout lone.node.kind before step.page
@@ -56,9 +55,8 @@ pub(crate) fn rebalance_at<D: Device>(
     ensures changed_pages { IfOk result (LeavesFewChanged 3 pages.old pages.new) }
     ensures filled { IfOk result (LeavesFewFilled 3 pages.old pages.new) }
     ensures committed { SameCommitted pages.old pages.new }
-    ensures catalog { catalog_of pages.new ≡ catalog_of pages.old }
-    ensures agrees { IfAgrees D.Device pages.old device.old
-        (Agrees pages.new (D.state device.new).disk) }
+    ensures catalog { SameCatalog pages.old pages.new }
+    ensures agrees { KeepsAgreement D.Device pages.old device.old pages.new device.new }
     ensures open { IsOpen pages.new }
     ensures spent { OnlyIfSpent pages.old result }
     ensures cause { result ≢ Err PagesError.Full × result ≢ Err PagesError.ForeignMark }
@@ -109,8 +107,7 @@ fn rebalance(pages: &mut PageMap, left: Child, right: Child) -> Result<SplitResu
     requires open { IsOpen pages.old }
     requires like { SameNode left.node right.node }
     requires many { 2 ≤ length left.node.rows + length right.node.rows }
-    ensures rows { IfOk result
-        (λ joined. rows_of (run_of joined) ≡ left.node.rows ++ right.node.rows) }
+    ensures rows { IfOk result (HasBothRows left.node.rows right.node.rows) }
     ensures pages { IfOk result (PutsTogether pages.old pages.new left right) }
     ensures joined { IfOk result (IsJoined left.node.layout left.page right.page) }
     ensures even { IfOk result (λ joined. IsEven left.node.layout left.node.kind (run_of joined)) }
@@ -145,8 +142,7 @@ fn merge(pages: &mut PageMap, left: Child, right: Child) -> Result<SplitResult, 
     requires many { 2 ≤ length left.node.rows + length right.node.rows }
     requires room { length left.node.rows + length right.node.rows
         ≤ capacity left.node.layout left.node.kind }
-    ensures rows { IfOk result
-        (λ joined. rows_of (run_of joined) ≡ left.node.rows ++ right.node.rows) }
+    ensures rows { IfOk result (HasBothRows left.node.rows right.node.rows) }
     ensures pages { IfOk result (PutsTogether pages.old pages.new left right) }
     ensures joined { IfOk result (IsJoined left.node.layout left.page right.page) }
     ensures even { IfOk result (λ joined. IsEven left.node.layout left.node.kind (run_of joined)) }
@@ -179,8 +175,7 @@ fn redistribute(pages: &mut PageMap, left: Child, right: Child) -> Result<SplitR
     requires many { 4 ≤ length left.node.rows + length right.node.rows }
     requires full { capacity left.node.layout left.node.kind
         < length left.node.rows + length right.node.rows }
-    ensures rows { IfOk result
-        (λ joined. rows_of (run_of joined) ≡ left.node.rows ++ right.node.rows) }
+    ensures rows { IfOk result (HasBothRows left.node.rows right.node.rows) }
     ensures pages { IfOk result (PutsTogether pages.old pages.new left right) }
     ensures joined { IfOk result (IsJoined left.node.layout left.page right.page) }
     ensures even { IfOk result (λ joined. IsEven left.node.layout left.node.kind (run_of joined)) }
@@ -265,7 +260,7 @@ fn rebalance_pair(
     Ok(outcome)
 }
 
-/// The neighbour of a child, which is of the child's kind. `Damaged` tells that its page is no such one of a tree.
+/// The neighbour of a child, which is of the child's kind. `Damaged` means that its page is no such one of a tree.
 #[tactic(auto, using(crate::proofs::Pairing::same_catalog))]
 fn neighbour<D: Device>(
     pages: &mut PageMap,
@@ -275,13 +270,12 @@ fn neighbour<D: Device>(
     page: u32,
 ) -> Result<Child, PagesError>
     requires open { IsOpen pages.old }
-    requires sectors { sectors_of pages.old ≤ D.sectors device.old }
+    requires sectors { FitsDevice D.Device pages.old device.old }
     requires layout { IsRowLayout layout }
-    ensures only { OnlyReads D.Device (result ≡ Err PagesError.Device) device.old device.new }
+    ensures only { OnlyReadsFor D.Device device.old device.new result }
     ensures unchanged { IsUnchanged pages.old pages.new }
-    ensures agrees { IfAgrees D.Device pages.old device.old
-        (Agrees pages.new (D.state device.new).disk) }
-    ensures catalog { catalog_of pages.new ≡ catalog_of pages.old }
+    ensures agrees { KeepsAgreement D.Device pages.old device.old pages.new device.new }
+    ensures catalog { SameCatalog pages.old pages.new }
     ensures open { IsOpen pages.new }
     ensures node { OnPages D.Device pages.old device.old
         (λ before. IfOk result (λ child. node_at layout before page ≡ Some child.node)) }

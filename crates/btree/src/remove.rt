@@ -1,18 +1,17 @@
 //! An entry leaves a tree.
-ghost use Rattle.std.specs.Prelude.{◌≡◌, ◌≤◌, ◌<◌, Err, Ok, Some, None, true, false, List, length, IfOk, IfErr, OnOk, OnErr};
+ghost use Rattle.std.specs.Prelude.{◌≡◌, ◌<◌, Err, Ok, None, List, length, IfOk, IfErr, OnOk};
 ghost use Rattle.station.specs.Disk.{Sector};
-ghost use Rattle.station.specs.Calls.{OnlyReads};
-ghost use Rattle.pages.specs.Pages.{IsOpen, Agrees, SameCommitted, catalog_of, sectors_of, KeepsCommitted, IsUnchanged};
+ghost use Rattle.pages.specs.Pages.{IsOpen, SameCommitted, KeepsCommitted, IsUnchanged};
 ghost use Rattle.btree_pages.specs.RowLayouts.{IsRowLayout};
-ghost use Rattle.btree.specs.Entries.{entries_of, entry_with};
 ghost use Rattle.btree.specs.Changes.{pages_of_map};
 ghost use Rattle.btree.specs.Outcomes.{spare};
 ghost use Rattle.btree.specs.Shrinks.{HasCollapsed, HasStayed, IsShrunkRoot, NeverIsShrunkRoot, Collapses};
 ghost use Rattle.btree.specs.Removals.{Removes};
-ghost use Rattle.btree.specs.Refusals.{IsRestRefusal, IsChangeRefusal};
-ghost use Rattle.btree.specs.Calls.{IfAgrees, OnNoTree, OnTree, OnTreeChange};
-ghost use Rattle.btree.specs.Results.{ReturnsDamaged, OnlyIfSpent, ExactlyIfSpentAt, FewChanged, FewFilled};
+ghost use Rattle.btree.specs.Refusals.{IsRestRefusal, ErrOnlyIfChangeRefusal};
+ghost use Rattle.btree.specs.Calls.{OnNoTree, OnTree, OnTreeChange, FitsDevice, OnlyReadsFor, KeepsAgreement, DamagedOnlyIfNoTree};
+ghost use Rattle.btree.specs.Results.{ReturnsDamaged, OnlyIfSpent, ExactlyIfSpentAt, FewChanged, FewFilled, FalseOnlyIfSame, ErrOnlyIfSame, SameLayout, SameCatalog};
 ghost use Rattle.btree.specs.Puts.{NeverIn};
+ghost use Rattle.btree.specs.TreeEdits.{FalseOnlyIfAbsent, TrueOnlyIfRemoved, OkOnlyIfFewChanged, OkOnlyIfFewFilled};
 
 use crate::descend::descend;
 use crate::removal_outcome::{Child, RemovalOutcome};
@@ -25,8 +24,8 @@ use station::Device;
 use std::alloc::Global;
 
 impl Tree {
-    /// Takes the entry of a key out of the tree. `false` tells that there is none, and then nothing was changed. After a refusal the pages
-    /// that aren't committed are given up with the map of pages. `Damaged` tells that the pages under the root are no tree.
+    /// Takes the entry of a key out of the tree. `false` means that there is none, and then nothing was changed. After a refusal the pages
+    /// that aren't committed are given up with the map of pages. `Damaged` means that the pages under the root are no tree.
     pub fn remove<D: Device>(
         &mut self,
         pages: &mut PageMap,
@@ -34,36 +33,30 @@ impl Tree {
         key: &[u8],
     ) -> Result<bool, PagesError>
         requires open { IsOpen pages.old }
-        requires sectors { sectors_of pages.old ≤ D.sectors device.old }
-        ensures only { OnlyReads D.Device (result ≡ Err PagesError.Device) device.old device.new }
+        requires sectors { FitsDevice D.Device pages.old device.old }
+        ensures only { OnlyReadsFor D.Device device.old device.new result }
 
         // The list of entries is without the one of the key, and the pages around the tree stay. No more leaves than before have less
         // than a quarter of the rows that they have room for, unless one leaf is all that is left.
-        ensures removed { OnTreeChange D.Device self.old.layout self.old.root pages.old pages.new
-            device.old
-            (λ before levels after. result ≡ Ok true
-            → Removes self.old.layout before levels after key.now (Some self.new.root)) }
-        ensures missing { OnTree D.Device self.old.layout self.old.root pages.old device.old
-            (λ levels. result ≡ Ok false
-            → entry_with (entries_of self.old.layout levels) key.now ≡ None) }
-        ensures same { result ≡ Ok false → IsUnchanged pages.old pages.new × (self.new ≡ self.old) }
-        ensures damaged { OnNoTree D.Device self.old.layout self.old.root pages.old device.old
-            (ReturnsDamaged result) }
-        ensures layout { self.new.layout ≡ self.old.layout }
+        ensures removed { TrueOnlyIfRemoved D.Device self.old pages.old device.old key.now self.new
+            pages.new result }
+        ensures missing { FalseOnlyIfAbsent D.Device self.old pages.old device.old key.now result }
+        ensures same { FalseOnlyIfSame self.old pages.old self.new pages.new result }
+        ensures damaged { DamagedOnlyIfNoTree D.Device self.old pages.old device.old result }
+        ensures layout { SameLayout self.old self.new }
 
         // At most so many pages are changed.
-        ensures changed_pages { OnTree D.Device self.old.layout self.old.root pages.old device.old
-            (λ levels. OnOk result (FewChanged 42 pages.old pages.new)) }
-        ensures filled { OnTree D.Device self.old.layout self.old.root pages.old device.old
-            (λ levels. OnOk result (FewFilled 42 pages.old pages.new)) }
+        ensures changed_pages { OkOnlyIfFewChanged D.Device 42 self.old pages.old device.old
+            pages.new result }
+        ensures filled { OkOnlyIfFewFilled D.Device 42 self.old pages.old device.old pages.new
+            result }
         ensures committed { SameCommitted pages.old pages.new }
-        ensures catalog { catalog_of pages.new ≡ catalog_of pages.old }
-        ensures agrees { IfAgrees D.Device pages.old device.old
-            (Agrees pages.new (D.state device.new).disk) }
+        ensures catalog { SameCatalog pages.old pages.new }
+        ensures agrees { KeepsAgreement D.Device pages.old device.old pages.new device.new }
         ensures open { IsOpen pages.new }
-        ensures refused { OnErr result (self.new ≡ self.old) }
+        ensures refused { ErrOnlyIfSame self.old self.new result }
         ensures spent { ExactlyIfSpentAt self.old.root pages.old result }
-        ensures cause { IfErr result IsChangeRefusal }
+        ensures cause { ErrOnlyIfChangeRefusal result }
     {
         let alloc = self.alloc;
         let layout = self.layout();
@@ -162,9 +155,9 @@ fn remove_entry<D: Device>(
     key: &[u8],
 ) -> Result<Option<u32>, PagesError>
     requires open { IsOpen pages.old }
-    requires sectors { sectors_of pages.old ≤ D.sectors device.old }
+    requires sectors { FitsDevice D.Device pages.old device.old }
     requires layout { IsRowLayout layout }
-    ensures only { OnlyReads D.Device (result ≡ Err PagesError.Device) device.old device.new }
+    ensures only { OnlyReadsFor D.Device device.old device.new result }
     ensures removed { OnTreeChange D.Device layout root pages.old pages.new device.old
         (λ before levels after. IfOk result (Removes layout before levels after key.now)) }
     ensures damaged { OnNoTree D.Device layout root pages.old device.old (ReturnsDamaged result) }
@@ -174,12 +167,11 @@ fn remove_entry<D: Device>(
     ensures filled { OnTree D.Device layout root pages.old device.old
         (λ levels. OnOk result (FewFilled 42 pages.old pages.new)) }
     ensures committed { SameCommitted pages.old pages.new }
-    ensures catalog { catalog_of pages.new ≡ catalog_of pages.old }
-    ensures agrees { IfAgrees D.Device pages.old device.old
-        (Agrees pages.new (D.state device.new).disk) }
+    ensures catalog { SameCatalog pages.old pages.new }
+    ensures agrees { KeepsAgreement D.Device pages.old device.old pages.new device.new }
     ensures open { IsOpen pages.new }
     ensures spent { ExactlyIfSpentAt root pages.old result }
-    ensures cause { IfErr result IsChangeRefusal }
+    ensures cause { ErrOnlyIfChangeRefusal result }
 {
     if root == 0 {
         return Ok(None);

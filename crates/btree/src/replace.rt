@@ -1,14 +1,12 @@
 //! Another value for an entry.
-ghost use Rattle.std.specs.Prelude.{◌≡◌, ◌≤◌, ◌<◌, Err, Ok, true, false, None, length, IsSome, IfErr, OnOk};
-ghost use Rattle.station.specs.Calls.{OnlyReads};
-ghost use Rattle.pages.specs.Pages.{IsOpen, Agrees, SameCommitted, catalog_of, sectors_of, KeepsCommitted, IsUnchanged};
+ghost use Rattle.std.specs.Prelude.{◌≡◌, ◌<◌, length, IfErr, OnOk};
+ghost use Rattle.pages.specs.Pages.{IsOpen, SameCommitted, KeepsCommitted};
 ghost use Rattle.btree_pages.specs.RowLayouts.{rest_length};
-ghost use Rattle.btree.specs.Entries.{entries_of, entry_with, with_value};
-ghost use Rattle.btree.specs.Changes.{Becomes};
-ghost use Rattle.btree.specs.Refusals.{IsRestRefusal, IsChangeRefusal};
-ghost use Rattle.btree.specs.Calls.{IfAgrees, OnNoTree, OnTree, OnTreeChange};
-ghost use Rattle.btree.specs.Results.{ReturnsDamaged, OnlyIfSpent, ExactlyIfSpentAt, FewChanged, FewFilled};
+ghost use Rattle.btree.specs.Refusals.{IsRestRefusal, ErrOnlyIfChangeRefusal};
+ghost use Rattle.btree.specs.Calls.{FitsDevice, OnlyReadsFor, KeepsAgreement, DamagedOnlyIfNoTree};
+ghost use Rattle.btree.specs.Results.{ReturnsDamaged, OnlyIfSpent, ExactlyIfSpentAt, FewChanged, FewFilled, FalseOnlyIfUnchanged, SameCatalog};
 ghost use Rattle.btree.specs.Puts.{PutsRest, NeverIn};
+ghost use Rattle.btree.specs.TreeEdits.{FalseOnlyIfAbsent, TrueOnlyIfReplaced};
 
 use crate::descend::{descend, follow};
 use crate::set_value::set_value_in;
@@ -19,7 +17,7 @@ use pages::{PageMap, PagesError};
 use station::Device;
 
 impl Tree {
-    /// Gives the entry of a key another value. `false` tells that there is none, and then nothing was changed. Refusals are as those of
+    /// Gives the entry of a key another value. `false` means that there is none, and then nothing was changed. Refusals are as those of
     /// `insert`, but `Full` doesn't come.
     pub fn replace<D: Device>(
         &mut self,
@@ -29,33 +27,25 @@ impl Tree {
         value: &[u8],
     ) -> Result<bool, PagesError>
         requires open { IsOpen pages.old }
-        requires sectors { sectors_of pages.old ≤ D.sectors device.old }
+        requires sectors { FitsDevice D.Device pages.old device.old }
         requires value { length value.now ≡ self.old.layout.value_length }
-        ensures only { OnlyReads D.Device (result ≡ Err PagesError.Device) device.old device.new }
+        ensures only { OnlyReadsFor D.Device device.old device.new result }
 
         // The entry of the key has the new value, and the pages around the tree stay.
-        ensures replaced { OnTreeChange D.Device self.old.layout self.old.root pages.old pages.new
-            device.old
-            (λ before levels after. result ≡ Ok true
-            → IsSome (entry_with (entries_of self.old.layout levels) key.now)
-            × Becomes self.old.layout before levels after self.old.root (with_value (entries_of
-            self.old.layout levels) (record { key = key.now; value = value.now }))) }
-        ensures missing { OnTree D.Device self.old.layout self.old.root pages.old device.old
-            (λ levels. result ≡ Ok false
-            → entry_with (entries_of self.old.layout levels) key.now ≡ None) }
-        ensures same { result ≡ Ok false → IsUnchanged pages.old pages.new }
-        ensures damaged { OnNoTree D.Device self.old.layout self.old.root pages.old device.old
-            (ReturnsDamaged result) }
+        ensures replaced { TrueOnlyIfReplaced D.Device self.old pages.old device.old key.now
+            value.now pages.new result }
+        ensures missing { FalseOnlyIfAbsent D.Device self.old pages.old device.old key.now result }
+        ensures same { FalseOnlyIfUnchanged pages.old pages.new result }
+        ensures damaged { DamagedOnlyIfNoTree D.Device self.old pages.old device.old result }
         ensures tree { self.new ≡ self.old }
         ensures changed_pages { FewChanged 1 pages.old pages.new }
         ensures filled { FewFilled 1 pages.old pages.new }
         ensures committed { SameCommitted pages.old pages.new }
-        ensures catalog { catalog_of pages.new ≡ catalog_of pages.old }
-        ensures agrees { IfAgrees D.Device pages.old device.old
-            (Agrees pages.new (D.state device.new).disk) }
+        ensures catalog { SameCatalog pages.old pages.new }
+        ensures agrees { KeepsAgreement D.Device pages.old device.old pages.new device.new }
         ensures open { IsOpen pages.new }
         ensures spent { ExactlyIfSpentAt self.old.root pages.old result }
-        ensures cause { IfErr result IsChangeRefusal }
+        ensures cause { ErrOnlyIfChangeRefusal result }
     {
         let alloc = self.alloc;
         let layout = self.layout();
@@ -81,33 +71,25 @@ impl Tree {
         value: &[u8],
     ) -> Result<bool, PagesError>
         requires open { IsOpen pages.old }
-        requires sectors { sectors_of pages.old ≤ D.sectors device.old }
+        requires sectors { FitsDevice D.Device pages.old device.old }
         requires value { length value.now ≡ self.old.layout.value_length }
-        ensures only { OnlyReads D.Device (result ≡ Err PagesError.Device) device.old device.new }
+        ensures only { OnlyReadsFor D.Device device.old device.new result }
 
         // The entry of the key has the new value, and the pages around the tree stay.
-        ensures replaced { OnTreeChange D.Device self.old.layout self.old.root pages.old pages.new
-            device.old
-            (λ before levels after. result ≡ Ok true
-            → IsSome (entry_with (entries_of self.old.layout levels) key.now)
-            × Becomes self.old.layout before levels after self.old.root (with_value (entries_of
-            self.old.layout levels) (record { key = key.now; value = value.now }))) }
-        ensures missing { OnTree D.Device self.old.layout self.old.root pages.old device.old
-            (λ levels. result ≡ Ok false
-            → entry_with (entries_of self.old.layout levels) key.now ≡ None) }
-        ensures same { result ≡ Ok false → IsUnchanged pages.old pages.new }
-        ensures damaged { OnNoTree D.Device self.old.layout self.old.root pages.old device.old
-            (ReturnsDamaged result) }
+        ensures replaced { TrueOnlyIfReplaced D.Device self.old pages.old device.old key.now
+            value.now pages.new result }
+        ensures missing { FalseOnlyIfAbsent D.Device self.old pages.old device.old key.now result }
+        ensures same { FalseOnlyIfUnchanged pages.old pages.new result }
+        ensures damaged { DamagedOnlyIfNoTree D.Device self.old pages.old device.old result }
         ensures tree { self.new ≡ self.old }
         ensures changed_pages { FewChanged 1 pages.old pages.new }
         ensures filled { FewFilled 1 pages.old pages.new }
         ensures committed { SameCommitted pages.old pages.new }
-        ensures catalog { catalog_of pages.new ≡ catalog_of pages.old }
-        ensures agrees { IfAgrees D.Device pages.old device.old
-            (Agrees pages.new (D.state device.new).disk) }
+        ensures catalog { SameCatalog pages.old pages.new }
+        ensures agrees { KeepsAgreement D.Device pages.old device.old pages.new device.new }
         ensures open { IsOpen pages.new }
         ensures spent { ExactlyIfSpentAt self.old.root pages.old result }
-        ensures cause { IfErr result IsChangeRefusal }
+        ensures cause { ErrOnlyIfChangeRefusal result }
     {
         let alloc = self.alloc;
         let layout = self.layout();
@@ -125,7 +107,7 @@ impl Tree {
     }
 }
 
-/// The row at a place of the node that stands on a page gets another rest. `Damaged` tells that there is no such page.
+/// The row at a place of the node that stands on a page gets another rest. `Damaged` means that there is no such page.
 fn put_rest(
     pages: &mut PageMap,
     page: u32,

@@ -1,18 +1,16 @@
 //! An entry of a leaf in memory gets another value.
 ghost use Rattle.std.specs.Prelude.{◌≡◌, Ok, true, false, length, IfErr};
-ghost use Rattle.station.specs.Disk.{Disk};
-ghost use Rattle.pages.specs.Pages.{IsOpen, Agrees, KeepsCommitted};
+ghost use Rattle.pages.specs.Pages.{IsOpen, KeepsCommitted};
 ghost use Rattle.btree_pages.specs.RowLayouts.{IsRowLayout};
-ghost use Rattle.btree.specs.Changes.{pages_of_map};
 ghost use Rattle.btree.specs.Refusals.{IsPutRefusal};
 ghost use Rattle.btree.specs.Results.{OnlyIfSpent, FewChanged, FewFilled};
-ghost use Rattle.btree.specs.Entering.{SetsIn, SetsOn};
+ghost use Rattle.btree.specs.Entering.{SetsIn, TrueOnlyIfSet};
 
 use crate::node::view_node;
 use btree_pages::{Kind, RowLayout};
 use pages::{PageMap, PagesError};
 
-/// Gives the entry of a key in the leaf of that page number another value. `false` tells that the leaf isn't in memory, or that it
+/// Gives the entry of a key in the leaf of that page number another value. `false` means that the leaf isn't in memory, or that it
 /// hasn't the key, and then nothing was done.
 pub(crate) fn set_value_in(
     pages: &mut PageMap,
@@ -24,10 +22,8 @@ pub(crate) fn set_value_in(
     requires open { IsOpen pages.old }
     requires layout { IsRowLayout layout }
     requires value { length value.now ≡ layout.value_length }
-    ensures done { result ≡ Ok true → (disk : Disk) → Agrees pages.old disk
-        → SetsOn layout page key.now value.now (pages_of_map pages.old disk.present)
-        (pages_of_map pages.new disk.present) }
     ensures same { result ≡ Ok false → pages.new ≡ pages.old }
+    ensures done { TrueOnlyIfSet layout page key.now value.now pages.old pages.new result }
     ensures changed_pages { FewChanged 1 pages.old pages.new }
     ensures filled { FewFilled 1 pages.old pages.new }
     ensures keeps { KeepsCommitted pages.old pages.new }
@@ -49,7 +45,7 @@ pub(crate) fn set_value_in(
     Ok(true)
 }
 
-/// Puts the bytes of the leaf that these bytes spell, with another value for the entry of a key, into `spelled`. `false` tells that
+/// Puts the bytes of the leaf that these bytes spell, with another value for the entry of a key, into `spelled`. `false` means that
 /// they spell no leaf, or that the key isn't there.
 fn spell_set(
     bytes: &[u8; 4096],

@@ -1,13 +1,12 @@
 //! A removal goes up from a leaf, along the way that led down to it.
 ghost use Rattle.std.specs.Prelude.{◌≡◌, ◌≤◌, ◌+◌, ◌*◌, Err, length, IfOk, IfErr};
-ghost use Rattle.station.specs.Calls.{OnlyReads};
-ghost use Rattle.pages.specs.Pages.{IsOpen, Agrees, SameCommitted, catalog_of, sectors_of, changed_pages_of, filled_of};
+ghost use Rattle.pages.specs.Pages.{IsOpen, SameCommitted, changed_pages_of, filled_of};
 ghost use Rattle.btree_pages.specs.RowLayouts.{IsRowLayout};
 ghost use Rattle.btree.specs.Outcomes.{FitsAbove, spare};
 ghost use Rattle.btree.specs.Shrinks.{ShrinksBy, NeverShrinks, ShrinksOn, NeverShrinksOn};
-ghost use Rattle.btree.specs.Refusals.{IsChangeRefusal};
-ghost use Rattle.btree.specs.Calls.{IfAgrees, OnPages, OnChange};
-ghost use Rattle.btree.specs.Results.{OnlyIfSpent};
+ghost use Rattle.btree.specs.Refusals.{ErrOnlyIfChangeRefusal};
+ghost use Rattle.btree.specs.Calls.{OnPages, OnChange, FitsDevice, OnlyReadsFor, KeepsAgreement};
+ghost use Rattle.btree.specs.Results.{OnlyIfSpent, SameCatalog};
 
 use crate::node::read_node;
 use crate::path_step::PathStep;
@@ -28,10 +27,10 @@ pub(crate) fn shrink<D: Device>(
     outcome: RemovalOutcome,
 ) -> Result<RemovalOutcome, PagesError>
     requires open { IsOpen pages.old }
-    requires sectors { sectors_of pages.old ≤ D.sectors device.old }
+    requires sectors { FitsDevice D.Device pages.old device.old }
     requires layout { IsRowLayout layout }
     requires fits { FitsAbove layout outcome }
-    ensures only { OnlyReads D.Device (result ≡ Err PagesError.Device) device.old device.new }
+    ensures only { OnlyReadsFor D.Device device.old device.new result }
     ensures shrinks { OnChange D.Device pages.old pages.new device.old
         (λ before after. IfOk result (ShrinksBy layout path.now before after outcome)) }
     ensures damaged { OnPages D.Device pages.old device.old
@@ -42,12 +41,11 @@ pub(crate) fn shrink<D: Device>(
     ensures filled { IfOk result (λ up. filled_of pages.new + spare up
         ≤ filled_of pages.old + spare outcome + 2 * length path.now) }
     ensures committed { SameCommitted pages.old pages.new }
-    ensures catalog { catalog_of pages.new ≡ catalog_of pages.old }
-    ensures agrees { IfAgrees D.Device pages.old device.old
-        (Agrees pages.new (D.state device.new).disk) }
+    ensures catalog { SameCatalog pages.old pages.new }
+    ensures agrees { KeepsAgreement D.Device pages.old device.old pages.new device.new }
     ensures open { IsOpen pages.new }
     ensures spent { OnlyIfSpent pages.old result }
-    ensures cause { IfErr result IsChangeRefusal }
+    ensures cause { ErrOnlyIfChangeRefusal result }
 {
     let (step, rest) = match path.split_first() {
         Some(pair) => pair,
@@ -68,10 +66,10 @@ fn shrink_at<D: Device>(
     below: RemovalOutcome,
 ) -> Result<RemovalOutcome, PagesError>
     requires open { IsOpen pages.old }
-    requires sectors { sectors_of pages.old ≤ D.sectors device.old }
+    requires sectors { FitsDevice D.Device pages.old device.old }
     requires layout { IsRowLayout layout }
     requires fits { FitsAbove layout below }
-    ensures only { OnlyReads D.Device (result ≡ Err PagesError.Device) device.old device.new }
+    ensures only { OnlyReadsFor D.Device device.old device.new result }
     ensures shrinks { OnChange D.Device pages.old pages.new device.old
         (λ before after. IfOk result (ShrinksOn layout step before after below)) }
     ensures damaged { OnPages D.Device pages.old device.old
@@ -82,12 +80,11 @@ fn shrink_at<D: Device>(
     ensures filled { IfOk result
         (λ up. filled_of pages.new + spare up ≤ filled_of pages.old + spare below + 2) }
     ensures committed { SameCommitted pages.old pages.new }
-    ensures catalog { catalog_of pages.new ≡ catalog_of pages.old }
-    ensures agrees { IfAgrees D.Device pages.old device.old
-        (Agrees pages.new (D.state device.new).disk) }
+    ensures catalog { SameCatalog pages.old pages.new }
+    ensures agrees { KeepsAgreement D.Device pages.old device.old pages.new device.new }
     ensures open { IsOpen pages.new }
     ensures spent { OnlyIfSpent pages.old result }
-    ensures cause { IfErr result IsChangeRefusal }
+    ensures cause { ErrOnlyIfChangeRefusal result }
 {
     let node = read_node(pages, device, layout, step.page)?;
     match below {

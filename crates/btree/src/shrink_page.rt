@@ -69,7 +69,7 @@ pub(crate) fn take_out(
     write_back(pages, page, leaf, place > 0)
 }
 
-/// The page at a step loses the row of the child that the step led to, since that child is gone. `Damaged` tells that the step leads
+/// The page at a step loses the row of the child that the step led to, since that child is gone. `Damaged` means that the step leads
 /// to no such page.
 pub(crate) fn lose_at(
     pages: &mut PageMap,
@@ -95,7 +95,7 @@ pub(crate) fn lose_at(
     Ok(outcome)
 }
 
-/// The row of the child that a step led to gets that child's least key. `Damaged` tells that the step leads to no such page.
+/// The row of the child that a step led to gets that child's least key. `Damaged` means that the step leads to no such page.
 pub(crate) fn rename_at(
     pages: &mut PageMap,
     step: PathStep,

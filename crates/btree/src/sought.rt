@@ -1,7 +1,6 @@
 //! What a search finds: the entry in the leaf where a key belongs, read where the pages stand.
-ghost use Rattle.std.specs.Prelude.{◌≡◌, ◌≤◌, Err, List, drop, IfOk, IfErr, IfSome, OnErr, true};
-ghost use Rattle.station.specs.Calls.{OnlyReads};
-ghost use Rattle.pages.specs.Pages.{sectors_of, Agrees, IsOpen, IsUnchanged};
+ghost use Rattle.std.specs.Prelude.{◌≡◌, Err, List, drop, IfOk, IfErr, IfSome, OnErr, true};
+ghost use Rattle.pages.specs.Pages.{IsOpen, IsUnchanged};
 ghost use Rattle.btree_pages.specs.RowLayouts.{IsRowLayout};
 ghost use Rattle.btree_pages.specs.Keys.{Ascend, keys_of};
 ghost use Rattle.btree.specs.Tree.{TreeNode, IsTree};
@@ -9,7 +8,7 @@ ghost use Rattle.btree.specs.Entries.{HasLengths, entries_of_rows, entries_of, f
 ghost use Rattle.btree.specs.Reading.{IsReadRefusal, SpellsNoNode, NoneStands, NoneOfKind, NoTree};
 ghost use Rattle.btree.specs.Places.{HasLeaf};
 ghost use Rattle.btree.specs.Sought.{sought_in, AnswersAt, LooksIn, LooksAt, FindsEntry};
-ghost use Rattle.btree.specs.Calls.{IfAgrees, OnPages};
+ghost use Rattle.btree.specs.Calls.{OnPages, FitsDevice, OnlyReadsFor, KeepsAgreement};
 ghost use Rattle.btree.specs.Results.{ReturnsDamaged, ExactlyIfSpent};
 
 use crate::child::child_place;
@@ -68,7 +67,7 @@ pub(crate) fn sought_place(node: &NodeView, key: &[u8], sought: Sought) -> usize
     }
 }
 
-/// What the page that these bytes spell answers. The entry is put into `entry`. `Damaged` tells that they spell no page of a tree.
+/// What the page that these bytes spell answers. The entry is put into `entry`. `Damaged` means that they spell no page of a tree.
 fn look_in(
     bytes: &[u8; 4096],
     layout: RowLayout,
@@ -110,12 +109,11 @@ fn look_read<D: Device>(
     entry: &mut Entry,
 ) -> Result<Look, PagesError>
     requires open { IsOpen pages.old }
-    requires sectors { sectors_of pages.old ≤ D.sectors device.old }
+    requires sectors { FitsDevice D.Device pages.old device.old }
     requires layout { IsRowLayout layout }
-    ensures only { OnlyReads D.Device (result ≡ Err PagesError.Device) device.old device.new }
+    ensures only { OnlyReadsFor D.Device device.old device.new result }
     ensures unchanged { IsUnchanged pages.old pages.new }
-    ensures agrees { IfAgrees D.Device pages.old device.old
-        (Agrees pages.new (D.state device.new).disk) }
+    ensures agrees { KeepsAgreement D.Device pages.old device.old pages.new device.new }
     ensures open { IsOpen pages.new }
     ensures look { OnPages D.Device pages.old device.old
         (λ before. IfOk result (LooksAt layout before page key.now sought entry.new)) }
@@ -144,12 +142,11 @@ fn look_loaded<D: Device>(
     entry: &mut Entry,
 ) -> Result<Look, PagesError>
     requires open { IsOpen pages.old }
-    requires sectors { sectors_of pages.old ≤ D.sectors device.old }
+    requires sectors { FitsDevice D.Device pages.old device.old }
     requires layout { IsRowLayout layout }
-    ensures only { OnlyReads D.Device (result ≡ Err PagesError.Device) device.old device.new }
+    ensures only { OnlyReadsFor D.Device device.old device.new result }
     ensures unchanged { IsUnchanged pages.old pages.new }
-    ensures agrees { IfAgrees D.Device pages.old device.old
-        (Agrees pages.new (D.state device.new).disk) }
+    ensures agrees { KeepsAgreement D.Device pages.old device.old pages.new device.new }
     ensures open { IsOpen pages.new }
     ensures look { OnPages D.Device pages.old device.old
         (λ before. IfOk result (LooksAt layout before page key.now sought entry.new)) }
@@ -166,7 +163,7 @@ fn look_loaded<D: Device>(
     look_read(pages, device, layout, page, key, sought, entry)
 }
 
-/// What the page of that number answers. The entry is put into `entry`. `Damaged` tells that it is no page of a tree.
+/// What the page of that number answers. The entry is put into `entry`. `Damaged` means that it is no page of a tree.
 fn look_at<D: Device>(
     pages: &mut PageMap,
     device: &mut D,
@@ -177,12 +174,11 @@ fn look_at<D: Device>(
     entry: &mut Entry,
 ) -> Result<Look, PagesError>
     requires open { IsOpen pages.old }
-    requires sectors { sectors_of pages.old ≤ D.sectors device.old }
+    requires sectors { FitsDevice D.Device pages.old device.old }
     requires layout { IsRowLayout layout }
-    ensures only { OnlyReads D.Device (result ≡ Err PagesError.Device) device.old device.new }
+    ensures only { OnlyReadsFor D.Device device.old device.new result }
     ensures unchanged { IsUnchanged pages.old pages.new }
-    ensures agrees { IfAgrees D.Device pages.old device.old
-        (Agrees pages.new (D.state device.new).disk) }
+    ensures agrees { KeepsAgreement D.Device pages.old device.old pages.new device.new }
     ensures open { IsOpen pages.new }
     ensures look { OnPages D.Device pages.old device.old
         (λ before. IfOk result (LooksAt layout before page key.now sought entry.new)) }
@@ -199,7 +195,7 @@ fn look_at<D: Device>(
     look_loaded(pages, device, layout, page, key, sought, entry)
 }
 
-/// The entry that is sought, in the leaf of that page number. `Damaged` tells that the page is no leaf of a tree.
+/// The entry that is sought, in the leaf of that page number. `Damaged` means that the page is no leaf of a tree.
 pub(crate) fn entry_at<D: Device>(
     pages: &mut PageMap,
     device: &mut D,
@@ -209,12 +205,11 @@ pub(crate) fn entry_at<D: Device>(
     sought: Sought,
 ) -> Result<Option<Entry>, PagesError>
     requires open { IsOpen pages.old }
-    requires sectors { sectors_of pages.old ≤ D.sectors device.old }
+    requires sectors { FitsDevice D.Device pages.old device.old }
     requires layout { IsRowLayout layout }
-    ensures only { OnlyReads D.Device (result ≡ Err PagesError.Device) device.old device.new }
+    ensures only { OnlyReadsFor D.Device device.old device.new result }
     ensures unchanged { IsUnchanged pages.old pages.new }
-    ensures agrees { IfAgrees D.Device pages.old device.old
-        (Agrees pages.new (D.state device.new).disk) }
+    ensures agrees { KeepsAgreement D.Device pages.old device.old pages.new device.new }
     ensures open { IsOpen pages.new }
     ensures entry { OnPages D.Device pages.old device.old
         (λ before. IfOk result (AnswersAt layout before page key.now sought)) }
@@ -233,7 +228,7 @@ pub(crate) fn entry_at<D: Device>(
 }
 
 /// Goes down from a page to the leaf where the key belongs, and reports it, and whether it has the entry that is sought, which is put
-/// into `entry`. Nothing is kept of the way. `Damaged` tells that the page is no tree's root.
+/// into `entry`. Nothing is kept of the way. `Damaged` means that the page is no tree's root.
 pub(crate) fn search<D: Device>(
     pages: &mut PageMap,
     device: &mut D,
@@ -244,12 +239,11 @@ pub(crate) fn search<D: Device>(
     entry: &mut Entry,
 ) -> Result<SearchEnd, PagesError>
     requires open { IsOpen pages.old }
-    requires sectors { sectors_of pages.old ≤ D.sectors device.old }
+    requires sectors { FitsDevice D.Device pages.old device.old }
     requires layout { IsRowLayout layout }
-    ensures only { OnlyReads D.Device (result ≡ Err PagesError.Device) device.old device.new }
+    ensures only { OnlyReadsFor D.Device device.old device.new result }
     ensures unchanged { IsUnchanged pages.old pages.new }
-    ensures agrees { IfAgrees D.Device pages.old device.old
-        (Agrees pages.new (D.state device.new).disk) }
+    ensures agrees { KeepsAgreement D.Device pages.old device.old pages.new device.new }
     ensures open { IsOpen pages.new }
     ensures finds { OnPages D.Device pages.old device.old
         (λ before. (levels : List (List TreeNode)) → IsTree layout before root levels

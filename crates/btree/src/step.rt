@@ -1,11 +1,10 @@
 //! One step of a key's way down a tree.
-ghost use Rattle.std.specs.Prelude.{◌≡◌, ◌⊎◌, ◌<◌, ◌≤◌, Err, IfOk, IfErr, OnErr};
-ghost use Rattle.station.specs.Calls.{OnlyReads};
-ghost use Rattle.pages.specs.Pages.{sectors_of, Agrees, IsOpen, IsUnchanged};
+ghost use Rattle.std.specs.Prelude.{◌≡◌, ◌⊎◌, ◌<◌, Err, IfOk, IfErr, OnErr};
+ghost use Rattle.pages.specs.Pages.{IsOpen, IsUnchanged};
 ghost use Rattle.btree_pages.specs.RowLayouts.{IsRowLayout};
 ghost use Rattle.btree.specs.Reading.{IsSearchRefusal, SpellsNoNode, NoneStands};
 ghost use Rattle.btree.specs.Steps.{StepsIn, StepsAt};
-ghost use Rattle.btree.specs.Calls.{IfAgrees, OnPages};
+ghost use Rattle.btree.specs.Calls.{OnPages, FitsDevice, OnlyReadsFor, KeepsAgreement};
 ghost use Rattle.btree.specs.Results.{ReturnsDamaged, ExactlyIfSpent};
 
 use crate::child::{Child, child_place, note_right};
@@ -17,7 +16,7 @@ use station::Device;
 use std::alloc::Global;
 
 /// The child that a key leads to on the page of that number, or none where it is a leaf. The next key to the right is noted.
-/// `Damaged` tells that the page is none of a tree. `Memory` comes only where keys are longer than 128 bytes.
+/// `Damaged` means that the page is none of a tree. `Memory` comes only where keys are longer than 128 bytes.
 pub(crate) fn step_at<D: Device>(
     alloc: Global,
     pages: &mut PageMap,
@@ -28,12 +27,11 @@ pub(crate) fn step_at<D: Device>(
     right: &mut Option<Key>,
 ) -> Result<Option<Child>, PagesError>
     requires open { IsOpen pages.old }
-    requires sectors { sectors_of pages.old ≤ D.sectors device.old }
+    requires sectors { FitsDevice D.Device pages.old device.old }
     requires layout { IsRowLayout layout }
-    ensures only { OnlyReads D.Device (result ≡ Err PagesError.Device) device.old device.new }
+    ensures only { OnlyReadsFor D.Device device.old device.new result }
     ensures unchanged { IsUnchanged pages.old pages.new }
-    ensures agrees { IfAgrees D.Device pages.old device.old
-        (Agrees pages.new (D.state device.new).disk) }
+    ensures agrees { KeepsAgreement D.Device pages.old device.old pages.new device.new }
     ensures open { IsOpen pages.new }
     ensures step { OnPages D.Device pages.old device.old (λ before.
         IfOk result (λ child. StepsAt layout before page key.now right.old right.new child)) }
@@ -88,12 +86,11 @@ fn step_read<D: Device>(
     right: &mut Option<Key>,
 ) -> Result<Option<Child>, PagesError>
     requires open { IsOpen pages.old }
-    requires sectors { sectors_of pages.old ≤ D.sectors device.old }
+    requires sectors { FitsDevice D.Device pages.old device.old }
     requires layout { IsRowLayout layout }
-    ensures only { OnlyReads D.Device (result ≡ Err PagesError.Device) device.old device.new }
+    ensures only { OnlyReadsFor D.Device device.old device.new result }
     ensures unchanged { IsUnchanged pages.old pages.new }
-    ensures agrees { IfAgrees D.Device pages.old device.old
-        (Agrees pages.new (D.state device.new).disk) }
+    ensures agrees { KeepsAgreement D.Device pages.old device.old pages.new device.new }
     ensures open { IsOpen pages.new }
     ensures step { OnPages D.Device pages.old device.old (λ before.
         IfOk result (λ child. StepsAt layout before page key.now right.old right.new child)) }
@@ -121,12 +118,11 @@ fn step_loaded<D: Device>(
     right: &mut Option<Key>,
 ) -> Result<Option<Child>, PagesError>
     requires open { IsOpen pages.old }
-    requires sectors { sectors_of pages.old ≤ D.sectors device.old }
+    requires sectors { FitsDevice D.Device pages.old device.old }
     requires layout { IsRowLayout layout }
-    ensures only { OnlyReads D.Device (result ≡ Err PagesError.Device) device.old device.new }
+    ensures only { OnlyReadsFor D.Device device.old device.new result }
     ensures unchanged { IsUnchanged pages.old pages.new }
-    ensures agrees { IfAgrees D.Device pages.old device.old
-        (Agrees pages.new (D.state device.new).disk) }
+    ensures agrees { KeepsAgreement D.Device pages.old device.old pages.new device.new }
     ensures open { IsOpen pages.new }
     ensures step { OnPages D.Device pages.old device.old (λ before.
         IfOk result (λ child. StepsAt layout before page key.now right.old right.new child)) }

@@ -1,15 +1,14 @@
 //! A tree, and what is read of it.
-ghost use Rattle.std.specs.Prelude.{◌≡◌, ◌≤◌, ◌++◌, ◌⊎◌, Err, Some, None, ℕ, List, IfOk, IfErr, IfSome};
-ghost use Rattle.station.specs.Calls.{OnlyReads};
-ghost use Rattle.pages.specs.Pages.{sectors_of, Agrees, IsOpen, IsUnchanged};
+ghost use Rattle.std.specs.Prelude.{◌≡◌, ◌++◌, ◌⊎◌, Err, ℕ, List, IfOk, IfErr, IfSome};
+ghost use Rattle.pages.specs.Pages.{IsOpen, IsUnchanged};
 ghost use Rattle.btree_pages.specs.RowLayouts.{IsRowLayout};
 ghost use Rattle.btree.specs.Tree.{TreeNode, IsTree, rows_in_order};
 ghost use Rattle.btree.specs.Path.{first_key};
 ghost use Rattle.btree.specs.Entries.{HasLengths, entry_with, first_from, first_entry_after, first_entry, entries_of_rows};
 ghost use Rattle.btree.specs.Reading.{IsSearchRefusal};
 ghost use Rattle.btree.specs.Sought.{sought_in};
-ghost use Rattle.btree.specs.Calls.{IfAgrees, OnNoTree, OnPages, AnswersEntry};
-ghost use Rattle.btree.specs.Results.{ReturnsDamaged, OnlyIfSpent, ExactlyIfSpentAt};
+ghost use Rattle.btree.specs.Calls.{OnPages, AnswersEntry, FitsDevice, OnlyReadsFor, KeepsAgreement, DamagedOnlyIfNoTree, AnswersKey};
+ghost use Rattle.btree.specs.Results.{OnlyIfSpent, ExactlyIfSpentAt};
 
 use crate::descend::follow;
 use crate::entry::Entry;
@@ -82,16 +81,14 @@ impl Tree {
         key: &[u8],
     ) -> Result<Option<Entry>, PagesError>
         requires open { IsOpen pages.old }
-        requires sectors { sectors_of pages.old ≤ D.sectors device.old }
-        ensures only { OnlyReads D.Device (result ≡ Err PagesError.Device) device.old device.new }
+        requires sectors { FitsDevice D.Device pages.old device.old }
+        ensures only { OnlyReadsFor D.Device device.old device.new result }
         ensures unchanged { IsUnchanged pages.old pages.new }
-        ensures agrees { IfAgrees D.Device pages.old device.old
-            (Agrees pages.new (D.state device.new).disk) }
+        ensures agrees { KeepsAgreement D.Device pages.old device.old pages.new device.new }
         ensures open { IsOpen pages.new }
-        ensures entry { AnswersEntry D.Device self.now pages.old device.old
-            (λ entries. entry_with entries key.now) result }
-        ensures damaged { OnNoTree D.Device self.now.layout self.now.root pages.old device.old
-            (ReturnsDamaged result) }
+        ensures entry { AnswersKey D.Device self.now pages.old device.old entry_with
+            key.now result }
+        ensures damaged { DamagedOnlyIfNoTree D.Device self.now pages.old device.old result }
         ensures spent { ExactlyIfSpentAt self.now.root pages.old result }
         ensures lengths { IfOk result (λ entry. IfSome entry (HasLengths self.now.layout)) }
         ensures cause { IfErr result (IsSearchRefusal self.now.layout) }
@@ -123,16 +120,14 @@ impl Tree {
         key: &[u8],
     ) -> Result<Option<Entry>, PagesError>
         requires open { IsOpen pages.old }
-        requires sectors { sectors_of pages.old ≤ D.sectors device.old }
-        ensures only { OnlyReads D.Device (result ≡ Err PagesError.Device) device.old device.new }
+        requires sectors { FitsDevice D.Device pages.old device.old }
+        ensures only { OnlyReadsFor D.Device device.old device.new result }
         ensures unchanged { IsUnchanged pages.old pages.new }
-        ensures agrees { IfAgrees D.Device pages.old device.old
-            (Agrees pages.new (D.state device.new).disk) }
+        ensures agrees { KeepsAgreement D.Device pages.old device.old pages.new device.new }
         ensures open { IsOpen pages.new }
-        ensures entry { AnswersEntry D.Device self.now pages.old device.old
-            (λ entries. first_from entries key.now) result }
-        ensures damaged { OnNoTree D.Device self.now.layout self.now.root pages.old device.old
-            (ReturnsDamaged result) }
+        ensures entry { AnswersKey D.Device self.now pages.old device.old first_from
+            key.now result }
+        ensures damaged { DamagedOnlyIfNoTree D.Device self.now pages.old device.old result }
         ensures spent { ExactlyIfSpentAt self.now.root pages.old result }
         ensures lengths { IfOk result (λ entry. IfSome entry (HasLengths self.now.layout)) }
         ensures cause { IfErr result (IsSearchRefusal self.now.layout) }
@@ -148,16 +143,14 @@ impl Tree {
         key: &[u8],
     ) -> Result<Option<Entry>, PagesError>
         requires open { IsOpen pages.old }
-        requires sectors { sectors_of pages.old ≤ D.sectors device.old }
-        ensures only { OnlyReads D.Device (result ≡ Err PagesError.Device) device.old device.new }
+        requires sectors { FitsDevice D.Device pages.old device.old }
+        ensures only { OnlyReadsFor D.Device device.old device.new result }
         ensures unchanged { IsUnchanged pages.old pages.new }
-        ensures agrees { IfAgrees D.Device pages.old device.old
-            (Agrees pages.new (D.state device.new).disk) }
+        ensures agrees { KeepsAgreement D.Device pages.old device.old pages.new device.new }
         ensures open { IsOpen pages.new }
-        ensures entry { AnswersEntry D.Device self.now pages.old device.old
-            (λ entries. first_entry_after entries key.now) result }
-        ensures damaged { OnNoTree D.Device self.now.layout self.now.root pages.old device.old
-            (ReturnsDamaged result) }
+        ensures entry { AnswersKey D.Device self.now pages.old device.old first_entry_after
+            key.now result }
+        ensures damaged { DamagedOnlyIfNoTree D.Device self.now pages.old device.old result }
         ensures spent { ExactlyIfSpentAt self.now.root pages.old result }
         ensures lengths { IfOk result (λ entry. IfSome entry (HasLengths self.now.layout)) }
         ensures cause { IfErr result (IsSearchRefusal self.now.layout) }
@@ -172,15 +165,13 @@ impl Tree {
         device: &mut D,
     ) -> Result<Option<Entry>, PagesError>
         requires open { IsOpen pages.old }
-        requires sectors { sectors_of pages.old ≤ D.sectors device.old }
-        ensures only { OnlyReads D.Device (result ≡ Err PagesError.Device) device.old device.new }
+        requires sectors { FitsDevice D.Device pages.old device.old }
+        ensures only { OnlyReadsFor D.Device device.old device.new result }
         ensures unchanged { IsUnchanged pages.old pages.new }
-        ensures agrees { IfAgrees D.Device pages.old device.old
-            (Agrees pages.new (D.state device.new).disk) }
+        ensures agrees { KeepsAgreement D.Device pages.old device.old pages.new device.new }
         ensures open { IsOpen pages.new }
         ensures entry { AnswersEntry D.Device self.now pages.old device.old first_entry result }
-        ensures damaged { OnNoTree D.Device self.now.layout self.now.root pages.old device.old
-            (ReturnsDamaged result) }
+        ensures damaged { DamagedOnlyIfNoTree D.Device self.now pages.old device.old result }
         ensures spent { ExactlyIfSpentAt self.now.root pages.old result }
         ensures lengths { IfOk result (λ entry. IfSome entry (HasLengths self.now.layout)) }
         ensures cause { IfErr result (IsSearchRefusal self.now.layout) }
@@ -197,17 +188,15 @@ impl Tree {
         sought: Sought,
     ) -> Result<Option<Entry>, PagesError>
         requires open { IsOpen pages.old }
-        requires sectors { sectors_of pages.old ≤ D.sectors device.old }
+        requires sectors { FitsDevice D.Device pages.old device.old }
         requires sought { (sought ≡ Sought.From) ⊎ (sought ≡ Sought.After) }
-        ensures only { OnlyReads D.Device (result ≡ Err PagesError.Device) device.old device.new }
+        ensures only { OnlyReadsFor D.Device device.old device.new result }
         ensures unchanged { IsUnchanged pages.old pages.new }
-        ensures agrees { IfAgrees D.Device pages.old device.old
-            (Agrees pages.new (D.state device.new).disk) }
+        ensures agrees { KeepsAgreement D.Device pages.old device.old pages.new device.new }
         ensures open { IsOpen pages.new }
-        ensures entry { AnswersEntry D.Device self.now pages.old device.old
-            (λ entries. sought_in sought entries key.now) result }
-        ensures damaged { OnNoTree D.Device self.now.layout self.now.root pages.old device.old
-            (ReturnsDamaged result) }
+        ensures entry { AnswersKey D.Device self.now pages.old device.old (sought_in sought) key.now
+            result }
+        ensures damaged { DamagedOnlyIfNoTree D.Device self.now pages.old device.old result }
         ensures spent { ExactlyIfSpentAt self.now.root pages.old result }
         ensures lengths { IfOk result (λ entry. IfSome entry (HasLengths self.now.layout)) }
         ensures cause { IfErr result (IsSearchRefusal self.now.layout) }
@@ -242,17 +231,15 @@ impl Tree {
         sought: Sought,
     ) -> Result<Option<Entry>, PagesError>
         requires open { IsOpen pages.old }
-        requires sectors { sectors_of pages.old ≤ D.sectors device.old }
+        requires sectors { FitsDevice D.Device pages.old device.old }
         requires sought { (sought ≡ Sought.From) ⊎ (sought ≡ Sought.After) }
-        ensures only { OnlyReads D.Device (result ≡ Err PagesError.Device) device.old device.new }
+        ensures only { OnlyReadsFor D.Device device.old device.new result }
         ensures unchanged { IsUnchanged pages.old pages.new }
-        ensures agrees { IfAgrees D.Device pages.old device.old
-            (Agrees pages.new (D.state device.new).disk) }
+        ensures agrees { KeepsAgreement D.Device pages.old device.old pages.new device.new }
         ensures open { IsOpen pages.new }
-        ensures entry { AnswersEntry D.Device self.now pages.old device.old
-            (λ entries. sought_in sought entries key.now) result }
-        ensures damaged { OnNoTree D.Device self.now.layout self.now.root pages.old device.old
-            (ReturnsDamaged result) }
+        ensures entry { AnswersKey D.Device self.now pages.old device.old (sought_in sought) key.now
+            result }
+        ensures damaged { DamagedOnlyIfNoTree D.Device self.now pages.old device.old result }
         ensures spent { ExactlyIfSpentAt self.now.root pages.old result }
         ensures lengths { IfOk result (λ entry. IfSome entry (HasLengths self.now.layout)) }
         ensures cause { IfErr result (IsSearchRefusal self.now.layout) }
@@ -277,11 +264,10 @@ impl Tree {
         right: Option<Key>,
     ) -> Result<Option<Entry>, PagesError>
         requires open { IsOpen pages.old }
-        requires sectors { sectors_of pages.old ≤ D.sectors device.old }
-        ensures only { OnlyReads D.Device (result ≡ Err PagesError.Device) device.old device.new }
+        requires sectors { FitsDevice D.Device pages.old device.old }
+        ensures only { OnlyReadsFor D.Device device.old device.new result }
         ensures unchanged { IsUnchanged pages.old pages.new }
-        ensures agrees { IfAgrees D.Device pages.old device.old
-            (Agrees pages.new (D.state device.new).disk) }
+        ensures agrees { KeepsAgreement D.Device pages.old device.old pages.new device.new }
         ensures open { IsOpen pages.new }
         ensures entry { OnPages D.Device pages.old device.old
             (λ before. (levels : List (List TreeNode)) → IsTree self.now.layout before self.now.root

@@ -1,3 +1,5 @@
 pub mod Marking
 mod Walking
 mod Checking
+mod LevelReads
+mod Descending

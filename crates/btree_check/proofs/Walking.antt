@@ -1,5 +1,5 @@
 -- The names of pages, level by level.
-use Rattle.std.proofs.Common.{◌≡◌, ◌≤◌, ◌<◌, ◌+◌, ℕ, Bool, zero, suc, List, [], ◌∷◌, ◌++◌, length, map, take, drop}
+use Rattle.std.proofs.Common.{◌≡◌, ◌≤◌, ◌<◌, ◌+◌, ◌-◌, ℕ, Bool, zero, suc, List, [], ◌∷◌, ◌++◌, length, map, take, drop}
 use Rattle.std.proofs.Common.{refl, sym, ap, subst, ◌∙◌, arith}
 use Rattle.std.specs.Prelude.{slice_index_or, Option, Some}
 use Rattle.std.specs.List.{All}
@@ -7,14 +7,14 @@ use Rattle.std.proofs.Math.Seq.{drop-cons}
 use Rattle.std.proofs.lemmas.List.{append_assoc, map-append, take_more, take-append-drop, append-nil, length-map}
 use Rattle.std.proofs.lemmas.List.{get_or-map}
 use Rattle.std.proofs.lemmas.List.Elements.{All-head, All-tail, All-cons, All-nil, All-push, All-append, All-weaker}
-use Rattle.byteorder.specs.Endian.{big_bytes}
+use Rattle.byteorder.specs.Endian.{big_number, big_bytes}
 use Rattle.station.specs.Disk.{Sector}
 use Rattle.btree_pages.specs.declared.row_layout.RowLayout.{RowLayout}
 use Rattle.btree_pages.specs.declared.row_layout.Kind.{Kind}
 use Rattle.btree_pages.specs.declared.row_layout.Kind.TheVariants.{Leaf}
 use Rattle.btree_pages.specs.RowLayouts.{row_length}
 use Rattle.btree_pages.specs.Node.{Node, IsNode}
-use Rattle.btree_pages.specs.Keys.{key_of, rest_of, child_of, Precedes, AllBelow, AllAbove}
+use Rattle.btree_pages.specs.Keys.{key_of, key_cmp, rest_of, child_of, Precedes, AllBelow, AllAbove}
 use Rattle.btree_check.specs.declared.separator.Separator.{Separator}
 use Rattle.btree.specs.Tree.{TreeNode, IsOnPage, least_key, rows_of, node_at, node_of, fewest}
 use Rattle.btree.specs.Propagates.{node_with}
@@ -31,6 +31,17 @@ use Rattle.btree_check.proofs.Marking.{can_left, can_after, marks_append}
 pub row_back : (layout : RowLayout) (row : List ℕ) → big_bytes 4 (child_of layout row) ≡ rest_of layout row
     → separator_row (separator_in layout row) ≡ row
 row_back layout row is = ap (λ (rest : List ℕ). key_of layout row ++ rest) is ∙ take-append-drop layout.key_length row
+
+pub row_named : (layout : RowLayout) (row key rest : List ℕ) (page : ℕ) → key ≡ key_of layout row
+    → page ≡ big_number 4 rest → big_bytes 4 page ≡ rest → rest ≡ rest_of layout row
+    → (◌≡◌ {A = Separator} (record { key = key; page = page }) (separator_in layout row))
+    × (big_bytes 4 (child_of layout row) ≡ rest_of layout row)
+row_named layout row key rest page key_is is back rest_is =
+    let child : page ≡ child_of layout row = is ∙ ap (big_number 4) rest_is in (
+      ap (λ (k : List ℕ). record { key = k; page = page }) key_is
+          ∙ ap (λ (p : ℕ). record { key = key_of layout row; page = p }) child,
+      ap (big_bytes 4) (sym child) ∙ back ∙ rest_is,
+    )
 
 pub read_more : (layout : RowLayout) (rows : List (List ℕ)) (place : ℕ) (old now next : List Separator)
     (separator : Separator) → place < length rows → now ≡ old ++ map (separator_in layout) (take place rows)
@@ -89,6 +100,14 @@ last_below layout key (row ∷ next ∷ rows) (suc last) is up below =
     All-head (λ r. Precedes (key_of layout row) (key_of layout r)) next rows (up_head layout row (next ∷ rows) up) in
     All-cons P row (next ∷ rows)
     (below_below (key_of layout row) (key_of layout next) key step (All-head P next rows rest)) rest
+
+pub last_precedes : (layout : RowLayout) (rows : List (List ℕ)) (count : ℕ) (key bytes next : List ℕ)
+    → count ≡ length rows → 0 < length rows → Up layout rows
+    → key ≡ key_of layout (slice_index_or rows (count - 1) []) → bytes ≡ next → Precedes key bytes
+    → AllBelow layout next rows
+last_precedes layout rows count key bytes next all some up last_is is below =
+    last_below layout next rows (count - 1) (omega (arith, all, some)) up
+    (ap (λ (k : List ℕ). key_cmp k next) (sym last_is) ∙ ap (λ (k : List ℕ). key_cmp key k) (sym is) ∙ below)
 
 -- A level, node by node.
 pub level_none : (layout : RowLayout) (pages : List (Option Sector)) (kind : Kind) → IsLevel layout pages kind [] []

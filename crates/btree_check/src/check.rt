@@ -79,7 +79,7 @@ pub fn mark(seen: &mut [bool], page: u32) -> bool
     true
 }
 
-/// The page of that separator, which is marked. `Damaged` tells that it may not be marked, or that no page of this kind stands there whose
+/// The page of that separator, which is marked. `Damaged` means that it may not be marked, or that no page of this kind stands there whose
 /// least key is that of the separator.
 fn check_node<D: Device>(
     pages: &mut PageMap,

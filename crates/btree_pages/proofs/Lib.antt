@@ -6,6 +6,7 @@ mod Examples
 pub mod Halving
 pub mod Numbers
 pub mod Order
+pub mod PageWrites
 pub mod Places
 pub mod Rows
 pub mod Views

@@ -56,12 +56,10 @@ impl TreePage {
         }
     }
 
-    /// How many rows there are.
-    pub fn count(&self) -> usize
-        ensures rows { result ≡ length self.now.rows }
-        ensures node { IsNode self.now }
+    pub fn layout(&self) -> RowLayout
+        ensures { result ≡ self.now.layout }
     {
-        self.count
+        self.layout
     }
 
     pub fn kind(&self) -> Kind
@@ -70,10 +68,12 @@ impl TreePage {
         self.kind
     }
 
-    pub fn layout(&self) -> RowLayout
-        ensures { result ≡ self.now.layout }
+    /// How many rows there are.
+    pub fn count(&self) -> usize
+        ensures rows { result ≡ length self.now.rows }
+        ensures node { IsNode self.now }
     {
-        self.layout
+        self.count
     }
 
     /// Whether no further row has room.

@@ -6,6 +6,7 @@ pub mod Loops
 pub mod Parts
 pub mod Unwritten
 pub mod Refusing
+pub mod Keeping
 pub mod Entries
 pub mod Rows
 pub mod Buffers

@@ -129,3 +129,10 @@ record_whole pages first page bytes size place all ended long follows is =
       bytes_are = is ∙ ap (λ (n : ℕ). take n (chain_bytes pages place first)) (sym long)
           ∙ ap (λ (n : ℕ). take (length bytes) (chain_bytes pages n first)) count;
     }
+
+-- a page whose part was added follows the pages before it
+pub follows_added : (pages : List (Option Sector)) (count first page next size : ℕ) (old new : List ℕ)
+    → Follows pages count first page → AddsPart pages page size old new next → Follows pages (count + 1) first next
+follows_added pages count first page next size old new follows added =
+    let links = added.links in
+    follows_next pages count first page next follows links.some links.link links.next_is links.long

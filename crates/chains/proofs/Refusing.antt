@@ -1,11 +1,12 @@
 -- What is known after a refusal, and of a call that goes on.
 use Rattle.std.proofs.Common.{◌≡◌, ◌≢◌, ◌⊎◌, ⊎_elim, ◌<◌, ◌≤◌, ◌+◌, ℕ, Bool, true, false, List, length, sym}
 use Rattle.std.proofs.Common.{◌∙◌, arith}
-use Rattle.std.specs.Prelude.{Result, Ok, Err, OnOk}
+use Rattle.std.specs.Prelude.{◌↔◌, Result, Ok, Err, OnOk}
 use Rattle.pages.specs.Changes.{ChangesPage}
 use Rattle.pages.specs.declared.error.PagesError.{PagesError}
 use Rattle.pages.specs.declared.error.PagesError.TheVariants.{Device, Damaged, Memory, Spent}
-use Rattle.btree.proofs.Passing.{same_error}
+use Rattle.btree.proofs.Frames.{false_unless}
+use Rattle.btree.proofs.Passing.{never_ok, same_error}
 use Rattle.btree.proofs.ChangedPages.{changes_count}
 use Rattle.chains.specs.Chain.{pages_for}
 
@@ -38,6 +39,11 @@ on_ok_anyway (Err x) holds = tt
 -- a map that was found unspent isn't spent
 pub never_spent : {A : Type 0} (one two : Bool) → one ≡ two → one ≡ false → two ≡ true → A
 never_spent one two same none some = cc
+
+-- after `Ok` of a call that returns `Spent` exactly if the map is spent, it wasn't
+pub never_was : {T : Type 0} {x : T} {r : Result T PagesError} {one two : Bool} → r ≡ Ok x → two ≡ one
+    → ((r ≡ Err Spent) ↔ (two ≡ true)) → one ≡ false
+never_was {one = one} ok same spent = false_unless one (λ was. never_ok (sym ok ∙ spent.1 (same ∙ was)))
 
 -- a record of which a part is left has bytes
 pub some_bytes : (bytes place : ℕ) → place < pages_for bytes → bytes ≢ 0

@@ -14,7 +14,7 @@ use crate::part::{page_count, part_of};
 use pages::{PageMap, PagesError};
 
 /// Puts a record on new pages, and returns the first page of its chain; the record without bytes has no pages, and first page 0. After a
-/// refusal the pages that aren't committed are given up with the map of pages. `Full` tells that no page number is left.
+/// refusal the pages that aren't committed are given up with the map of pages. `Full` means that no page number is left.
 pub fn lay(pages: &mut PageMap, bytes: &[u8]) -> Result<u32, PagesError>
     requires open { IsOpen pages.old }
     ensures laid { IfOk result (λ first. (image : List Sector)

@@ -83,7 +83,7 @@ pub(crate) fn put(bytes: &mut [u8], at: usize, part: &[u8])
     bytes[at..at + part.len()].copy_from_slice(part);
 }
 
-/// The page after a page of a chain, after which there are so many. The last page isn't read. `Damaged` tells that no chain of that
+/// The page after a page of a chain, after which there are so many. The last page isn't read. `Damaged` means that no chain of that
 /// length stands there.
 pub(crate) fn page_after<D: Device>(
     pages: &PageMap,

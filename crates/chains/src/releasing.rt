@@ -1,13 +1,12 @@
 //! A chain leaves the map.
-ghost use Rattle.std.specs.Prelude.{◌≡◌, ◌≤◌, Err, IfErr, OnOk};
+ghost use Rattle.std.specs.Prelude.{◌≡◌, ◌≤◌, Err, IfErr};
 ghost use Rattle.station.specs.Calls.{OnlyReads};
-ghost use Rattle.pages.specs.Pages.{sectors_of, catalog_of, filled_of, Agrees, IsOpen, SameCommitted};
-ghost use Rattle.btree.specs.Calls.{IfAgrees, OnChange};
+ghost use Rattle.pages.specs.Pages.{sectors_of, filled_of, IsOpen, SameCommitted};
+ghost use Rattle.pages.specs.Commits.{KeepsAgreement};
 ghost use Rattle.btree.specs.Refusals.{IsChangeRefusal};
 ghost use Rattle.btree.specs.Results.{ReturnsDamaged, ExactlyIfSpentAt, FewChanged};
-ghost use Rattle.chains.specs.Chain.{Stands, pages_for};
-ghost use Rattle.chains.specs.Changes.{Releases};
-ghost use Rattle.chains.specs.Calls.{OnNoChain};
+ghost use Rattle.chains.specs.Chain.{pages_for};
+ghost use Rattle.chains.specs.Calls.{OnNoChain, KeepsCatalog, ReleasesChain};
 
 use crate::link::page_after;
 use crate::part::page_count;
@@ -25,17 +24,15 @@ pub fn release<D: Device>(
     requires open { IsOpen pages.old }
     requires sectors { sectors_of pages.old ≤ D.sectors device.old }
     ensures only { OnlyReads D.Device (result ≡ Err PagesError.Device) device.old device.new }
-    ensures released { OnChange D.Device pages.old pages.new device.old
-        (λ before after. Stands before (pages_for size) first
-        → OnOk result (Releases before (pages_for size) after first)) }
+    ensures released { ReleasesChain D.Device first (pages_for size) pages.old pages.new device.old
+        result }
     ensures damaged { OnNoChain D.Device (pages_for size) first pages.old device.old
         (ReturnsDamaged result) }
     ensures changed_pages { FewChanged (pages_for size) pages.old pages.new }
     ensures filled { filled_of pages.new ≤ filled_of pages.old }
     ensures committed { SameCommitted pages.old pages.new }
-    ensures catalog { catalog_of pages.new ≡ catalog_of pages.old }
-    ensures agrees { IfAgrees D.Device pages.old device.old
-        (Agrees pages.new (D.state device.new).disk) }
+    ensures catalog { KeepsCatalog pages.old pages.new }
+    ensures agrees { KeepsAgreement D.Device pages.old pages.new device.old device.new }
     ensures open { IsOpen pages.new }
     ensures spent { ExactlyIfSpentAt size pages.old result }
     ensures cause { IfErr result IsChangeRefusal }

@@ -1,13 +1,12 @@
 //! A chain gets another record.
-ghost use Rattle.std.specs.Prelude.{◌≡◌, ◌≤◌, Err, length, IfErr, OnOk};
+ghost use Rattle.std.specs.Prelude.{◌≡◌, ◌≤◌, Err, length, IfErr};
 ghost use Rattle.station.specs.Calls.{OnlyReads};
-ghost use Rattle.pages.specs.Pages.{sectors_of, catalog_of, Agrees, IsOpen, SameCommitted};
-ghost use Rattle.btree.specs.Calls.{IfAgrees, OnChange};
+ghost use Rattle.pages.specs.Pages.{sectors_of, IsOpen, SameCommitted};
+ghost use Rattle.pages.specs.Commits.{KeepsAgreement};
 ghost use Rattle.btree.specs.Refusals.{IsChangeRefusal};
 ghost use Rattle.btree.specs.Results.{ReturnsDamaged, ExactlyIfSpentAt, FewChanged, FewFilled};
-ghost use Rattle.chains.specs.Chain.{Stands, pages_for};
-ghost use Rattle.chains.specs.Changes.{Rewrites};
-ghost use Rattle.chains.specs.Calls.{OnNoChain};
+ghost use Rattle.chains.specs.Chain.{pages_for};
+ghost use Rattle.chains.specs.Calls.{OnNoChain, KeepsCatalog, RewritesChain};
 
 use crate::link::{link, page_after};
 use crate::part::{page_count, part_of};
@@ -15,7 +14,7 @@ use pages::{PageMap, PagesError};
 use station::Device;
 
 /// Puts a record in the place of another one of the same length, on the same pages. Each page but the last is read for its next page.
-/// `Damaged` tells that no chain of that length stands there. After a refusal the pages that aren't committed are given up with the map
+/// `Damaged` means that no chain of that length stands there. After a refusal the pages that aren't committed are given up with the map
 /// of pages.
 pub fn rewrite<D: Device>(
     pages: &mut PageMap,
@@ -26,17 +25,15 @@ pub fn rewrite<D: Device>(
     requires open { IsOpen pages.old }
     requires sectors { sectors_of pages.old ≤ D.sectors device.old }
     ensures only { OnlyReads D.Device (result ≡ Err PagesError.Device) device.old device.new }
-    ensures rewritten { OnChange D.Device pages.old pages.new device.old
-        (λ before after. Stands before (pages_for (length bytes.now)) first
-        → OnOk result (Rewrites before bytes.now after first)) }
+    ensures rewritten { RewritesChain D.Device first bytes.now pages.old pages.new device.old
+        result }
     ensures damaged { OnNoChain D.Device (pages_for (length bytes.now)) first pages.old device.old
         (ReturnsDamaged result) }
     ensures changed_pages { FewChanged (pages_for (length bytes.now)) pages.old pages.new }
     ensures filled { FewFilled (pages_for (length bytes.now)) pages.old pages.new }
     ensures committed { SameCommitted pages.old pages.new }
-    ensures catalog { catalog_of pages.new ≡ catalog_of pages.old }
-    ensures agrees { IfAgrees D.Device pages.old device.old
-        (Agrees pages.new (D.state device.new).disk) }
+    ensures catalog { KeepsCatalog pages.old pages.new }
+    ensures agrees { KeepsAgreement D.Device pages.old pages.new device.old device.new }
     ensures open { IsOpen pages.new }
     ensures spent { ExactlyIfSpentAt (length bytes.now) pages.old result }
     ensures cause { IfErr result IsChangeRefusal }

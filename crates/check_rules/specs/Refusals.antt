@@ -1,4 +1,4 @@
--- What is told of a program that is refused.
+-- What a refusal says of a program.
 use Rattle.std.specs.Prelude.{◌≡◌, ◌⊎◌, [], Option, Some, None}
 use Rattle.source_tree.specs.declared.program.Program.{Program}
 use Rattle.source_tree.specs.Broken.{RuleBreach}

@@ -1,4 +1,4 @@
--- The words that begin clauses, and those that stand for a usage or a position of the sign.
+-- The words that begin clauses, and those that name a usage or a position of the sign.
 use Rattle.std.specs.Prelude.{Bool, List, [], ◌∷◌, Option, None, Some, is_some}
 use Rattle.tokens.specs.declared.reserved.Reserved.{Reserved}
 use Rattle.tokens.specs.declared.reserved.Reserved.TheVariants as w

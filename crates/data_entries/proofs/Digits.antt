@@ -1,8 +1,8 @@
 -- The digits of numeric literals.
 use Rattle.std.proofs.Common.{◌≡◌, ℕ, ◌+◌, ◌-◌, ◌*◌, ◌^◌, ◌≤◌, ◌<◌, Bool, true, false, not, ◌&&◌, ◌||◌, nat_le}
 use Rattle.std.proofs.Common.{if◌then◌else◌, List, [], ◌∷◌, ◌++◌, length, Some, None, refl, sym, ap, subst, ◌∙◌}
-use Rattle.std.proofs.Common.{length-append, pow-add, arith}
-use Rattle.std.proofs.Math.Nat.{pow-le-pow_right, mul-le-mul_right}
+use Rattle.std.proofs.Common.{length-append, pow-add, arith, mul_assoc, mul_comm}
+use Rattle.std.proofs.Math.Nat.{pow-le-pow_right, mul-le-mul_right, pow-succ'}
 use Rattle.std.specs.Prelude.{zero, suc, unsigned_abs}
 use Rattle.std.specs.Char.{is_ascii_digit}
 use Rattle.std.specs.List.{list_all}
@@ -36,6 +36,31 @@ few one e =
 behind_all : (n : ℕ) (front back : List ℕ) → digits_after n (front ++ back) ≡ digits_after (digits_after n front) back
 behind_all n [] back = refl
 behind_all n (c ∷ front) back = behind_all (10 * n + (c - 48)) front back
+
+and_left : (a b : Bool) → (a && b) ≡ true → a ≡ true
+and_left true b e = refl
+and_left false b e = cc
+
+and_right : (a b : Bool) → (a && b) ≡ true → b ≡ true
+and_right true b e = e
+and_right false b e = cc
+
+digit_below : (c : ℕ) → is_ascii_digit c ≡ true → c - 48 < 10
+digit_below c e = grind arith
+
+regroup : (a p : ℕ) → a * (10 * p) ≡ 10 * a * p
+regroup a p = sym (mul_assoc a 10 p) ∙ ap (λ n. n * p) (mul_comm a 10)
+
+-- digits are below their power of ten
+pub digits_below : (n : ℕ) (cs : List ℕ) → list_all is_ascii_digit cs ≡ true → digits_after n cs < (n + 1) * 10 ^ length cs
+digits_below n [] e = omega arith
+digits_below n (c ∷ cs) e =
+    let one = digit_below c (and_left (is_ascii_digit c) (list_all is_ascii_digit cs) e) in
+    let rest = digits_below (10 * n + (c - 48)) cs (and_right (is_ascii_digit c) (list_all is_ascii_digit cs) e) in
+    let step : 10 * n + (c - 48) + 1 ≤ 10 * (n + 1) = omega (arith, one) in
+    let times = mul-le-mul_right (10 ^ length cs) step in
+    let more = ap (λ q. (n + 1) * q) (pow-succ' 10 (length cs)) ∙ regroup (n + 1) (10 ^ length cs) in
+    subst (λ m. digits_after (10 * n + (c - 48)) cs < m) (sym more) (omega (arith, rest, times))
 
 times_pow : (number some more : ℕ) → number < 1 * 10 ^ some → (number + 1) * 10 ^ more ≤ 10 ^ (some + more)
 times_pow number some more below =

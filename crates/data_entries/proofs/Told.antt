@@ -65,22 +65,22 @@ known_level one e =
     known_by (number_of one.level == 77) (number_of one.level)
     (true_where (is_level (number_of one.level)) (kept (not (is_level (number_of one.level))) 43 one.level.place e))
 
-told : (entries : List Entry) → each level_rules entries ≡ [] → AreTold (forest_of entries)
-told [] e = tt
-told (Item one ∷ more) e =
-    let rest = told more (back_nil (level_rules (Item one)) (each level_rules more) e) in (
+pub levels_known : (entries : List Entry) → each level_rules entries ≡ [] → AreTold (forest_of entries)
+levels_known [] e = tt
+levels_known (Item one ∷ more) e =
+    let rest = levels_known more (back_nil (level_rules (Item one)) (each level_rules more) e) in (
       known_level one (front_nil (level_rules (Item one)) (each level_rules more) e),
       told_deeper (level_of one) (forest_of more) rest,
       told_beyond (level_of one) (forest_of more) rest,
     )
-told (Condition one ∷ more) e = told more e
+levels_known (Condition one ∷ more) e = levels_known more e
 
 pub all_told : (entries : List Entry) → entry_rules entries ≡ [] → AreTold (forest_of entries)
 all_told entries e =
     let counted = back_nil
     (each excess (drop most_entries entries)) (each level_rules entries ++ (each homeless (leading_conditions entries)
     ++ (forest_rules (outermost false) None (forest_of entries) ++ storage_rules 0 (forest_of entries)))) e in
-    told entries (front_nil (each level_rules entries) (each homeless (leading_conditions entries)
+    levels_known entries (front_nil (each level_rules entries) (each homeless (leading_conditions entries)
     ++ (forest_rules (outermost false) None (forest_of entries) ++ storage_rules 0 (forest_of entries))) counted)
 
 pub record_told : (one : FileDescription) → description_rules one ≡ [] → AreTold (forest_of one.entries)
@@ -89,5 +89,5 @@ record_told one e =
     let homes = each homeless (leading_conditions one.entries) in
     let forest = forest_rules (outermost true) None (forest_of one.entries) in
     let length = where_so (not (are_some most_record_bytes (record_length one.entries))) 69 one.name.place in
-    told one.entries
+    levels_known one.entries
     (front_nil levels homes (front_nil (levels ++ homes) forest (front_nil (levels ++ homes ++ forest) length e)))

@@ -1,4 +1,4 @@
--- Instructions that set the truth, in an image (own choice).
+-- Instructions that set the flag, in an image (own choice).
 use Rattle.std.specs.Prelude.{ℕ, ◌==◌, List, [], ◌∷◌, ◌++◌, Option, None, Some, Ok, if◌then◌else◌}
 use Rattle.source_tree.specs.declared.condition.Relation.{Relation}
 use Rattle.source_tree.specs.declared.condition.Relation.TheVariants as relation

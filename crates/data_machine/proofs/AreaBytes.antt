@@ -47,6 +47,12 @@ area_set vs now area offset size v w part is within here new =
     (new ∙ ap (λ old. with_part old offset size part) (ap (λ x. x.items) here ∙ sym (area_read vs area v within)))
     ∙ ap (λ s. with_bytes s area offset size part) is
 
+-- a part of bytes that are the same
+pub part_as : (now old same : List ℕ) (offset m n : ℕ) (part : List ℕ) → now ≡ with_part old offset m part
+    → old ≡ same → n ≡ m → now ≡ with_part same offset n part
+part_as now old same offset m n part is e size =
+    is ∙ ap (λ v. with_part v offset m part) e ∙ ap (λ k. with_part same offset k part) (sym size)
+
 set_same : (xs : Storage) (i : ℕ) → slice_set xs i (slice_index_or xs i []) ≡ xs
 set_same [] i = refl
 set_same (x ∷ xs) zero = refl

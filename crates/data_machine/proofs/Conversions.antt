@@ -17,6 +17,17 @@ use Rattle.data_instructions.specs.Table.{measured_inspection}
 use Rattle.data_instructions.specs.Tables.{shortened_item, item_place}
 use Rattle.data_machine.proofs.TextLengths.{at_found}
 
+-- the storage after a conversion of the item as it was seen
+pub converted_as : (seen one : DataItem) (offset : ℕ) (texts : List ℕ) (entries : List Entry) (storage new : Storage)
+    → seen ≡ one
+    → new ≡ storage_with (item_place seen offset)
+    (converted_subject texts entries (part_of storage (item_place seen offset))) storage
+    → new ≡ storage_with (item_place one offset)
+    (converted_subject texts entries (part_of storage (item_place one offset))) storage
+converted_as seen one offset texts entries storage new same stores =
+    stores ∙ ap (λ (o : DataItem). storage_with (item_place o offset)
+    (converted_subject texts entries (part_of storage (item_place o offset))) storage) same
+
 pub convert_comes : (tables : DataTables) (one : Inspection) (n : ℕ) (found : List ArithmeticValue) (p : Place)
     (ps : List Place) (to : DataItem) (s : Scratch) (texts line : List ℕ) (entries : List Entry) (new : Storage)
     (numbers : List ArithmeticValue) → length found ≡ n → n ≤ length s.numbers

@@ -23,6 +23,7 @@ pub mod TextLengths
 pub mod MeasuredTexts
 pub mod Conversions
 pub mod Inspects
+mod InspectEnds
 pub mod HeldIntegers
 pub mod ShortNumbers
 pub mod PlainDigits

@@ -6,6 +6,7 @@ use Rattle.std.proofs.Math.Seq.{take-append-add}
 use Rattle.items.specs.Texts.{padded_text, space}
 use Rattle.source_tree.specs.Inspecting.{text_at}
 use Rattle.source_tree.specs.Computed.{ArithmeticValue}
+use Rattle.source_tree.specs.References.{part_of}
 use Rattle.data_instructions.specs.declared.place.Place.{Place}
 use Rattle.data_instructions.specs.declared.tables.DataItem.{DataItem}
 use Rattle.data_instructions.specs.declared.tables.DataTables.{DataTables}
@@ -23,7 +24,7 @@ padded_behind line text size =
     ∙ ap (λ n. (line ++ take size text) ++ replicate n space) left
     ∙ append_assoc line (take size text) (replicate (size - length text) space)
 
-pub measured_comes : (tables : DataTables) (s : Scratch) (p : Place) (ps : List Place) (one : DataItem)
+measured_comes : (tables : DataTables) (s : Scratch) (p : Place) (ps : List Place) (one : DataItem)
     (text line : List ℕ) (numbers : List ArithmeticValue) → s.places ≡ p ∷ ps
     → slice_get tables.items p.item.number ≡ Some one
     → text ≡ text_at s.storage (item_place (shortened_item one p.length) p.offset)
@@ -40,3 +41,25 @@ measured_comes tables s p ps one text line numbers places here text_is line_is n
     ∙ ap (λ t. put (s.line ++ padded_text size t) counted) (sym text_is)
     ∙ ap (λ l. put l counted) (sym (line_is ∙ padded_behind s.line text size))
     ∙ ap (put line) (sym numbers_are)
+
+-- the same of a text that was taken from the item as it was seen, and of numbers that were pushed
+pub measured_gathered : (tables : DataTables) (s : Scratch) (p : Place) (ps : List Place) (one seen part : DataItem)
+    (bytes text start appended line : List ℕ) (first second : ArithmeticValue) (inner numbers : List ArithmeticValue)
+    → s.places ≡ p ∷ ps → slice_get tables.items p.item.number ≡ Some one
+    → seen ≡ shortened_item one part.item.length → part.item.length ≡ p.length
+    → bytes ≡ part_of s.storage (item_place seen p.offset) → text ≡ padded_text seen.item.length bytes
+    → start ≡ s.line → appended ≡ s.line ++ text → line ≡ padded_text (length start + one.item.length) appended
+    → first ≡ number_of (length start) → inner ≡ first ∷ s.numbers → second ≡ number_of p.length
+    → numbers ≡ second ∷ inner
+    → measured_step tables s.places s ≡ Continues (record s { places = ps; line = line; numbers = numbers })
+measured_gathered tables s p ps one seen part bytes text start appended line first second inner numbers places here
+    seen_is long bytes_is text_is start_is appended_is line_is first_is inner_is second_is numbers_is =
+    measured_comes tables s p ps one text line numbers places here
+    (text_is ∙ ap (padded_text seen.item.length) bytes_is
+    ∙ ap (λ (o : DataItem). padded_text o.item.length (part_of s.storage (item_place o p.offset)))
+    (seen_is ∙ ap (shortened_item one) long))
+    (line_is ∙ ap (λ b. padded_text (length b + one.item.length) appended) start_is
+    ∙ ap (padded_text (length s.line + one.item.length)) appended_is)
+    (numbers_is ∙ ap (λ x. x ∷ inner) second_is
+    ∙ ap (λ l. number_of p.length ∷ l) (inner_is ∙ ap (λ x. x ∷ s.numbers)
+    (first_is ∙ ap (λ b. number_of (length b)) start_is)))

@@ -2,15 +2,19 @@
 use Rattle.std.proofs.Common.{◌≡◌, ℕ, zero, suc, ◌+◌, ◌-◌, ◌<◌, ◌≤◌, ◌⊎◌, inl, inr, length, map, List, [], ◌∷◌, refl}
 use Rattle.std.proofs.Common.{sym, ◌∙◌, ap, subst, arith, drop}
 use Rattle.std.specs.Prelude.{Bool, true, false, ◌||◌, if◌then◌else◌, nat_lt, pos, slice_get, slice_index_or, Option}
-use Rattle.std.specs.Prelude.{Some, Result, Ok, Err}
+use Rattle.std.specs.Prelude.{Some, Result, Ok, Err, ℤ}
 use Rattle.std.proofs.lemmas.Bool.Decides.{nat_tests}
 use Rattle.std.proofs.lemmas.List.{length-take, length-drop}
 use Rattle.text_ops.specs.Strings.{string_of_senders}
 use Rattle.source_tree.specs.Storage.{Storage}
-use Rattle.source_tree.specs.Evaluated.{Evaluation, ◌>>=◌}
-use Rattle.source_tree.specs.References.{ItemPlace, part_of, storage_with}
+use Rattle.decimal18.specs.Fraction.{Fraction}
+use Rattle.items.specs.declared.item.Kind.{Kind}
+use Rattle.items.specs.Items.{number_in}
+use Rattle.source_tree.specs.Computed.{ArithmeticValue}
+use Rattle.source_tree.specs.Evaluated.{Evaluation, ◌>>=◌, evaluation_of}
+use Rattle.source_tree.specs.References.{ItemPlace, part_of, storage_with, whole_part}
 use Rattle.source_tree.specs.Arithmetic.{StoreResult, before_stores, store}
-use Rattle.source_tree.specs.Stringing.{Strings, held_position, store_strung, put_text}
+use Rattle.source_tree.specs.Stringing.{Strings, held_position, position, store_strung, put_text}
 use Rattle.data_instructions.specs.declared.place.Place.{Place}
 use Rattle.data_instructions.specs.declared.tables.DataItem.{DataItem}
 use Rattle.data_instructions.specs.declared.tables.DataTables.{DataTables}
@@ -114,7 +118,7 @@ module _ (receiver pointer : ItemPlace) (text : List ℕ) (old : Storage) where
   ends overflow after = Ok (record { storage = after.storage; overflow = overflow })
 
   -- what comes of the text within, by what comes of the pointer
-  pub put_by_pointer : (at size next : ℕ) (overflow : Bool) (mid : Storage) → held_position old pointer ≡ Ok at
+  put_by_pointer : (at size next : ℕ) (overflow : Bool) (mid : Storage) → held_position old pointer ≡ Ok at
       → length (part_of old receiver) ≡ size → 1 ≤ at → at ≤ size
       → mid ≡ storage_with receiver (string_of_senders at text (part_of old receiver)).receiver old
       → next ≡ (string_of_senders at text (part_of old receiver)).pointer
@@ -139,6 +143,30 @@ module _ (receiver pointer : ItemPlace) (text : List ℕ) (old : Storage) where
       → (at < 1) ⊎ (size < at) → put_from receiver pointer text old ≡ Ok (record { storage = old; overflow = true })
   put_nowhere at size held long outside =
       ap (λ (e : Evaluation ℕ). e >>= from) held ∙ put_outside receiver (Some pointer) text old at size long outside
+
+  -- the same with what came of storing the pointer
+  pub put_from_position : (at size next : ℕ) (overflow : Bool) (mid : Storage) (x : Fraction)
+      (r : Evaluation StoreResult) → held_position old pointer ≡ Ok at → length (part_of old receiver) ≡ size → 1 ≤ at
+      → at ≤ size → mid ≡ storage_with receiver (string_of_senders at text (part_of old receiver)).receiver old
+      → next ≡ (string_of_senders at text (part_of old receiver)).pointer
+      → overflow ≡ (string_of_senders at text (part_of old receiver)).overflow
+      → record { coefficient = pos next; scale = 0 } ≡ x → store false false pointer (Some x) (before_stores mid) ≡ r
+      → put_from receiver pointer text old
+      ≡ (r >>= (λ after. Ok after.storage)) >>= (λ after. Ok (record { storage = after; overflow = overflow }))
+  put_from_position at size next overflow mid x r held long some most middle behind over number stored =
+      put_by_pointer at size next overflow mid held long some most middle behind over
+      ∙ ap (λ (e : Evaluation StoreResult). (e >>= (λ (after : StoreResult). Ok after.storage))
+      >>= (λ (after : Storage). Ok (record { storage = after; overflow = overflow })))
+      (ap (λ (y : Fraction). store false false pointer (Some y) (before_stores mid)) number ∙ stored)
+
+-- the position that an item holds, as it was read
+pub position_read : (kind : Kind) (bytes part : List ℕ) (x : ArithmeticValue) (z : ℤ) → bytes ≡ part
+    → x ≡ number_in kind bytes → evaluation_of (whole_part x) ≡ Ok z
+    → (evaluation_of (whole_part (number_in kind part)) >>= (λ (z : ℤ). Ok (position z))) ≡ Ok (position z)
+position_read kind bytes part x z same number whole =
+    ap (λ (b : List ℕ). evaluation_of (whole_part (number_in kind b)) >>= (λ (z : ℤ). Ok (position z))) (sym same)
+    ∙ ap (λ (y : ArithmeticValue). evaluation_of (whole_part y) >>= (λ (z : ℤ). Ok (position z))) (sym number)
+    ∙ ap (λ (e : Evaluation ℤ). e >>= (λ (z : ℤ). Ok (position z))) whole
 
 -- ---- the table's step
 

@@ -119,6 +119,13 @@ next_room n d left all small some room =
     (mul_comm 10 (10 ^ (left - 1)) ∙ sym (pow-suc 10 (left - 1)) ∙ ap (λ k. 10 ^ k) (sym one)) in
     omega (arith, more, same, room)
 
+-- after the digit at a place of the run
+pub room_after : (n d size at all : ℕ) → d ≤ 9 → at < size → (n + 1) * 10 ^ (size - at) ≤ all
+    → (10 * n + d + 1) * 10 ^ (size - (at + 1)) ≤ all
+room_after n d size at all small lt room =
+    let left : size - at - 1 ≡ size - (at + 1) = omega arith in
+    subst (λ k. (10 * n + d + 1) * 10 ^ k ≤ all) left (next_room n d (size - at) all small (omega arith) room)
+
 pub room_now : (n left all : ℕ) → (n + 1) * 10 ^ left ≤ all → n < all
 room_now n left all room =
     let up : n + 1 ≤ (n + 1) * 10 ^ left = le-mul_of_pos_right (n + 1) (ten_pos left) in

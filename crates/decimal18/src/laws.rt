@@ -39,8 +39,8 @@ pub fn cut_quotient()
         → q ≤ 18 → admits x y q ≡ false }
 {}
 
-/// What a receiver holds is the number truncated, or the nearest to it with a half away from zero; a size error is told
-/// exactly where that has more whole digits than the receiver; and the low digits are those of the same number.
+/// What a receiver holds is the number truncated, or the nearest to it with a half away from zero. There is a size error exactly where
+/// that has more whole digits than the receiver.
 pub fn receivers()
     ensures kept { (x z : Fraction) (digits scale : ℕ) (rounding : Rounding)
         → fitted_decimal x digits scale rounding ≡ Ok z → (z.scale ≡ scale) × IsKept rounding x z }
@@ -49,6 +49,10 @@ pub fn receivers()
         → 10 ^ (digits - scale) ≤ unsigned_abs (at_scale x scale rounding) / 10 ^ scale)
         × (10 ^ (digits - scale) ≤ unsigned_abs (at_scale x scale rounding) / 10 ^ scale
         → fitted_decimal x digits scale rounding ≡ size_error) }
+{}
+
+/// The low digits that a receiver keeps after a size error are those of the number that it would hold, with its sign.
+pub fn kept_digits()
     ensures low { (x : Fraction) (digits scale : ℕ) (rounding : Rounding) → HasLowDigits digits
         (at_scale x scale rounding) (low_digits x digits scale rounding).coefficient }
     ensures sign { (x : Fraction) (digits scale : ℕ) (rounding : Rounding)

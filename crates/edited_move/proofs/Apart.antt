@@ -196,7 +196,7 @@ run_fits runs i at d bytes h e =
     let left = drop_length at bytes in
     let same = ap length (rest_is at bytes) in (omega arith, omega arith)
 
-pub spread_next : (runs : List Run) (old bytes part whole : List ℕ) (i at : ℕ) (d : Run) → i < length runs
+spread_next : (runs : List Run) (old bytes part whole : List ℕ) (i at : ℕ) (d : Run) → i < length runs
     → Spread runs old i at bytes
     → part ≡ spread_characters (get_or runs i d) (take (length bytes - at) (drop at bytes))
     → whole ≡ put_mid at (length bytes - at) bytes part
@@ -232,6 +232,25 @@ spread_next runs old bytes part whole i at d h s given put =
           ∙ ap (λ l. take (at + run.count) whole ++ edited_characters more l) (sym dropped);
     } in
     record { size = omega arith; spread = next }
+
+next_left : (size left count run : ℕ) → count ≡ run → run + (size - left) ≤ size → left ≤ size
+    → size - left + run ≡ size - (left - count)
+next_left size left count run e h w = omega arith
+
+-- the same where `left` places are left, and the run takes `count` of them
+pub spread_run : (runs : List Run) (old bytes part whole : List ℕ) (i left count : ℕ) (d : Run) → i < length runs
+    → length old ≡ length bytes → left ≤ length old → Spread runs old i (length old - left) bytes
+    → part ≡ spread_characters (get_or runs i d)
+    (take (length bytes - (length old - left)) (drop (length old - left) bytes))
+    → count ≡ (get_or runs i d).count
+    → whole ≡ put_mid (length old - left) (length bytes - (length old - left)) bytes part
+    → (length old ≡ length whole) × Spread runs old (i + 1) (length old - (left - count)) whole
+spread_run runs old bytes part whole i left count d lt size within s given takes put =
+    let at = length old - left in
+    let next = spread_next runs old bytes part whole i at d lt s given put in
+    let fits = (run_fits runs i at d bytes lt s.places).1 in
+    let same = next_left (length old) left count (get_or runs i d).count takes (omega (arith, fits, size)) within in
+    (size ∙ sym next.size, subst (λ n. Spread runs old (i + 1) n whole) same next.spread)
 
 pub spread_end : (runs : List Run) (old bytes : List ℕ) (i at : ℕ) → length runs ≤ i → Spread runs old i at bytes
     → bytes ≡ edited_characters runs old

@@ -1,13 +1,12 @@
 -- Literals of a range, compared.
-use Rattle.std.proofs.Common.{◌≡◌, ℕ, ◌^◌, ◌<◌, ◌≤◌, Bool, true, false, not, ◌&&◌, ◌||◌, List, [], ◌∷◌, ◌++◌, length}
-use Rattle.std.proofs.Common.{Some, refl, sym, ap, subst, ◌∙◌, mul_assoc, mul_comm, length-append, unsigned_abs, zero}
-use Rattle.std.proofs.Common.{suc, ◌+◌, ◌-◌, ◌*◌, arith}
+use Rattle.std.proofs.Common.{◌≡◌, ℕ, ◌≤◌, Bool, true, false, not, ◌&&◌, ◌||◌, List, ◌++◌, length}
+use Rattle.std.proofs.Common.{Some, refl, sym, ap, ◌∙◌, length-append, unsigned_abs, zero}
+use Rattle.std.proofs.Common.{suc, ◌+◌, ◌-◌, arith}
 use Rattle.std.specs.declared.cmp.Ordering.{Ordering}
 use Rattle.std.specs.declared.cmp.Ordering.TheVariants.{Less, Equal, Greater}
 use Rattle.std.specs.Ordering.{is_gt}
 use Rattle.std.specs.Char.{is_ascii_digit}
 use Rattle.std.specs.List.{list_all}
-use Rattle.std.proofs.Math.Nat.{mul-le-mul_right, pow-succ'}
 use Rattle.std.proofs.lemmas.List.Folds.{list_all-append}
 use Rattle.decimal18.specs.Fraction.{Fraction, is_negative, signed_integer}
 use Rattle.decimal18.specs.Digits.{digits_after}
@@ -25,6 +24,7 @@ use Rattle.text_ops.specs.Compare.{comparison_of, order_of_texts, both}
 use Rattle.source_tree.specs.declared.literal.LiteralValue.{LiteralValue}
 use Rattle.source_tree.specs.Literals.{Sender, literal_sender, literal_number, literal_numeric, literal_sign, is_minus}
 use Rattle.source_tree.specs.ValueRules.{has_form, are_some, once, order_once, literals_order, is_greater}
+use Rattle.data_entries.proofs.Digits.{digits_below}
 use Rattle.entry_rules.specs.Ranges.{text_taken, IsNumeral, number_of_literal}
 
 -- two texts compared are in the order of texts
@@ -53,22 +53,6 @@ and_left false b e = cc
 and_right : (a b : Bool) → (a && b) ≡ true → b ≡ true
 and_right true b e = e
 and_right false b e = cc
-
-digit_below : (c : ℕ) → is_ascii_digit c ≡ true → c - 48 < 10
-digit_below c e = grind arith
-
-regroup : (a p : ℕ) → a * (10 * p) ≡ 10 * a * p
-regroup a p = sym (mul_assoc a 10 p) ∙ ap (λ n. n * p) (mul_comm a 10)
-
-digits_below : (n : ℕ) (cs : List ℕ) → list_all is_ascii_digit cs ≡ true → digits_after n cs < (n + 1) * 10 ^ length cs
-digits_below n [] e = omega arith
-digits_below n (c ∷ cs) e =
-    let one = digit_below c (and_left (is_ascii_digit c) (list_all is_ascii_digit cs) e) in
-    let rest = digits_below (10 * n + (c - 48)) cs (and_right (is_ascii_digit c) (list_all is_ascii_digit cs) e) in
-    let step : 10 * n + (c - 48) + 1 ≤ 10 * (n + 1) = omega (arith, one) in
-    let times = mul-le-mul_right (10 ^ length cs) step in
-    let more = ap (λ q. (n + 1) * q) (pow-succ' 10 (length cs)) ∙ regroup (n + 1) (10 ^ length cs) in
-    subst (λ m. digits_after (10 * n + (c - 48)) cs < m) (sym more) (omega (arith, rest, times))
 
 magnitude : (b : Bool) (n : ℕ) → unsigned_abs (signed_integer b n) ≡ n
 magnitude false n = refl

@@ -12,11 +12,13 @@ use Rattle.source_tree.specs.Rooms.{redefines, room, item_with}
 use Rattle.source_tree.specs.Broken.{RuleBreach, each}
 use Rattle.source_tree.specs.RedefinitionRules.{Redefinable, redefinable_after}
 use Rattle.source_tree.specs.ValueRules.{condition_rules}
+use Rattle.source_tree.specs.EntryRules as rules
 use Rattle.source_tree.specs.EntryRules.{below, own_rules, forest_rules}
 use Rattle.entry_rules.specs.declared.position.Position.{Position}
 use Rattle.entry_rules.specs.Checks.{IsFirst}
 use Rattle.entry_rules.specs.Trees.{extent, own_bytes, item_rules}
-use Rattle.entry_rules.specs.Walk.{at_of, HasKnownLevel}
+use Rattle.entry_rules.specs.Walk.{at_of, HasKnownLevel, HasLevels}
+use Rattle.entry_rules.proofs.LevelLaws.{levels_tree}
 use Rattle.entry_rules.proofs.Firsts.{front_none, same_front, same_along}
 
 four : (a b c d : List RuleBreach) → (a ++ (b ++ c)) ++ d ≡ a ++ (b ++ (c ++ d))
@@ -61,9 +63,30 @@ known_if : (b : Bool) (last new : Option Redefinable) → HasKnownLevel last →
 known_if true last new l n = l
 known_if false last new l n = n
 
-pub known_remembered : (one : ItemEntry) (bytes : ℕ) (last new : Option Redefinable) → number_of one.level < 100000
+known_remembered : (one : ItemEntry) (bytes : ℕ) (last new : Option Redefinable) → number_of one.level < 100000
     → HasKnownLevel last → new ≡ redefinable_after one bytes last → HasKnownLevel new
 known_remembered one bytes last new h l e = subst HasKnownLevel (sym e) (known_if (redefines one) last _ l h)
+
+-- what follows the first item redefines what is remembered
+pub known_after : (F : Forest) (one : ItemEntry) (conditions : List ConditionEntry) (inner next : Forest) (bytes : ℕ)
+    (last new : Option Redefinable) → F ≡ Tree one conditions inner next → HasLevels F → HasKnownLevel last
+    → new ≡ redefinable_after one bytes last → HasKnownLevel new
+known_after F one conditions inner next bytes last new e levels known after =
+    known_remembered one bytes last new (levels_tree F one conditions inner next e levels).0 known after
+
+-- the same as `none_in` at a position that is known
+pub none_at : (at : Position) (place : rules.Position) (last new : Option Redefinable) (F : Forest) (one : ItemEntry)
+    (conditions : List ConditionEntry) (inner next : Forest) (all : List RuleBreach) (bytes : ℕ) → at_of at ≡ place
+    → F ≡ Tree one conditions inner next → all ≡ forest_rules place last F
+    → item_rules at one conditions inner last ≡ [] → bytes ≡ extent at.around one inner
+    → new ≡ redefinable_after one bytes last → all ≡ forest_rules place new next
+none_at at place last new F one conditions inner next all bytes same e before none is known =
+    none_in at last new F one conditions inner next all bytes e (before
+    ∙ ap (λ p. forest_rules p last F) (sym same)) none is known ∙ ap (λ p. forest_rules p new next) same
+
+pub extent_at : (at : Position) (place : rules.Position) (one : ItemEntry) (inner : Forest) (bytes : ℕ)
+    → at_of at ≡ place → bytes ≡ extent at.around one inner → bytes ≡ extent place.around one inner
+extent_at at place one inner bytes same is = is ∙ ap (λ (p : rules.Position). extent p.around one inner) same
 
 pub room_tree :
     (around : Around) (F : Forest) (one : ItemEntry) (conditions : List ConditionEntry) (inner next : Forest)

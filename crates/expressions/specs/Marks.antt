@@ -1,4 +1,4 @@
--- Parentheses, the colon and arithmetic operators, each a token that is told as a value.
+-- Parentheses, the colon and arithmetic operators, each a token that a value names.
 use Rattle.std.specs.Prelude.{Option, None, Some, List, Bool}
 use Rattle.tokens.specs.declared.token.Kind.{Kind}
 use Rattle.tokens.specs.declared.token.Kind.TheVariants as k

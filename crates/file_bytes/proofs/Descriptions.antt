@@ -18,7 +18,7 @@ use Rattle.records.specs.Stores.{spec_of}
 use Rattle.records.specs.Spec.{Spec, is_letter, is_name, is_spec}
 use Rattle.records.specs.Rows.{prime_place}
 use Rattle.file_bytes.specs.Description.{OneSpec, spec_bytes, key_bytes, place_bytes, padded_name, filled_to}
-use Rattle.file_bytes.specs.Description.{organization_byte}
+use Rattle.file_bytes.specs.Description.{organization_byte, spec_head}
 use Rattle.file_bytes.specs.Read.{IfRead, name_in, place_in, key_in, keys_in, organization_in}
 use Rattle.file_bytes.proofs.Several.{Back, all_same, all_long, each_long}
 use Rattle.file_bytes.proofs.Plain.{IsSmall, AreSmall, both, plain}
@@ -96,6 +96,19 @@ pub keys_filled : (keys : List AlternateKey) (count : ℕ) → count ≡ 35 - 5 
     → flat_map key_bytes keys ++ replicate count 0 ≡ filled_to 35 (flat_map key_bytes keys)
 keys_filled keys count is =
     ap (λ (m : ℕ). flat_map key_bytes keys ++ replicate m 0) (is ∙ ap (λ (m : ℕ). 35 - m) (sym (keys_long keys)))
+
+-- a description is written: its head, its keys, and zeros
+pub spec_spelled : (spec : Spec) (out one two three : List ℕ) (n : ℕ) → n ≡ length spec.alternates
+    → one ≡ out ++ spec_head spec → two ≡ one ++ flat_map key_bytes spec.alternates
+    → three ≡ two ++ replicate (35 - 5 * n) 0 → three ≡ out ++ spec_bytes spec
+unfolding spec_bytes
+spec_spelled spec out one two three n counted first second third =
+    let head = spec_head spec in
+    let keys = flat_map key_bytes spec.alternates in
+    let zeros : List ℕ = replicate (35 - 5 * n) 0 in
+    third ∙ ap (λ l. l ++ zeros) (second ∙ ap (λ l. l ++ keys) first) ∙ append_assoc (out ++ head) keys zeros
+    ∙ ap (λ l. (out ++ head) ++ l) (keys_filled spec.alternates (35 - 5 * n) (ap (λ m. 35 - 5 * m) counted))
+    ∙ append_assoc out head (filled_to 35 keys)
 
 pub spec_long : (spec : Spec) → length spec.alternates ≤ 7 → length (spec_bytes spec) ≡ 43
 unfolding spec_bytes

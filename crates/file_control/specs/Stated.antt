@@ -1,4 +1,4 @@
--- The clauses of a SELECT in any order, each at most once, except for ALTERNATE RECORD KEY, which may come again.
+-- The clauses of a SELECT in any order, each at most once, except for ALTERNATE RECORD KEY, which may be repeated.
 use Rattle.std.specs.Prelude.{Bool, false, List, [], ◌∷◌, ◌++◌, Option, None, Some, is_some}
 use Rattle.file_control.specs.declared.clause.ClauseKind.{ClauseKind}
 use Rattle.file_control.specs.declared.clause.ClauseKind.TheVariants as kind

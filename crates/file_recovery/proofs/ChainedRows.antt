@@ -3,6 +3,7 @@ use Rattle.std.proofs.Common.{◌≡◌, ◌+◌, ◌++◌, ℕ, zero, suc, Bool
 use Rattle.std.proofs.Common.{◌∙◌}
 use Rattle.std.proofs.Common.{append-nil}
 use Rattle.std.specs.Prelude.{Option, Some, None}
+use Rattle.std.specs.List.{AllByRecursion}
 use Rattle.std.proofs.lemmas.List.{map-append, take-append-drop}
 use Rattle.std.proofs.lemmas.List.Concat.{flat_map-append}
 use Rattle.std.proofs.lemmas.List.Elements.{All-nil, All-cons, All-append, All-contains}
@@ -16,8 +17,11 @@ use Rattle.records.specs.declared.key.KeyOfReference.TheVariants.{Prime}
 use Rattle.records.specs.Files.{IsRow}
 use Rattle.records.specs.Rows.{Row}
 use Rattle.records.specs.Spec.{Spec}
+use Rattle.file_bytes.specs.declared.stored.StoredRow.{StoredRow}
+use Rattle.file_bytes.specs.Stored.{row_of, rows_of}
 use Rattle.volume_format.specs.Trees.{entry_under}
 use Rattle.file_recovery.specs.Rows.{form_under, FindsRow, NoRow, FindsRows, NoRows}
+use Rattle.file_recovery.proofs.Entered.{all_behind}
 use Rattle.file_recovery.proofs.Passed.{taken_more, taken_all, item_at, entry_in}
 
 -- the entry at a place, as a function sees it, and those from there on
@@ -36,6 +40,18 @@ drop_here (a ∷ more) (suc n) e is = drop_here more n e is
 take_none : (entries : List Entry) → take 0 entries ≡ []
 take_none [] = refl
 take_none (e ∷ more) = refl
+
+-- one more row was stored
+pub rows_added : (old : List StoredRow) {new : List StoredRow} (row : StoredRow) → new ≡ old ++ row ∷ []
+    → rows_of new ≡ rows_of old ++ row_of row ∷ []
+rows_added old row is = ap (map row_of) is ∙ map-append row_of old (row ∷ [])
+
+pub rows_are_so : (P : Row → Type 0) (old : List StoredRow) {new : List StoredRow} (row : StoredRow)
+    → new ≡ old ++ row ∷ []
+    → AllByRecursion P (rows_of old) → P (row_of row) → AllByRecursion P (rows_of new)
+rows_are_so P old row is all one =
+    subst (λ (l : List Row). AllByRecursion P l) (sym (rows_added old row is))
+    (all_behind P (rows_of old) (row_of row) all one)
 
 module _ (spec : Spec) (pages : List (Option Sector)) where
   abbrev own : Entry → List ℕ

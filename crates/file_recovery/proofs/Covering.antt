@@ -201,7 +201,8 @@ pub long_held : (m : Map) (files : Files) (old new : List Bool) → length m.pag
 long_held m files old new small found long others holds =
     let is = held_catalog m others holds in
     let is_too = found.is in
-    let first = All-head (IsTreeIn m.pages) (catalog_tree m holds.keeps.catalog) (flat_map trees_of holds.kept) is.grow in
+    let first =
+    All-head (IsTreeIn m.pages) (catalog_tree m holds.keeps.catalog) (flat_map trees_of holds.kept) is.grow in
     let second =
     All-head (IsTreeIn m.pages) (catalog_tree m found.catalog) (flat_map trees_of found.kept) is_too.grow in
     let levels : holds.keeps.catalog ≡ found.catalog = one_tree (catalog_layout m.mark) m.pages m.catalog

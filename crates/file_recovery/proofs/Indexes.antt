@@ -7,14 +7,26 @@ use Rattle.std.proofs.lemmas.List.{drop_more, get_or_append_left, get_or_push}
 use Rattle.std.proofs.lemmas.List.Concat.{flat_map-append}
 use Rattle.std.proofs.lemmas.List.Elements.{All-nil, All-append}
 use Rattle.station.specs.Disk.{Sector}
-use Rattle.btree_check.specs.Walks.{CanMark, Marks}
+use Rattle.station.specs.declared.device.Device.{Ghosts as Devices}
+use Rattle.pages.specs.declared.page_map.PageMap.{PageMap}
+use Rattle.btree_pages.specs.declared.row_layout.RowLayout.{RowLayout}
+use Rattle.btree.specs.Calls.{OnPages, pages_on}
+use Rattle.btree.specs.Entries.{entries_of}
+use Rattle.btree.specs.Rooted.{RootedTree}
+use Rattle.btree.specs.Tree.{IsTreeOrEmpty}
+use Rattle.btree_check.specs.Walks.{CanMark, Marks, FindsTree}
+use Rattle.records.specs.declared.key.KeyOfReference.TheVariants.{Alternate}
 use Rattle.records.specs.Spec.{Spec}
 use Rattle.records.specs.Rows.{Row}
-use Rattle.volume_format.specs.Forest.{TreeLevels, IsTreeIn, pages_under, pages_within}
+use Rattle.volume_format.specs.Calls.{LooksAt}
+use Rattle.volume_format.specs.Forest.{TreeLevels, IsTreeIn, tree_levels, pages_under, pages_within}
+use Rattle.volume_format.specs.Trees.{AreOf, layout_under}
 use Rattle.volume_format.specs.Volume.{no_tree}
 use Rattle.file_recovery.specs.Found.{root_at, HasIndex, AreIndexes, FindsIndexes, FindsIndex, NoIndex}
 use Rattle.btree_check.proofs.Marking.{marks_none, marks_append, can_left, can_after}
 use Rattle.volume_format.proofs.OneTree.{one_planted}
+use Rattle.volume_format.proofs.Whole.{whole_grows, whole_entries}
+use Rattle.file_recovery.proofs.Calling.{on_pages_before}
 
 module _ (pages : List (Option Sector)) (spec : Spec) (rows : List Row) (value : List ℕ) where
   pub no_indexes : (seen : List Bool) → FindsIndexes pages spec rows value 0 seen seen
@@ -112,3 +124,45 @@ module _ (pages : List (Option Sector)) (spec : Spec) (rows : List Row) (value :
       let here = can_here count k low trees are mid (before trees are can) in
       never own (are.each k low) (are.rooted k low) (grows_here count k low trees are)
       (can_left mid (pages_under own) (pages_within (drop (k + 1) trees)) here)
+
+  -- what is under the root of an alternate key is its tree
+  pub index_is : {tree : RootedTree} {k : ℕ} {old new : List Bool} → tree.layout ≡ layout_under spec (Alternate k)
+      → tree.root ≡ root_at value k → (found : FindsTree tree.layout pages tree.root old new)
+      → AreOf spec (Alternate k) rows (entries_of tree.layout found.levels) → FindsIndex pages spec rows value k old new
+  index_is {tree} layout root found pairs = record {
+    tree = tree_levels tree found.levels;
+    is = record { layout = layout; whole = refl; pairs = pairs };
+    rooted = root;
+    grows = whole_grows pages tree found.levels found.holds;
+    marks = found.marks;
+  }
+
+  -- and such a tree is under that root
+  module _ (tree : RootedTree) {k : ℕ} (layout : tree.layout ≡ layout_under spec (Alternate k)) (own : TreeLevels)
+      (is : HasIndex spec rows k own) (grows : IsTreeIn pages own) where
+    pub index_there : tree.root ≡ root_at value k → own.tree.root ≡ root_at value k
+        → IsTreeOrEmpty tree.layout pages tree.root own.levels
+    index_there root rooted = subst (λ (l : RowLayout). IsTreeOrEmpty l pages tree.root own.levels)
+        (is.layout ∙ sym layout) (subst (λ r. IsTreeOrEmpty own.tree.layout pages r own.levels) (rooted ∙ sym root)
+        grows.stands)
+
+    pub index_entries : AreOf spec (Alternate k) rows (entries_of tree.layout own.levels)
+    index_entries = subst (AreOf spec (Alternate k) rows) (whole_entries pages own grows is.whole
+        ∙ ap (λ (l : RowLayout). entries_of l own.levels) (is.layout ∙ sym layout)) is.pairs
+
+-- The tree of an alternate key was found by a call, after others.
+module _ {D : Type 0} (d : Devices D) {p q : PageMap} {a b : D} {spec : Spec} {rows : List Row} {value : List ℕ} {k : ℕ}
+    {old mid new : List Bool} (looks : LooksAt d ⊥ p a q b)
+    (index : OnPages d q b (λ pages. FindsIndex pages spec rows value k mid new)) where
+  pub index_more : OnPages d p a (λ pages. FindsIndexes pages spec rows value k old mid)
+      → OnPages d p a (λ pages. FindsIndexes pages spec rows value (k + 1) old new)
+  index_more before = λ honest agrees.
+      one_more_index (pages_on d p a) spec rows value k old mid new (before honest agrees)
+      (on_pages_before d (λ pages. FindsIndex pages spec rows value k mid new) looks index honest agrees)
+
+  pub indexes_go_on : {count : ℕ} → OnPages d p a (λ pages. length pages ≤ 2 ^ 20) → k < count
+      → OnPages d p a (λ pages. CanGoOn pages spec rows value count old k mid)
+      → OnPages d p a (λ pages. CanGoOn pages spec rows value count old (k + 1) new)
+  indexes_go_on {count} small low before = λ honest agrees.
+      goes_on (pages_on d p a) spec rows value count k old mid new (small honest agrees) low (before honest agrees)
+      (on_pages_before d (λ pages. FindsIndex pages spec rows value k mid new) looks index honest agrees)

@@ -20,6 +20,7 @@ pub mod Kepts
 pub mod NoFiles
 pub mod OneFound
 pub mod Listed
+pub mod Walked
 pub mod Covering
 pub mod Foreign
 pub mod ReadTrees

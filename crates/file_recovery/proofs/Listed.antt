@@ -8,16 +8,19 @@ use Rattle.std.proofs.lemmas.List.Concat.{flat_map-append}
 use Rattle.std.proofs.lemmas.List.Elements.{All-nil, All-cons, All-head, All-tail, All-append}
 use Rattle.station.specs.Disk.{Sector}
 use Rattle.pages.specs.Image.{Map}
+use Rattle.btree_pages.specs.declared.row_layout.RowLayout.{RowLayout}
 use Rattle.btree.specs.Entries.{Entry, entries_of}
+use Rattle.btree.specs.Rooted.{RootedTree}
+use Rattle.btree.proofs.One.{one_tree}
 use Rattle.btree.specs.Tree.{TreeNode, IsTreeOrEmpty, pages_of}
-use Rattle.btree_check.specs.Walks.{CanMark, Marks}
+use Rattle.btree_check.specs.Walks.{CanMark, Marks, FindsTree}
 use Rattle.records.specs.Files.{NamedFile, Files, IsNamed}
 use Rattle.volume_format.specs.Catalog.{catalog_layout}
 use Rattle.volume_format.specs.Forest.{TreeLevels, IsTreeIn, pages_under, pages_within}
 use Rattle.volume_format.specs.Volume.{FileTrees, IsKept, trees_of, catalog_entry, catalog_tree}
 use Rattle.volume_format.proofs.Forests.{all_left, all_right}
 use Rattle.volume_format.proofs.Whole.{whole_grows}
-use Rattle.file_recovery.specs.Kept.{IsCatalogFile, FindsFile, NoFile, IsCatalog, FindsCatalog}
+use Rattle.file_recovery.specs.Kept.{IsCatalogFile, FindsFile, NoFile, IsCatalog, FindsCatalog, NoCatalog}
 use Rattle.file_recovery.specs.Listed.{AreFound, FindsFiles, NoFiles, pages_of_files}
 use Rattle.file_recovery.proofs.Entered.{all_behind}
 use Rattle.btree_check.proofs.Marking.{marks_none, marks_append, can_left, can_after}
@@ -61,8 +64,9 @@ module _ (mark : ℕ) (pages : List (Option Sector)) (generation : ℕ) where
   own_entry : (entry : Entry) (one : FileTrees) → IsCatalogFile mark pages generation entry one → IsOwn one
   own_entry entry one found = record { is = found.is; named = found.named; grow = found.grow; listed = refl }
 
-  pub no_files : (seen : List Bool) → FindsFiles mark pages generation [] [] seen seen
-  no_files seen = record { kept = []; found = record { listed = refl; each = tt }; are = refl; marks = marks_none seen }
+  pub no_files : {files : Files} → files ≡ [] → (seen : List Bool) → FindsFiles mark pages generation [] files seen seen
+  no_files are seen =
+      record { kept = []; found = record { listed = refl; each = tt }; are = sym are; marks = marks_none seen }
 
   pub one_more_file : (entries : List Entry) (n : ℕ) (entry : Entry) (files : Files) (one : NamedFile)
       (old mid new : List Bool) → entry_at n entries ≡ Some entry →
@@ -209,3 +213,34 @@ module _ (m : Map) (generation : ℕ) (catalog : List (List TreeNode)) where
     each = each_own m.mark m.pages generation kept
         (All-tail (IsTreeIn m.pages) (catalog_tree m catalog) (flat_map trees_of kept) is.grow) is.each is.named;
   }
+
+-- a tree of the catalog's layout and root, which was read
+module _ (m : Map) (generation : ℕ) {tree : RootedTree} {old mid : List Bool}
+    (layout : tree.layout ≡ catalog_layout m.mark)
+    (root : tree.root ≡ m.catalog) (found : FindsTree tree.layout m.pages tree.root old mid) where
+  named_catalog : IsTreeOrEmpty (catalog_layout m.mark) m.pages m.catalog found.levels
+  named_catalog = subst (λ (l : RowLayout). IsTreeOrEmpty l m.pages m.catalog found.levels) layout
+      (subst (λ (r : ℕ). IsTreeOrEmpty tree.layout m.pages r found.levels) root found.holds)
+
+  pub catalog_read : {files : Files} {new : List Bool} → length files ≤ 255
+      → FindsFiles m.mark m.pages generation (entries_of tree.layout found.levels) files mid new
+      → FindsCatalog m generation files old new
+  catalog_read {files} {new} few finds =
+      finds_catalog m generation found.levels files old mid new named_catalog found.marks few
+      (subst (λ (l : RowLayout). FindsFiles m.mark m.pages generation (entries_of l found.levels) files mid new) layout
+      finds)
+
+  -- where its entries are of no files, there is no catalog
+  pub no_catalog_read : length m.pages ≤ 2 ^ 20
+      → NoFiles m.mark m.pages generation (entries_of tree.layout found.levels)
+      mid → NoCatalog m generation old
+  no_catalog_read small never = λ catalog kept is can.
+      let levels : found.levels ≡ catalog =
+      one_tree (catalog_layout m.mark) m.pages m.catalog found.levels catalog small
+      named_catalog (catalog_grows m generation catalog kept is) in
+      let marks = subst (λ (l : List (List TreeNode)). Marks old (pages_of l) mid) levels found.marks in
+      let none = subst (λ (l : List (List TreeNode)). NoFiles m.mark m.pages generation
+      (entries_of (catalog_layout m.mark) l) mid) levels
+      (subst (λ (l : RowLayout). NoFiles m.mark m.pages generation (entries_of l found.levels) mid) layout never) in
+      none kept (catalog_found m generation catalog kept is) is.few
+      (can_after old mid (pages_of catalog) (pages_of_files kept) marks can)

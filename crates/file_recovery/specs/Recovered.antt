@@ -1,4 +1,4 @@
--- What is told of a volume whose files are recovered.
+-- What recovery says of a volume.
 use Rattle.std.specs.Prelude.{◌≡◌, ◌⊎◌, List, ⊤}
 use Rattle.station.specs.Disk.{Sector}
 use Rattle.pages.specs.Layout.{IsForeign}

@@ -24,7 +24,7 @@ use volume_format::catalog_tree;
 /// How many files a volume may have.
 const MOST_FILES: u8 = 255;
 
-/// All files that the catalog lists, with their rows. The pages of the catalog and of the files' trees are marked. `Damaged` tells that
+/// All files that the catalog lists, with their rows. The pages of the catalog and of the files' trees are marked. `Damaged` means that
 /// there are no such trees that can be marked, or more than 255 files.
 pub(crate) fn read_catalog<D: Device>(
     alloc: Global,
@@ -52,7 +52,7 @@ pub(crate) fn read_catalog<D: Device>(
     read_files(alloc, &catalog, generation, pages, device, seen)
 }
 
-/// Puts the file of an entry after the others. The pages of its trees are marked. `Damaged` tells that there is no such file with
+/// Puts the file of an entry after the others. The pages of its trees are marked. `Damaged` means that there is no such file with
 /// trees that can be marked.
 fn add_file<D: Device>(
     alloc: Global,
@@ -85,7 +85,7 @@ fn add_file<D: Device>(
     Ok(())
 }
 
-/// The files of all entries of the catalog, with their rows. The pages of their trees are marked. `Damaged` tells that there are no such
+/// The files of all entries of the catalog, with their rows. The pages of their trees are marked. `Damaged` means that there are no such
 /// files with trees that can be marked, or more than 255.
 fn read_files<D: Device>(
     alloc: Global,

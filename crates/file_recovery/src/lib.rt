@@ -1,6 +1,6 @@
 //! Reads the files of a volume, whatever the volume holds.
 //!
-//! Promise: what is answered is exactly what the volume holds, and `Damaged` tells that it holds nothing of the kind.
+//! Promise: what is answered is exactly what the volume holds, and `Damaged` means that it holds nothing of the kind.
 #![tactic(auto)]
 
 mod alternates;

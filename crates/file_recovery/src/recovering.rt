@@ -38,7 +38,7 @@ pub fn recover<D: Device>(alloc: Global, device: &mut D) -> Result<Vec<StoredFil
         → OnErr result ((D.state device.new ≡ D.state device.old)
         ⊎ (D.state device.new ≡ state_after_sync (D.state device.old))) }
 
-    // What it answers is what the disk holds; `Damaged` tells that it holds no files, and where it holds some, the device and memory alone
+    // What it answers is what the disk holds; `Damaged` means that it holds no files, and where it holds some, the device and memory alone
     // refuse.
     ensures holds { D.is_honest device.old → IfOk result
         (λ files. HoldsFiles (D.state device.old).disk.present (files_of files.items)) }
@@ -56,7 +56,7 @@ pub fn recover<D: Device>(alloc: Global, device: &mut D) -> Result<Vec<StoredFil
     }
 }
 
-/// The files that an opened volume holds. `Damaged` tells that it holds none.
+/// The files that an opened volume holds. `Damaged` means that it holds none.
 fn read_volume<D: Device>(
     alloc: Global,
     pages: &mut PageMap,

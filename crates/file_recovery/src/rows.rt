@@ -15,7 +15,7 @@ use file_bytes::{StoredRow, is_row, read_row, row_key};
 use records::{FileSpec, StoreFault};
 use std::alloc::Global;
 
-/// The row of an entry, whose record is in place. `Damaged` tells that it is none of such a file's rows.
+/// The row of an entry, whose record is in place. `Damaged` means that it is none of such a file's rows.
 pub(crate) fn row_of_entry(
     alloc: Global,
     file: &FileSpec,

@@ -1,5 +1,5 @@
--- Clauses in any order, each at most once except for those that may come again: their rule, and how they are read. Those of entries,
--- of FDs and of SELECTs are read so.
+-- Clauses in any order, each at most once except for those that may be repeated: their rule, and how they are read. Those of
+-- entries, of FDs and of SELECTs are read so.
 use Rattle.std.specs.Prelude.{◌≡◌, ℕ, zero, suc, Bool, if◌then◌else◌, List, [], ◌∷◌, length, Option, None, Some, is_some, Ok}
 use Rattle.tokens.specs.declared.token.Token.{Token}
 use Rattle.grammar.specs.Parts.{Part, any, lookahead}

@@ -1,4 +1,4 @@
--- Parts that are left out where the word does not stand that they begin with: their rules, and how they are read.
+-- Parts that are left out if their first word is absent: their rules, and how they are read.
 use Rattle.std.specs.Prelude.{◌≡◌, if◌then◌else◌, List, [], Ok}
 use Rattle.tokens.specs.declared.reserved.Reserved.{Reserved}
 use Rattle.grammar.specs.Parts.{Part, ◌or◌, absence_of, word}

@@ -1,6 +1,6 @@
--- Phrases with statements, each with its opposite: SIZE ERROR, AT END, INVALID KEY and OVERFLOW, and the same after NOT
--- (COBOL-85, Nucleus, "The SIZE ERROR phrase"; Sequential I-O, "The AT END phrase"; Indexed I-O, "The INVALID KEY phrase").
--- Their rules, and how they are read, whatever reads statements.
+-- Phrases with statements, each with its opposite: SIZE ERROR, AT END, INVALID KEY and OVERFLOW, and the same after NOT. The
+-- standard has them under "The SIZE ERROR phrase" (COBOL-85, Nucleus), "The AT END phrase" (Sequential I-O) and "The INVALID KEY
+-- phrase" (Indexed I-O). Their rules, and how they are read, whatever reads statements.
 use Rattle.std.specs.Prelude.{List, Option, None, Some, Ok}
 use Rattle.std.specs.Option.{option_map}
 use Rattle.tokens.specs.declared.reserved.Reserved.TheVariants as w

@@ -1,4 +1,4 @@
--- What is told of a volume that is opened.
+-- What an opening says of a volume.
 use Rattle.std.specs.Prelude.{◌≡◌, ◌⊎◌, List, Result, Ok, Err, IfErr, OnOk, OnErr}
 use Rattle.station.specs.Disk.{Sector}
 use Rattle.station.specs.State.{state_after_sync}

@@ -1,4 +1,4 @@
--- What the store stands for, and why a change is refused.
+-- Which files the store holds, and why a change is refused.
 use Rattle.std.specs.Prelude.{◌≡◌, ◌⊎◌, ◌<◌, Bool, ℕ, List, length, Ok}
 use Rattle.station.specs.Disk.{Disk, Sector}
 use Rattle.roots.specs.declared.pair.Roots.{Roots}

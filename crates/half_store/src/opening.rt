@@ -241,7 +241,7 @@ fn read_volume<D: Device>(alloc: Global, device: &mut D) -> Result<HalfStore, St
 impl HalfStore {
     /// Opens a volume. What waits becomes durable first, and nothing is written.
     ///
-    /// `Damaged` tells that the present image holds no files, `Layout` that its newest root has the other format's mark.
+    /// `Damaged` means that the present image holds no files, `Layout` that its newest root has the other format's mark.
     pub fn open<D: Device>(alloc: Global, device: &mut D) -> Result<HalfStore, StoreFault>
         ensures only { OnlyWrites D.Device (result ≡ Err StoreFault.Device) device.old device.new }
 

@@ -1,7 +1,8 @@
 -- Items in the order of their entries, counted, and those that the definitions place.
 use Rattle.std.proofs.Common.{◌≡◌, ℕ, zero, suc, ◌+◌, ◌-◌, ◌*◌, Bool, true, false, nat_lt, if◌then◌else◌, List, [], ◌∷◌}
 use Rattle.std.proofs.Common.{◌++◌, length, drop, get_or, drop-cons, add-one, ◌≤◌, ◌<◌, None, Some, refl, ap, sym, ◌∙◌}
-use Rattle.std.proofs.Common.{length-append, arith}
+use Rattle.std.proofs.Common.{length-append, arith, subst}
+use Rattle.std.specs.List.{AllByRecursion}
 use Rattle.std.specs.Prelude.{Option, map, slice_get}
 use Rattle.std.specs.Option.{option_map}
 use Rattle.std.proofs.lemmas.List.{map-append, append-nil, drop_all}
@@ -131,19 +132,19 @@ items_outlined storage files =
 
 -- ---- the item of a number, in one list or in the one after it
 
-pub in_first : (xs ys : List Outline) (n : ℕ) → n < length xs → slice_get (xs ++ ys) n ≡ slice_get xs n
+in_first : (xs ys : List Outline) (n : ℕ) → n < length xs → slice_get (xs ++ ys) n ≡ slice_get xs n
 in_first [] ys n h = absurd (omega arith)
 in_first (one ∷ more) ys zero h = refl
 in_first (one ∷ more) ys (suc n) h = in_first more ys n (omega arith)
 
-pub in_second : (xs ys : List Outline) (n : ℕ) → length xs ≤ n → slice_get (xs ++ ys) n ≡ slice_get ys (n - length xs)
+in_second : (xs ys : List Outline) (n : ℕ) → length xs ≤ n → slice_get (xs ++ ys) n ≡ slice_get ys (n - length xs)
 in_second [] ys n h = let same : n ≡ n - 0 = omega arith in ap (slice_get ys) same
 in_second (one ∷ more) ys zero h = absurd (omega arith)
 in_second (one ∷ more) ys (suc n) h =
     let same : n - length more ≡ suc n - suc (length more) = omega arith in
     in_second more ys n (omega arith) ∙ ap (slice_get ys) same
 
-pub rest_at : (files : List FileDescription) (i : ℕ) (one : FileDescription) → i < length files
+rest_at : (files : List FileDescription) (i : ℕ) (one : FileDescription) → i < length files
     → one ≡ get_or files i one → drop i files ≡ one ∷ drop (i + 1) files
 rest_at files i one h is = drop-cons files i one h ∙ ap (λ k. get_or files i one ∷ drop k files) (sym (add-one i))
     ∙ ap (λ x. x ∷ drop (i + 1) files) (sym is)
@@ -152,6 +153,39 @@ pub found_if : (all others : List Outline) (n m : ℕ) (found : Option Found) �
     → IsFoundAt others m found → IsFoundAt all n found
 found_if all others n m None e h = e ∙ h
 found_if all others n m (Some found) e h = (e ∙ h.0, h.1)
+
+-- the file of a turn, where so many items are to be passed
+module _ (files : List FileDescription) (i : ℕ) (one : FileDescription) (entries : List Entry) (left within n : ℕ)
+    (lt : i < length files) (is : one ≡ get_or files i one) (same : entries ≡ one.entries)
+    (counted : within ≡ length (outlines nothing_around (forest_of entries)))
+    (before : slice_get (file_outlines (drop i files)) left ≡ slice_get (file_outlines files) n) where
+  own : List Outline
+  own = outlines nothing_around (forest_of entries)
+
+  first_file : file_outlines (drop i files) ≡ own ++ file_outlines (drop (i + 1) files)
+  unfolding own
+  first_file = ap file_outlines (rest_at files i one lt is)
+      ∙ ap (λ l. outlines nothing_around (forest_of l) ++ file_outlines (drop (i + 1) files)) (sym same)
+
+  pub item_in_file : left < within
+      → slice_get (file_outlines files) n ≡ slice_get (outlines nothing_around (forest_of entries)) left
+  unfolding own
+  item_in_file few = sym before ∙ ap (λ l. slice_get l left) first_file
+      ∙ in_first own (file_outlines (drop (i + 1) files)) left (subst (λ m. left < m) counted few)
+
+  pub item_past_file : within ≤ left
+      → slice_get (file_outlines (drop (i + 1) files)) (left - within) ≡ slice_get (file_outlines files) n
+  unfolding own
+  item_past_file many =
+      let more = file_outlines (drop (i + 1) files) in
+      ap (λ m. slice_get more (left - m)) counted ∙ sym (in_second own more left (subst (λ m. m ≤ left) counted many))
+      ∙ ap (λ l. slice_get l left) (sym first_file) ∙ before
+
+-- what each file from a turn on has, each one after it has
+pub others_have : (P : FileDescription → Type 0) (files : List FileDescription) (i : ℕ) (one : FileDescription)
+    → i < length files → one ≡ get_or files i one → AllByRecursion P (drop i files)
+    → AllByRecursion P (drop (i + 1) files)
+others_have P files i one lt is all = (subst (AllByRecursion P) (rest_at files i one lt is) all).1
 
 -- ---- what INITIALIZE puts into the item of a number
 

@@ -1,7 +1,7 @@
 -- Entries that keep the rules are within the limits.
-use Rattle.std.proofs.Common.{◌≡◌, ℕ, ◌-◌, ◌*◌, ◌≤◌, ◌<◌, ◌==◌, nat_lt, nat_le, Bool, true, false, not, ◌&&◌, ◌||◌}
-use Rattle.std.proofs.Common.{if◌then◌else◌, List, [], ◌∷◌, ◌++◌, length, drop, None, Some, is_some, refl, ap, subst}
-use Rattle.std.proofs.Common.{length-drop, lit<, lit≤, arith}
+use Rattle.std.proofs.Common.{◌≡◌, ℕ, ◌-◌, ◌*◌, ◌≤◌, ◌<◌, nat_lt, Bool, true, false, ◌&&◌, ◌||◌}
+use Rattle.std.proofs.Common.{List, [], ◌∷◌, ◌++◌, length, drop, None, Some, is_some, refl, ap, subst}
+use Rattle.std.proofs.Common.{length-drop, lit≤, arith}
 use Rattle.std.specs.Prelude.{Option}
 use Rattle.items.specs.declared.item.Item as Items
 use Rattle.lexical.specs.declared.place.Place.{Place}
@@ -9,9 +9,8 @@ use Rattle.source_tree.specs.declared.entry.Around.{Around}
 use Rattle.source_tree.specs.declared.entry.PictureText.{PictureText}
 use Rattle.source_tree.specs.declared.entry.ItemEntry.{ItemEntry}
 use Rattle.source_tree.specs.declared.entry.Entry.{Entry}
-use Rattle.source_tree.specs.declared.entry.Entry.TheVariants.{Item, Condition}
 use Rattle.source_tree.specs.Integers.{number_of}
-use Rattle.source_tree.specs.Levels.{Forest, End, Tree, level_of, deeper, beyond, leading_conditions, forest_of}
+use Rattle.source_tree.specs.Levels.{Forest, End, Tree, level_of, leading_conditions, forest_of}
 use Rattle.source_tree.specs.Clauses.{nothing_around, inside, form_of, item_by, occurrences}
 use Rattle.source_tree.specs.Rooms.{redefines, room, item_with}
 use Rattle.source_tree.specs.Broken.{RuleBreach, where_so, each}
@@ -19,9 +18,11 @@ use Rattle.source_tree.specs.ClauseRules.{most_item_bytes, most_occurrences, too
 use Rattle.source_tree.specs.ClauseRules.{wrong_picture}
 use Rattle.source_tree.specs.RedefinitionRules.{Redefinable, redefinable_after}
 use Rattle.source_tree.specs.ValueRules.{value_rules, condition_rules}
-use Rattle.source_tree.specs.EntryRules.{Position, outermost, is_outermost, is_level, level_rules, wrong_level}
+use Rattle.source_tree.specs.EntryRules.{Position, outermost, is_outermost, level_rules, wrong_level}
 use Rattle.source_tree.specs.EntryRules.{redefinition_rules, own_rules, below, forest_rules, storage_rules, excess}
 use Rattle.source_tree.specs.EntryRules.{homeless, most_entries, entry_rules}
+use Rattle.data_entries.specs.Nesting.{AreTold}
+use Rattle.data_entries.proofs.Told.{levels_known}
 use Rattle.layout.specs.Fits.{FitsEntry, Fits}
 
 pub front_nil : {A : Type 0} (xs ys : List A) → xs ++ ys ≡ [] → xs ≡ []
@@ -47,59 +48,6 @@ dropped_all n entries e =
     let none : length (drop n entries) ≡ 0 = ap length e in
     let left : length (drop n entries) ≡ length entries - n = length-drop n entries in
     omega arith
-
--- ---- levels
-
-abbrev Leveled : Forest → Type 0
-Leveled End = Unit {0}
-Leveled (Tree one conditions inner next) = (level_of one < 100000) × Leveled inner × Leveled next
-
-leveled_if : (b : Bool) (F G : Forest) → Leveled F → Leveled G → Leveled (if b then F else G)
-leveled_if true F G f g = f
-leveled_if false F G f g = g
-
-leveled_deeper : (level : ℕ) (F : Forest) → Leveled F → Leveled (deeper level F)
-leveled_deeper level End h = tt
-leveled_deeper level (Tree one conditions inner next) h =
-    leveled_if (nat_lt level (level_of one)) (Tree one conditions inner (deeper level next)) End
-    (h.0, h.1, leveled_deeper level next h.2) tt
-
-leveled_beyond : (level : ℕ) (F : Forest) → Leveled F → Leveled (beyond level F)
-leveled_beyond level End h = tt
-leveled_beyond level (Tree one conditions inner next) h =
-    leveled_if (nat_lt level (level_of one)) (beyond level next) (Tree one conditions inner next)
-    (leveled_beyond level next h.2) h
-
-second_of : (d c : Bool) → ((d && c) || false) ≡ true → c ≡ true
-second_of true true e = refl
-second_of true false e = cc
-second_of false c e = cc
-
-low : (n : ℕ) → nat_le n 49 ≡ true → n < 100000
-low n e = grind arith
-
-known_by : (b : Bool) (n : ℕ) → ((nat_le 1 n && nat_le n 49) || b) ≡ true → (if b then 1 else n) < 100000
-known_by true n e = lit< tt
-known_by false n e = low n (second_of (nat_le 1 n) (nat_le n 49) e)
-
-true_where : (b : Bool) → not b ≡ false → b ≡ true
-true_where true e = refl
-true_where false e = cc
-
-known_level : (one : ItemEntry) → level_rules (Item one) ≡ [] → level_of one < 100000
-known_level one e =
-    known_by (number_of one.level == 77) (number_of one.level)
-    (true_where (is_level (number_of one.level)) (kept (not (is_level (number_of one.level))) 43 one.level.place e))
-
-pub leveled : (entries : List Entry) → each level_rules entries ≡ [] → Leveled (forest_of entries)
-leveled [] e = tt
-leveled (Item one ∷ more) e =
-    let rest = leveled more (back_nil (level_rules (Item one)) (each level_rules more) e) in (
-      known_level one (front_nil (level_rules (Item one)) (each level_rules more) e),
-      leveled_deeper (level_of one) (forest_of more) rest,
-      leveled_beyond (level_of one) (forest_of more) rest,
-    )
-leveled (Condition one ∷ more) e = leveled more e
 
 -- ---- lengths
 
@@ -151,7 +99,7 @@ entry_fits at one inner last level e =
       within = within_of at.around one inner parts.2 bytes;
     }
 
-pub of_forest : (at : Position) (last : Option Redefinable) (F : Forest) → Leveled F → forest_rules at last F ≡ []
+pub of_forest : (at : Position) (last : Option Redefinable) (F : Forest) → AreTold F → forest_rules at last F ≡ []
     → Fits at.around F
 of_forest at last End levels e = tt
 of_forest at last (Tree one conditions inner next) levels e =
@@ -177,7 +125,7 @@ fits entries e =
     (forest_rules (outermost false) None (forest_of entries) ++ storage_rules 0 (forest_of entries))
     (back_nil (each level_rules entries) (each homeless (leading_conditions entries)
     ++ (forest_rules (outermost false) None (forest_of entries) ++ storage_rules 0 (forest_of entries))) counted) in
-    of_forest (outermost false) None (forest_of entries) (leveled entries parts.0)
+    of_forest (outermost false) None (forest_of entries) (levels_known entries parts.0)
     (front_nil (forest_rules (outermost false) None (forest_of entries)) (storage_rules 0 (forest_of entries)) rest)
 
 pub not_many : (entries : List Entry) → entry_rules entries ≡ [] → length entries ≤ most_entries

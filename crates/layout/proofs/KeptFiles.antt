@@ -14,7 +14,8 @@ use Rattle.source_tree.specs.EntryRules.{most_storage}
 use Rattle.source_tree.specs.FileRules.{most_record_bytes, file_entries, description_rules, record_storage_rules}
 use Rattle.source_tree.specs.FileRules.{descriptions_rules}
 use Rattle.layout.specs.Fits.{Fits, FitFiles}
-use Rattle.layout.proofs.Kept.{front_nil, back_nil, kept, few, dropped_all, leveled, at_most, of_forest}
+use Rattle.data_entries.proofs.Told.{levels_known}
+use Rattle.layout.proofs.Kept.{front_nil, back_nil, kept, few, dropped_all, at_most, of_forest}
 
 -- ---- the parts of the rules
 
@@ -41,7 +42,7 @@ pub description_fits : (one : FileDescription) → description_rules one ≡ []
     → Fits nothing_around (forest_of one.entries)
 description_fits one e =
     let kept = parts one e in
-    of_forest (outermost true) None (forest_of one.entries) (leveled one.entries kept.levels) kept.forest
+    of_forest (outermost true) None (forest_of one.entries) (levels_known one.entries kept.levels) kept.forest
 
 -- ---- the number of entries
 

@@ -1,14 +1,16 @@
 -- What is known of a forest whose first item is known.
 use Rattle.std.proofs.Common.{◌≡◌, ℕ, ◌+◌, ◌-◌, if◌then◌else◌, List, [], ◌∷◌, ◌++◌, sym, ap, subst, ◌∙◌, append_assoc}
-use Rattle.std.proofs.Common.{◌≤◌, ◌<◌, Bool, true, false, length, get_or, drop, drop-cons, add-one, arith}
+use Rattle.std.proofs.Common.{refl, ◌≤◌, ◌<◌, Bool, true, false, length, get_or, drop, drop-cons, add-one, arith}
 use Rattle.std.proofs.lemmas.List.{append-nil}
 use Rattle.source_tree.specs.declared.table.Dimension.{Dimension}
 use Rattle.source_tree.specs.declared.entry.Around.{Around}
+use Rattle.source_tree.specs.declared.entry.Entry.{Entry}
 use Rattle.source_tree.specs.declared.entry.ItemEntry.{ItemEntry}
 use Rattle.source_tree.specs.declared.entry.ConditionEntry.{ConditionEntry}
 use Rattle.source_tree.specs.declared.select.FileDescription.{FileDescription}
 use Rattle.source_tree.specs.Levels.{Forest, End, Tree, forest_of}
 use Rattle.source_tree.specs.Clauses.{nothing_around, inside}
+use Rattle.source_tree.specs.EntryRules.{most_entries}
 use Rattle.source_tree.specs.Rooms.{redefines, room}
 use Rattle.data_entries.specs.Nesting.{HasLevel}
 use Rattle.layout.specs.declared.placed.PlacedItem.{PlacedItem}
@@ -120,16 +122,16 @@ record_end out all area F e before = sym (append-nil out) ∙ ap (λ G. out ++ r
 
 -- ---- files, one after another
 
-pub rest_at : (files : List FileDescription) (i : ℕ) (one : FileDescription) → i < length files
+rest_at : (files : List FileDescription) (i : ℕ) (one : FileDescription) → i < length files
     → one ≡ get_or files i one → drop i files ≡ one ∷ drop (i + 1) files
 rest_at files i one h is = drop-cons files i one h ∙ ap (λ k. get_or files i one ∷ drop k files) (sym (add-one i))
     ∙ ap (λ x. x ∷ drop (i + 1) files) (sym is)
 
-pub fits_first : (files more : List FileDescription) (one : FileDescription) → files ≡ one ∷ more → FitFiles files
+fits_first : (files more : List FileDescription) (one : FileDescription) → files ≡ one ∷ more → FitFiles files
     → FitsFile one × FitFiles more
 fits_first files more one e h = subst FitFiles e h
 
-pub file_step : (new out all : List PlacedItem) (area after : ℕ) (files more : List FileDescription)
+file_step : (new out all : List PlacedItem) (area after : ℕ) (files more : List FileDescription)
     (one : FileDescription) → files ≡ one ∷ more → after ≡ area + 1
     → new ≡ out ++ record_items area (forest_of one.entries) → out ++ file_items area files ≡ all
     → new ++ file_items after more ≡ all
@@ -139,6 +141,27 @@ file_step new out all area after files more one e next added before =
     ∙ append_assoc out (record_items area (forest_of one.entries)) (file_items after more)
     ∙ ap (λ n. out ++ (record_items area (forest_of one.entries) ++ file_items n more)) next
     ∙ ap (λ l. out ++ file_items area l) (sym e) ∙ before
+
+-- the file of a turn, whose entries are these
+module _ (files : List FileDescription) (i : ℕ) (one : FileDescription) (entries : List Entry) (lt : i < length files)
+    (is : one ≡ get_or files i one) (same : entries ≡ one.entries) (fits : FitFiles (drop i files)) where
+  pub file_fits : Fits nothing_around (forest_of entries)
+  file_fits = subst (λ l. Fits nothing_around (forest_of l)) (sym same)
+      (fits_first (drop i files) (drop (i + 1) files) one (rest_at files i one lt is) fits).0.entries
+
+  pub file_short : length entries ≤ most_entries
+  file_short = subst (λ l. length l ≤ most_entries) (sym same)
+      (fits_first (drop i files) (drop (i + 1) files) one (rest_at files i one lt is) fits).0.most
+
+  pub file_turn : (new out all : List PlacedItem) (area : ℕ) → new ≡ out ++ record_items area (forest_of entries)
+      → out ++ file_items area (drop i files) ≡ all
+      → FitFiles (drop (i + 1) files) × (new ++ file_items (area + 1) (drop (i + 1) files) ≡ all)
+  file_turn new out all area added before =
+      let rest = rest_at files i one lt is in (
+        (fits_first (drop i files) (drop (i + 1) files) one rest fits).1,
+        file_step new out all area (area + 1) (drop i files) (drop (i + 1) files) one rest refl
+            (added ∙ ap (λ l. out ++ record_items area (forest_of l)) same) before,
+      )
 
 pub file_end : (out all : List PlacedItem) (area : ℕ) (files : List FileDescription) → files ≡ []
     → out ++ file_items area files ≡ all → out ≡ all

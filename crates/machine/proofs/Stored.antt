@@ -1,6 +1,6 @@
 -- What a file statement leaves in storage.
 use Rattle.std.proofs.Common.{◌≡◌, ◌≢◌, ◌<◌, ℕ, zero, suc, ◌%◌, ◌^◌, ◌==◌, Bool, true, false, List, [], ◌∷◌, length}
-use Rattle.std.proofs.Common.{map, Option, Some, None, refl, sym, ◌∙◌, ap, inl, inr, arith, if◌then◌else◌}
+use Rattle.std.proofs.Common.{map, Option, Some, None, refl, sym, ◌∙◌, ap, subst, inl, inr, arith, if◌then◌else◌}
 use Rattle.std.specs.Prelude.{slice_get, slice_set, slice_index_or, IfSome}
 use Rattle.std.specs.Option.{option_map}
 use Rattle.std.proofs.lemmas.Bool.Decides.{nat_tests}
@@ -9,7 +9,7 @@ use Rattle.records.specs.declared.verb.Verb.{Verb}
 use Rattle.records.specs.Files.{Files}
 use Rattle.records.specs.Connector.{Entry, Connector, Area}
 use Rattle.records.specs.Steps.{Step}
-use Rattle.records.specs.FileStep.{area, entry_at, file_step, needs_no_store, Suits}
+use Rattle.records.specs.FileStep.{area, entry_at, file_step, needs_no_store, Suits, IsStep}
 use Rattle.records.specs.Spec.{is_spec}
 use Rattle.source_tree.specs.Storage.{Storage}
 use Rattle.source_tree.specs.References.{ItemPlace}
@@ -18,9 +18,10 @@ use Rattle.source_tree.specs.FileStatements.{number_stored, with_number, with_st
 use Rattle.data_instructions.specs.declared.index.ItemIndex.{ItemIndex}
 use Rattle.data_instructions.specs.declared.tables.DataItem.{DataItem}
 use Rattle.data_instructions.specs.declared.tables.DataTables.{DataTables}
+use Rattle.data_machine.specs.FindsFirst.{IsAtFirst}
 use Rattle.file_image.specs.declared.file.CodeFile.{CodeFile}
-use Rattle.file_image.specs.Files.{place_of_item, place_at, entry_of}
-use Rattle.machine.specs.Filing.{FindsNumber, FindsStatus, with_low_number}
+use Rattle.file_image.specs.Files.{place_of_item, place_at, entry_of, places_of, spec_of as file_spec}
+use Rattle.machine.specs.Filing.{FindsNumber, FindsStatus, with_low_number, Did}
 use Rattle.machine.specs.Ends.{is_barring}
 use Rattle.machine.proofs.Table.{StaysOrFits, number_fits, looks_at_files}
 
@@ -50,45 +51,33 @@ area_as_long (x ∷ xs) (y ∷ ys) (suc k) e = area_as_long xs ys k (tails e)
     tails e = cc
 
 module _ (tables : DataTables) (old new : Storage) where
+  found_as_long : {index : ItemIndex} → map length new ≡ map length old → IsAtFirst tables old index
+      → IsAtFirst tables new index
+  found_as_long long found =
+      let many = many_as_long new old long in
+      let as_long = area_as_long new old found.one.area long in
+      record {
+        one = found.one;
+        here = found.here;
+        stands = record {
+          form = found.stands.form;
+          editing = found.stands.editing;
+          area = omega (arith, many, found.stands.area);
+          within = omega (arith, as_long, found.stands.within);
+        };
+      }
+
   pub status_as_long : (item : Option ItemIndex) → map length new ≡ map length old
       → IfSome item (FindsStatus tables old) → IfSome item (FindsStatus tables new)
+  unfolding found_as_long
   status_as_long None long found = tt
-  status_as_long (Some index) long is =
-      let many = many_as_long new old long in
-      let as_long = area_as_long new old is.found.one.area long in
-      record {
-        found = record {
-          one = is.found.one;
-          here = is.found.here;
-          stands = record {
-            form = is.found.stands.form;
-            editing = is.found.stands.editing;
-            area = omega (arith, many, is.found.stands.area);
-            within = omega (arith, as_long, is.found.stands.within);
-          };
-        };
-        kind = is.kind;
-      }
+  status_as_long (Some index) long is = record { found = found_as_long long is.found; kind = is.kind }
 
   pub number_as_long : (item : Option ItemIndex) → map length new ≡ map length old
       → IfSome item (FindsNumber tables old) → IfSome item (FindsNumber tables new)
+  unfolding found_as_long
   number_as_long None long found = tt
-  number_as_long (Some index) long is =
-      let many = many_as_long new old long in
-      let as_long = area_as_long new old is.found.one.area long in
-      record {
-        found = record {
-          one = is.found.one;
-          here = is.found.here;
-          stands = record {
-            form = is.found.stands.form;
-            editing = is.found.stands.editing;
-            area = omega (arith, many, is.found.stands.area);
-            within = omega (arith, as_long, is.found.stands.within);
-          };
-        };
-        kind = is.kind;
-      }
+  number_as_long (Some index) long is = record { found = found_as_long long is.found; kind = is.kind }
 
 -- ---- a record area that was given away and taken back
 
@@ -203,3 +192,34 @@ low_number_stored tables item index one old new storage after some here other is
     else number_stored one.item.kind (place_of_item one) (new % 10 ^ digits_in one.item.kind) storage) (sym other)
     ∙ ap (λ (o : Option DataItem). with_low_number (option_map place_of_item o) old new storage) (sym here)
     ∙ ap (λ (i : Option ItemIndex). with_low_number (place_at tables i) old new storage) (sym some)
+
+-- The step of a verb on a file was done, in the words of its entry.
+pub item_number_fits : (tables : DataTables) (entries : List Entry) (one : CodeFile) (n : ℕ) (verb : Verb)
+    (files : Files) (connectors : List Connector) (storage : Storage) → entry_at entries n ≡ entry_of tables one
+    → is_spec (file_spec one) ≡ true → Suits (entry_of tables one) verb
+    → StaysOrFits (digits_at (place_at tables one.relative_key)) (area_of (places_of tables n one) storage).number
+    (step_by entries (places_of tables n one) verb files connectors storage).area.number
+item_number_fits tables entries one n verb files connectors storage entry spec suits =
+    subst (λ (digits : Option ℕ). StaysOrFits digits (area_of (places_of tables n one) storage).number
+    (step_by entries (places_of tables n one) verb files connectors storage).area.number)
+    (entry_digits tables one (entry_at entries n) entry)
+    (step_number_fits entries (places_of tables n one) verb files connectors storage
+    (subst (λ (e : Entry). is_spec e.spec ≡ true) (sym entry) spec)
+    (subst (λ (e : Entry). Suits e verb) (sym entry) suits))
+
+pub step_done : {places : FilePlaces} {step did : Step} {answered : Status} {connectors after : List Connector}
+    {old back left : Storage} {before number : ℕ} {bytes : List ℕ} → step ≡ did
+    → IsStep connectors places.number step answered after (area bytes number)
+    → before ≡ (area_of places old).number → back ≡ slice_set old places.area bytes
+    → left ≡ with_status places.status answered (with_low_number places.relative_key before number back)
+    → StaysOrFits (digits_at places.relative_key) (area_of places old).number did.area.number
+    → Did places did answered connectors after old left
+step_done {places} {did = did} {answered} {connectors} {after} {old} {back} {left} {before} {number} {bytes} is step
+    before_is back_is left_is fits =
+    let does = subst (λ (s : Step). IsStep connectors places.number s answered after (area bytes number)) is step in
+    record {
+      status_is = does.status_is;
+      connectors_are = does.connectors_are;
+      storage_is = storage_left places did answered old back left before number bytes before_is does.area_is
+          does.status_is back_is left_is fits;
+    }

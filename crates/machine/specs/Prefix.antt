@@ -1,4 +1,4 @@
--- What a run has told at a moment, and what a crash may leave of its files then.
+-- What a run has reported at a moment, and what a crash may leave of its files then.
 use Rattle.std.specs.Prelude.{◌≡◌, ◌⊎◌, ℕ, ◌+◌, List, [], ◌∷◌, ◌++◌, drop, slice_index_or}
 use Rattle.station.specs.declared.note.Note.{Note}
 use Rattle.station.specs.Disk.{Sector}

@@ -280,7 +280,7 @@ pub told_start : (calls : List NamePath) (entries : List Entry) (before : ℕ) (
     → AreCalled calls all → AreTold calls before (pairs_in all) entries entries before all
 told_start calls entries before all h = record { called = h; pairs = refl; range = refl }
 
-pub rest_is : (entries : List Entry) (i : ℕ) (d one : Entry) → i < length entries → d ≡ get_or entries i d → d ≡ one
+rest_is : (entries : List Entry) (i : ℕ) (d one : Entry) → i < length entries → d ≡ get_or entries i d → d ≡ one
     → drop i entries ≡ one ∷ drop (i + 1) entries
 rest_is entries i d one h is e =
     drop-cons entries i d h ∙ ap (λ k. get_or entries i d ∷ drop k entries) (sym (add-one i))
@@ -311,7 +311,7 @@ module _ (calls : List NamePath) (before : ℕ) (old : List (ConditionEntry × �
       let range = h.range in
       omega arith
 
-  pub item_step : (one : ItemEntry) → rest ≡ Item one ∷ more → AreTold calls before old entries rest count all
+  item_step : (one : ItemEntry) → rest ≡ Item one ∷ more → AreTold calls before old entries rest count all
       → AreTold calls before old entries more (count + 1) all
   item_step one e h =
       let here : item_count rest ≡ suc (item_count more) = ap item_count e in
@@ -324,7 +324,7 @@ module _ (calls : List NamePath) (before : ℕ) (old : List (ConditionEntry × �
         range = omega arith;
       }
 
-  pub condition_step : (one : ConditionEntry) (new : ConditionNames) → rest ≡ Condition one ∷ more → before < count
+  condition_step : (one : ConditionEntry) (new : ConditionNames) → rest ≡ Condition one ∷ more → before < count
       → IsTable new.names → calls_in new.names ≡ calls_in all.names ++ condition_at calls (one, count - 1) ∷ []
       → pairs_in new ≡ pairs_in all ++ (one, count - 1) ∷ [] → AreTold calls before old entries rest count all
       → AreTold calls before old entries more count new
@@ -346,7 +346,7 @@ module _ (calls : List NamePath) (before : ℕ) (old : List (ConditionEntry × �
         range = omega arith;
       }
 
-  pub skipped_step : (one : ConditionEntry) → rest ≡ Condition one ∷ more → count ≤ before
+  skipped_step : (one : ConditionEntry) → rest ≡ Condition one ∷ more → count ≤ before
       → AreTold calls before old entries rest count all → AreTold calls before old entries more count all
   skipped_step one e none h =
       let here : item_count rest ≡ item_count more = ap item_count e in
@@ -358,3 +358,25 @@ module _ (calls : List NamePath) (before : ℕ) (old : List (ConditionEntry × �
             ∙ sym (ap (λ l. pairs_in all ++ conditions_after before count l) e) ∙ h.pairs;
         range = omega arith;
       }
+
+-- the same at an entry of the list, from which on the walk is at the next one
+module _ (calls : List NamePath) (before : ℕ) (old : List (ConditionEntry × ℕ)) (entries : List Entry) (i : ℕ)
+    (d : Entry) (count now : ℕ) (all new : ConditionNames) (lt : i < length entries) (is : d ≡ get_or entries i d)
+    (so_far : AreTold calls before old entries (drop i entries) count all) where
+  pub item_passed : (one : ItemEntry) → d ≡ Item one → now ≡ count + 1 → new ≡ all
+      → AreTold calls before old entries (drop (i + 1) entries) now new
+  item_passed one e counted same = rw (same, counted) (item_step calls before old entries (drop i entries)
+      (drop (i + 1) entries) count all one (rest_is entries i d (Item one) lt is e) so_far)
+
+  pub condition_added : (one : ConditionEntry) (added : ConditionNames) → d ≡ Condition one → before < count
+      → IsTable added.names → calls_in added.names ≡ calls_in all.names ++ condition_at calls (one, count - 1) ∷ []
+      → pairs_in added ≡ pairs_in all ++ (one, count - 1) ∷ [] → now ≡ count → new ≡ added
+      → AreTold calls before old entries (drop (i + 1) entries) now new
+  condition_added one added e some table more pairs counted same =
+      rw (same, counted) (condition_step calls before old entries (drop i entries) (drop (i + 1) entries) count all one
+      added (rest_is entries i d (Condition one) lt is e) some table more pairs so_far)
+
+  pub condition_skipped : (one : ConditionEntry) → d ≡ Condition one → count ≤ before → now ≡ count → new ≡ all
+      → AreTold calls before old entries (drop (i + 1) entries) now new
+  condition_skipped one e none counted same = rw (same, counted) (skipped_step calls before old entries
+      (drop i entries) (drop (i + 1) entries) count all one (rest_is entries i d (Condition one) lt is e) none so_far)

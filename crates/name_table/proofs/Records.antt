@@ -2,6 +2,7 @@
 use Rattle.std.proofs.Common.{◌≡◌, ℕ, ◌+◌, ◌<◌, ◌≤◌, List, [], ◌∷◌, ◌++◌, length, drop, get_or, refl, sym, ap, ◌∙◌}
 use Rattle.std.proofs.Common.{append_assoc, drop-cons, add-one, arith}
 use Rattle.source_tree.specs.declared.entry.ConditionEntry.{ConditionEntry}
+use Rattle.source_tree.specs.declared.entry.Entry.{Entry}
 use Rattle.source_tree.specs.declared.select.FileDescription.{FileDescription}
 use Rattle.source_tree.specs.Broken.{each}
 use Rattle.source_tree.specs.FileRules.{description_rules}
@@ -39,7 +40,7 @@ module _ (rest more : List FileDescription) (one : FileDescription) (e : rest �
       ∙ append_assoc old (item_calls (one.name ∷ []) (forest_of one.entries)) (record_calls more)
       ∙ ap (λ l. old ++ record_calls l) (sym e) ∙ before
 
-  pub passed_step : (new old all : List (ConditionEntry × ℕ)) (count after : ℕ) → after ≡ count + item_count one.entries
+  passed_step : (new old all : List (ConditionEntry × ℕ)) (count after : ℕ) → after ≡ count + item_count one.entries
       → new ≡ old ++ conditions_after count count one.entries
       → old ++ behind_records count rest ≡ all → new ++ behind_records after more ≡ all
   passed_step new old all count after counted added before =
@@ -49,7 +50,7 @@ module _ (rest more : List FileDescription) (one : FileDescription) (e : rest �
       (behind_records (count + item_count one.entries) more)
       ∙ ap (λ l. old ++ behind_records count l) (sym e) ∙ before
 
-  pub counted_step : (count after most : ℕ) → after ≡ count + item_count one.entries
+  counted_step : (count after most : ℕ) → after ≡ count + item_count one.entries
       → count + record_item_count rest ≤ most → after + record_item_count more ≤ most
   counted_step count after most counted h =
       let here : record_item_count rest ≡ item_count one.entries + record_item_count more = ap record_item_count e in
@@ -59,3 +60,18 @@ module _ (rest more : List FileDescription) (one : FileDescription) (e : rest �
   first_counted count most h =
       let here : record_item_count rest ≡ item_count one.entries + record_item_count more = ap record_item_count e in
       omega arith
+
+-- one file more of a list
+pub file_passed : (files : List FileDescription) (i : ℕ) (one : FileDescription) (entries : List Entry)
+    (old new all : List (ConditionEntry × ℕ)) (count after most : ℕ) → i < length files → one ≡ get_or files i one
+    → entries ≡ one.entries → after ≡ count + item_count entries → new ≡ old ++ conditions_after count count entries
+    → count + record_item_count (drop i files) ≤ most → old ++ behind_records count (drop i files) ≡ all
+    → (after + record_item_count (drop (i + 1) files) ≤ most)
+    × (new ++ behind_records after (drop (i + 1) files) ≡ all)
+file_passed files i one entries old new all count after most lt is same counted added room before =
+    let rest = rest_at files i one lt is in
+    let counted' = counted ∙ ap (λ l. count + item_count l) same in (
+      counted_step (drop i files) (drop (i + 1) files) one rest count after most counted' room,
+      passed_step (drop i files) (drop (i + 1) files) one rest new old all count after counted'
+          (added ∙ ap (λ l. old ++ conditions_after count count l) same) before,
+    )

@@ -1,14 +1,16 @@
 -- The search along the things of one name, the last one first.
 use Rattle.std.proofs.Common.{◌≡◌, ℕ, zero, suc, ◌<◌, ◌≤◌, ◌+◌, Bool, true, false, ◌&&◌, bytes_eq, if◌then◌else◌, List}
 use Rattle.std.proofs.Common.{[], ◌∷◌, ◌++◌, length, None, Some, get_or, refl, sym, ap, ◌∙◌, append_assoc, arith}
+use Rattle.std.proofs.Common.{◌⊎◌, ⊎_elim}
 use Rattle.std.specs.Prelude.{Option}
-use Rattle.std.proofs.lemmas.List.{append-nil, length-map, get_or_default}
+use Rattle.std.proofs.lemmas.List.{append-nil, length-map, get_or_default, get_or-map}
 use Rattle.std.proofs.lemmas.Slice.Eq.{bytes_eq-Decides}
 use Rattle.source_tree.specs.declared.name.Name.{Name}
 use Rattle.source_tree.specs.declared.reference.QualifiedName.{QualifiedName}
 use Rattle.source_tree.specs.Names.{is_within, is_called}
 use Rattle.name_table.specs.declared.look_up.LookUp.{LookUp}
 use Rattle.name_table.specs.declared.look_up.LookUp.TheVariants.{Unknown}
+use Rattle.name_table.specs.declared.table.Declared.{Declared}
 use Rattle.name_table.specs.declared.table.NameTable.{NameTable}
 use Rattle.name_table.specs.Table.{IsTable, former, called_of, calls_in}
 use Rattle.name_table.specs.Positions.{NamePath, empty_path, has_characters, is_named, number_where, positions}
@@ -123,11 +125,11 @@ pub sought_at : (reference : QualifiedName) (calls : List NamePath) (i : ℕ) (s
 sought_at reference calls i so_far h = let below =
     last_below reference.name.characters calls h.bound i (sym h.next_is) in let within = h.within in omega arith
 
-pub sought_name : (reference : QualifiedName) (calls : List NamePath) (i : ℕ) (so_far : LookUp) → IsSought reference
+sought_name : (reference : QualifiedName) (calls : List NamePath) (i : ℕ) (so_far : LookUp) → IsSought reference
     calls (Some i) so_far → has_characters reference.name.characters (get_or calls i empty_path).name ≡ true
 sought_name reference calls i so_far h = last_has reference.name.characters calls h.bound i (sym h.next_is)
 
-pub sought_step : (reference : QualifiedName) (calls : List NamePath) (i : ℕ) (next : Option ℕ) (so_far now : LookUp)
+sought_step : (reference : QualifiedName) (calls : List NamePath) (i : ℕ) (next : Option ℕ) (so_far now : LookUp)
     → IsSought reference calls (Some i) so_far
     → next ≡ last_called reference.name.characters calls i
     → now ≡ (if is_named reference (get_or calls i empty_path) then with_one i so_far else so_far)
@@ -209,7 +211,7 @@ pub smaller : (characters : List ℕ) (calls : List NamePath) (i : ℕ) (next : 
 smaller characters calls i None e = omega arith
 smaller characters calls i (Some n) e = let below = last_below characters calls i n (sym e) in omega arith
 
-pub passes_at : (reference : QualifiedName) (calls : List NamePath) (i : ℕ) (one : NamePath) (qualifiers : List Name)
+passes_at : (reference : QualifiedName) (calls : List NamePath) (i : ℕ) (one : NamePath) (qualifiers : List Name)
     (around : List Name) (r : Bool) → get_or calls i empty_path ≡ one
     → has_characters reference.name.characters (get_or calls i empty_path).name ≡ true
     → qualifiers ≡ reference.qualifiers → around ≡ one.around → r ≡ is_within qualifiers around
@@ -217,3 +219,20 @@ pub passes_at : (reference : QualifiedName) (calls : List NamePath) (i : ℕ) (o
 passes_at reference calls i one qualifiers around r e named same about is =
     ap (is_named reference) e ∙ within_is reference one qualifiers around r
     (ap (λ (c : NamePath). has_characters reference.name.characters c.name) (sym e) ∙ named) same about is
+
+-- one turn: what is declared at the number was tested, and is among what was found if it passes
+pub sought_turn : (t : NameTable) → IsTable t → (reference : QualifiedName) (i : ℕ) (so_far now : LookUp)
+    (next : Option ℕ) (one : Declared) (qualifiers around : List Name) (passes : Bool)
+    → IsSought reference (calls_in t) (Some i) so_far → next ≡ get_or t.before.items i next
+    → one ≡ get_or t.declared.items i one → qualifiers ≡ reference.qualifiers → around ≡ (called_of one).around
+    → passes ≡ is_within qualifiers around
+    → ((passes ≡ true) × (now ≡ with_one i so_far)) ⊎ ((passes ≡ false) × (now ≡ so_far))
+    → IsSought reference (calls_in t) next now
+sought_turn t table reference i so_far now next one qualifiers around passes h next_is one_is same about is found =
+    let here = get_or-map called_of t.declared.items i one empty_path (is_declared t reference i so_far h)
+    ∙ ap called_of (sym one_is) in
+    let tested = passes_at reference (calls_in t) i (called_of one) qualifiers around passes here
+    (sought_name reference (calls_in t) i so_far h) same about is in
+    sought_step reference (calls_in t) i next so_far now h (former_in t table reference i so_far next h next_is)
+    (⊎_elim (λ yes. yes.1 ∙ ap (λ b. if b then with_one i so_far else so_far) (sym (tested ∙ yes.0)))
+    (λ no. no.1 ∙ ap (λ b. if b then with_one i so_far else so_far) (sym (tested ∙ no.0))) found)

@@ -12,12 +12,16 @@ pub mod Committed
 pub mod Marking
 pub mod Tables
 pub mod Opened
+pub mod ReadTables
 pub mod Edits
 pub mod Caches
+pub mod Lookups
+pub mod Keeping
 pub mod Formatted
 pub mod Counted
 pub mod Counting
 pub mod Taking
+pub mod Stages
 pub mod One
 pub mod Refused
 pub mod Crowded

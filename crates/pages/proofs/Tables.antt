@@ -4,6 +4,7 @@ use Rattle.std.proofs.Common.{replicate, refl, sym, ◌∙◌, ap, arith}
 use Rattle.std.proofs.lemmas.List.{length-drop, drop-append-le, take-append-le, drop_at, take_all}
 use Rattle.std.proofs.lemmas.Bool.{cases_lt}
 use Rattle.station.specs.Disk.{Sector, sector_at}
+use Rattle.station.specs.State.{State}
 use Rattle.pages.specs.Layout.{words, zeros}
 use Rattle.pages.specs.Image.{map_at, map_part}
 
@@ -39,3 +40,13 @@ table_next image maps table entries later k d count all low so_far here more i l
     ap (λ (j : ℕ). map_at image (get_or maps j 0)) at ∙ sym here ∙ sym (part_here table entries k count all)
     ∙ ap (λ (l : List ℕ). map_part l k) (sym more) ∙ ap (map_part later) (sym at))
     (cases_lt i k)
+
+-- the same, if the device still holds what it held
+pub table_read : (before after : State) (maps table entries later : List ℕ) (k : ℕ) → after ≡ before
+    → length table ≡ 1024 * k → length entries ≡ 1024 → k < length maps
+    → ((i : ℕ) → i < k → map_at before.disk.present (get_or maps i 0) ≡ map_part table i)
+    → entries ≡ map_at after.disk.present (get_or maps k 0) → later ≡ table ++ entries
+    → (i : ℕ) → i < k + 1 → map_at before.disk.present (get_or maps i 0) ≡ map_part later i
+table_read before after maps table entries later k same count all low so_far here more =
+    table_next before.disk.present maps table entries later k 0 count all low so_far
+    (here ∙ ap (λ (s : State). map_at s.disk.present (get_or maps k 0)) same) more

@@ -1,5 +1,5 @@
 -- What a commit does, in words of the map of pages and of the device.
-use Rattle.std.specs.Prelude.{◌≡◌, ◌⊎◌, List, [], Result, Err}
+use Rattle.std.specs.Prelude.{◌≡◌, ◌⊎◌, List, [], false, Result, Err, OnOk}
 use Rattle.station.specs.Disk.{Sector}
 use Rattle.station.specs.State.{SameConsole}
 use Rattle.station.specs.History.{Through}
@@ -9,8 +9,8 @@ use Rattle.pages.specs.Image.{Map, IsCommitted, map_of}
 use Rattle.pages.specs.Changes.{BeforeOrAfter}
 use Rattle.pages.specs.Cache.{Gathers}
 use Rattle.pages.specs.Volumes.{volume_of}
-use Rattle.pages.specs.Pages.{committed_of, map_now, changed_pages_of, catalog_of, mark_of, cache_of, next_generation}
-use Rattle.pages.specs.Pages.{Agrees}
+use Rattle.pages.specs.Pages.{committed_of, map_now, changed_pages_of, catalog_of, mark_of, cache_of, is_spent}
+use Rattle.pages.specs.Pages.{Agrees, HasChanges, SamePages, next_generation}
 use Rattle.pages.specs.declared.error.PagesError.{PagesError}
 use Rattle.pages.specs.declared.error.PagesError.TheVariants.{Full, Memory}
 use Rattle.pages.specs.declared.page_map.PageMap.{PageMap}
@@ -20,6 +20,13 @@ use Rattle.pages.specs.declared.volume.VolumeMap.{VolumeMap}
 abbrev pub IfUnchanged : PageMap → Type 0 → Type 0
 IfUnchanged p claim = changed_pages_of p ≡ [] → catalog_of p ≡ (committed_of p).root.catalog
     → mark_of p ≡ (committed_of p).root.mark → claim
+
+-- if the value is not spent; and if nothing was changed besides
+abbrev pub IfUnspent : PageMap → Type 0 → Type 0
+IfUnspent p claim = is_spent p ≡ false → claim
+
+abbrev pub IfAtRest : PageMap → Type 0 → Type 0
+IfAtRest p claim = (HasChanges p → ⊥) → is_spent p ≡ false → claim
 
 -- the map is that of the last commit
 abbrev pub IsAsCommitted : PageMap → Type 0
@@ -46,6 +53,24 @@ module _ {D : Type 0} (device : Devices D) where
   -- if the device is honest, and its disk holds what was committed of the map
   abbrev pub IfDiskAgrees : PageMap → D → Type 0 → Type 0
   IfDiskAgrees p now claim = device.is_honest now → Agrees p (device.state now).disk → claim
+
+  -- what the disk and the cache agree on stays
+  abbrev pub KeepsAgreement : PageMap → PageMap → D → D → Type 0
+  KeepsAgreement old new before after = IfDiskAgrees old before (Agrees new (device.state after).disk)
+
+  -- after `Ok`, the disk holds the map
+  abbrev pub HoldsNew : {T : Type 0} → Result T PagesError → PageMap → PageMap → D → D → Type 0
+  HoldsNew result old new before after = IfDiskAgrees old before (OnOk result (Agrees new (device.state after).disk))
+
+  -- after `Ok`, the map has the same pages
+  abbrev pub KeepsPages : {T : Type 0} → Result T PagesError → PageMap → PageMap → D → D → Type 0
+  KeepsPages result old new before after =
+      IfDiskAgrees old before (OnOk result (SamePages (map_on old before) (map_on new after)))
+
+  -- after `Ok`, the map is the one of the next generation, if something was changed
+  abbrev pub Advances : {T : Type 0} → Result T PagesError → PageMap → PageMap → D → D → Type 0
+  Advances result old new before after = IfDiskAgrees old before
+      (HasChanges old → OnOk result (map_on new after ≡ next_generation (map_on old before)))
 
   -- if the device is honest, and its disk holds the volume
   abbrev pub IfDiskHolds : VolumeMap → D → Type 0 → Type 0

@@ -16,3 +16,7 @@ pub mod Marked
 pub mod Empty
 pub mod Pages
 pub mod Commits
+pub mod Devices
+pub mod Edits
+pub mod Reads
+pub mod Opens

@@ -40,8 +40,8 @@ abbrev pub filled_of : PageMap → ℕ
 filled_of p = filled_count p.changes.items
 
 -- A page got bytes. Where it had been given some since the last commit, no more pages have some than before.
-abbrev pub FillsPage : PageMap → ℕ → PageMap → Type 0
-FillsPage old page new = Fills old.changes.items page new.changes.items
+abbrev pub FillsPage : PageMap → PageMap → ℕ → Type 0
+FillsPage old new page = Fills old.changes.items page new.changes.items
 
 abbrev pub catalog_of : PageMap → ℕ
 catalog_of p = p.catalog

@@ -59,7 +59,7 @@ pub(crate) fn commit_volume<D: Device>(
     ensures next { OnOk result ((volume.new.generation ≡ volume.old.generation + 1)
         × (version_of volume.new.mark ≡ version_of mark) × (volume.new.catalog ≡ catalog)) }
 
-    // `Full` tells that too few sectors are free, or that no generation is left, and then nothing was done.
+    // `Full` means that too few sectors are free, or that no generation is left, and then nothing was done.
     ensures short { result ≡ Err PagesError.Full → LacksSectors (volume_of volume.old) changes.now }
     ensures told { LacksSectors (volume_of volume.old) changes.now
         → IsRefusalForRoom result }

@@ -1,15 +1,9 @@
 //! The pages of a volume, as their user sees them: a finite map from page numbers to pages, beside the page of the catalog's root.
-ghost use Rattle.std.specs.Prelude.{◌≡◌, ◌⊎◌, ◌+◌, ◌^◌, is_some, IfSome, IsOkUnless, if◌then◌else◌, ◌<◌, ◌≤◌, ◌↔◌, Err, Some, None, true, false, replicate, List, [], length, slice_set, map, IsOk, IfOk, IfErr, OnOk, OnErr};
+ghost use Rattle.std.specs.Prelude.{◌≡◌, ◌⊎◌, ◌+◌, ◌^◌, is_some, IfSome, IsOkUnless, if◌then◌else◌, ◌<◌, ◌≤◌, Err, Some, None, true, false, replicate, List, [], length, map, IsOk, IfOk, OnOk, OnErr};
 ghost use Rattle.station.specs.Disk.{Sector};
-ghost use Rattle.station.specs.State.{state_after_sync};
-ghost use Rattle.station.specs.History.{Through};
 ghost use Rattle.station.specs.Calls.{OnlyReads};
-ghost use Rattle.station.specs.Failures.{Blames};
-ghost use Rattle.station.specs.Opening.{IsOpening};
-ghost use Rattle.pages.specs.Layout.{IsForeign, version_of};
-ghost use Rattle.pages.specs.Image.{Map, IsImageOf, IsDamaged, map_of};
-ghost use Rattle.pages.specs.Errors.{RefusesImage, IsOpenError, IsReadError, FailsWithError};
-ghost use Rattle.pages.specs.Changes.{ChangesPage};
+ghost use Rattle.pages.specs.Layout.{version_of};
+ghost use Rattle.pages.specs.Errors.{IsOpenError, IsReadError, FailsWithError};
 ghost use Rattle.pages.specs.Errors.{IsEditRefusal, IsAllocateRefusal, IsCommitRefusal};
 ghost use Rattle.pages.specs.Use.{free_count};
 
@@ -57,13 +51,17 @@ pub struct PageMap {
 }
 
 impl PageMap {
-    ghost use Rattle.pages.specs.Pages.{committed_of, map_now, page_of, changed_pages_of, filled_of, FillsPage, HasChanges, catalog_of, mark_of, is_spent, sectors_of, page_count, IsPage, HasEachPage, IsFull, Agrees, IsOpen, next_generation, SamePages, SameCommitted, IsUnchanged, KeepsCommitted, cache_of};
+    ghost use Rattle.pages.specs.Pages.{committed_of, map_now, page_of, changed_pages_of, filled_of, FillsPage, catalog_of, mark_of, is_spent, sectors_of, page_count, IsPage, IsFull, Agrees, IsOpen, SameCommitted, IsUnchanged, KeepsCommitted, cache_of};
     ghost use Rattle.std.specs.Map.{lookup};
     ghost use Rattle.std.specs.Prelude.{Ok, nat_eq, option_copied, Contains, IsSome};
     ghost use Rattle.lru.specs.LruCache.{lru_cache, promoted};
-    ghost use Rattle.pages.specs.Cache.{Recalls, Loads, cache_without};
+    ghost use Rattle.pages.specs.Cache.{Loads};
     ghost use Rattle.station.specs.Disk.{Disk};
-    ghost use Rattle.pages.specs.Commits.{map_on, IfDiskAgrees, IfUnchanged, IsAsCommitted, GathersChanges, LeavesOldOrNew, DoesNothing, KeepsConsole, IsRefusalForRoom};
+    ghost use Rattle.pages.specs.Commits.{map_on, IfDiskAgrees, IfUnchanged, IfUnspent, IfAtRest, IsAsCommitted, GathersChanges, KeepsAgreement, HoldsNew, KeepsPages, Advances, LeavesOldOrNew, DoesNothing, KeepsConsole, IsRefusalForRoom};
+    ghost use Rattle.pages.specs.Edits.{SameMap, SameChanges, SameFilled, SameMark, SameSectors, SameCache, SameCapacity, ReplacesPage, AddsChange, ForgetsPage, FillsAtMost, LacksPage, ReportsSpent, ReportsFull, IfFull};
+    ghost use Rattle.pages.specs.Reads.{IfChanged, IfCached, RecallsPage, IsPageReadRefusal};
+    ghost use Rattle.pages.specs.Opens.{IsJustOpened, HasFilled, HasCapacity, LeavesPossible, Syncs, SyncsAtMost, HoldsCommitted, RefusesDisk, IfHoldsMap, IfHoldsForeign, IfDamaged};
+    ghost use Rattle.pages.specs.Devices.{KeepsHonesty, KeepsSectors, BlamesDevice};
 
     /// Opens the volume of a device. It syncs first, and writes nothing. The cache holds at most `capacity` pages, from 1 to 4,096.
     pub fn open<D: Device>(
@@ -73,40 +71,30 @@ impl PageMap {
     ) -> Result<PageMap, PagesError>
         requires least { 1 ≤ capacity }
         requires most { capacity ≤ 4096 }
-        ensures honest { D.is_honest device.old ↔ D.is_honest device.new }
-        ensures sectors { D.sectors device.new ≡ D.sectors device.old }
-        ensures failures { Blames (result ≡ Err PagesError.Device) (D.failures device.old)
-            (D.failures device.new) }
+        ensures honest { KeepsHonesty D.Device device.old device.new }
+        ensures sectors { KeepsSectors D.Device device.old device.new }
+        ensures failures { BlamesDevice D.Device result device.old device.new }
 
         // Until it has succeeded, a crash leaves what was possible before.
-        ensures moments { D.is_honest device.old → Through (D.history device.old)
-            (D.history device.new) (D.state device.new) (IsOpening (D.state device.old)) }
-        ensures state { D.is_honest device.old
-            → OnOk result (D.state device.new ≡ state_after_sync (D.state device.old)) }
-        ensures unwritten { D.is_honest device.old
-            → OnErr result ((D.state device.new ≡ D.state device.old)
-            ⊎ (D.state device.new ≡ state_after_sync (D.state device.old))) }
+        ensures moments { LeavesPossible D.Device device.old device.new }
+        ensures state { Syncs D.Device result device.old device.new }
+        ensures unwritten { SyncsAtMost D.Device result device.old device.new }
 
         // The map is the one that the disk holds.
-        ensures agrees { D.is_honest device.old
-            → IfOk result (λ pages. Agrees pages (D.state device.new).disk) }
-        ensures map { IfOk result (λ pages. (image : List Sector)
-            → map_now pages image ≡ map_of image (committed_of pages)) }
-        ensures ready { IfOk result (λ pages. IsOpen pages × (is_spent pages ≡ false)
-            × (sectors_of pages ≤ D.sectors device.old) × (changed_pages_of pages ≡ [])) }
-        ensures filled { IfOk result (λ pages. filled_of pages ≡ 0) }
-        ensures cache { IfOk result (λ pages. (cache_of pages).cap ≡ capacity) }
+        ensures agrees { HoldsCommitted D.Device result device.old device.new }
+        ensures map { IfOk result IsAsCommitted }
+        ensures ready { IfOk result (IsJustOpened (D.sectors device.old)) }
+        ensures filled { IfOk result (HasFilled 0) }
+        ensures cache { IfOk result (HasCapacity capacity) }
 
         // Where neither the device nor memory fails, it opens exactly what holds a map, and answers `ForeignMark` exactly where the
         // newest root is another format's, and `Damaged` otherwise.
-        ensures refused { D.is_honest device.old
-            → IfErr result (λ error. RefusesImage (D.state device.old).disk.present error) }
-        ensures opens { D.is_honest device.old → (m : Map)
-            → IsImageOf (D.state device.old).disk.present m → IsReadError result }
-        ensures foreign { D.is_honest device.old → IsForeign (D.state device.old).disk.present
-            → FailsWithError PagesError.ForeignMark result }
-        ensures damaged { D.is_honest device.old → IsDamaged (D.state device.old).disk.present
-            → FailsWithError PagesError.Damaged result }
+        ensures refused { RefusesDisk D.Device result device.old }
+        ensures opens { IfHoldsMap D.Device device.old (IsReadError result) }
+        ensures foreign { IfHoldsForeign D.Device device.old
+            (FailsWithError PagesError.ForeignMark result) }
+        ensures damaged { IfDamaged D.Device device.old
+            (FailsWithError PagesError.Damaged result) }
         ensures cause { IsOpenError result }
     {
         let volume = open_volume(alloc, device)?;
@@ -260,31 +248,26 @@ impl PageMap {
         requires open { IsOpen self.old }
         requires sectors { sectors_of self.old ≤ D.sectors device.old }
         ensures only { OnlyReads D.Device (result ≡ Err PagesError.Device) device.old device.new }
-        ensures page { D.is_honest device.old
-            → Agrees self.old (D.state device.old).disk → IfOk result
-            (λ bytes. bytes ≡ page_of (map_now self.old (D.state device.old).disk.present) page) }
+        ensures page { IfDiskAgrees D.Device self.old device.old (IfOk result
+            (λ bytes. bytes ≡ page_of (map_on D.Device self.old device.old) page)) }
 
         // The map stays, and what is known of it. A refusal changes nothing.
         ensures unchanged { IsUnchanged self.old self.new }
-        ensures agrees { D.is_honest device.old → Agrees self.old (D.state device.old).disk
-            → Agrees self.new (D.state device.new).disk }
+        ensures agrees { KeepsAgreement D.Device self.old self.new device.old device.new }
         ensures open { IsOpen self.new }
         ensures err { OnErr result (self.new ≡ self.old) }
 
         // A page in memory is answered without the device, and so is none. The cache has another as its most recently used one, if memory has a place for it.
-        ensures changed { Contains (changed_pages_of self.old) page
-            → (device.new ≡ device.old) × (self.new ≡ self.old) }
+        ensures changed { IfChanged self.old page
+            ((device.new ≡ device.old) × (self.new ≡ self.old)) }
         ensures absent { result ≡ Ok None → device.new ≡ device.old }
-        ensures hit { IsSome (lookup (nat_eq page) (cache_of self.old).entries)
-            → device.new ≡ device.old }
-        ensures recalls { (Contains (changed_pages_of self.old) page → ⊥)
-            → IfOk result (λ bytes. Recalls page bytes (cache_of self.old) (cache_of self.new)) }
-        ensures capacity { (cache_of self.new).cap ≡ (cache_of self.old).cap }
+        ensures hit { IfCached self.old page (device.new ≡ device.old) }
+        ensures recalls { RecallsPage self.old self.new page result }
+        ensures capacity { SameCapacity self.old self.new }
 
         // `Spent` comes exactly where the value is spent, and otherwise the device alone refuses.
-        ensures spent { result ≡ Err PagesError.Spent ↔ is_spent self.old ≡ true }
-        ensures cause { OnErr result
-            ((result ≡ Err PagesError.Device) ⊎ (result ≡ Err PagesError.Spent)) }
+        ensures spent { ReportsSpent self.old result }
+        ensures cause { IsPageReadRefusal result }
     {
         if self.spent {
             return Err(PagesError::Spent);
@@ -312,23 +295,21 @@ impl PageMap {
         requires open { IsOpen self.now }
         requires sectors { sectors_of self.now ≤ D.sectors device.old }
         ensures only { OnlyReads D.Device (result ≡ Err PagesError.Device) device.old device.new }
-        ensures page { D.is_honest device.old → Agrees self.now (D.state device.old).disk → IfOk
-            result (λ is_there. page_of (map_now self.now (D.state device.old).disk.present) page
-            ≡ (if is_there then Some bytes.new else None)) }
+        ensures page { IfDiskAgrees D.Device self.now device.old (IfOk result
+            (λ is_there. page_of (map_on D.Device self.now device.old) page
+            ≡ (if is_there then Some bytes.new else None))) }
 
         // A page in memory is read without the device, and so is none.
-        ensures changed { Contains (changed_pages_of self.now) page → device.new ≡ device.old }
-        ensures hit { IsSome (lookup (nat_eq page) (cache_of self.now).entries)
-            → device.new ≡ device.old }
+        ensures changed { IfChanged self.now page (device.new ≡ device.old) }
+        ensures hit { IfCached self.now page (device.new ≡ device.old) }
         ensures absent { result ≡ Ok false
             → (device.new ≡ device.old) × (bytes.new ≡ bytes.old) }
 
         // `Spent` comes exactly where the value is spent, and otherwise the device alone refuses.
-        ensures spent { result ≡ Err PagesError.Spent ↔ is_spent self.now ≡ true }
+        ensures spent { ReportsSpent self.now result }
         ensures kept { result ≡ Err PagesError.Spent
             → (device.new ≡ device.old) × (bytes.new ≡ bytes.old) }
-        ensures cause { OnErr result
-            ((result ≡ Err PagesError.Device) ⊎ (result ≡ Err PagesError.Spent)) }
+        ensures cause { IsPageReadRefusal result }
     {
         if self.spent {
             return Err(PagesError::Spent);
@@ -356,24 +337,22 @@ impl PageMap {
 
         // The map stays, and what is known of it. A refusal leaves the cache too.
         ensures unchanged { IsUnchanged self.old self.new }
-        ensures agrees { D.is_honest device.old → Agrees self.old (D.state device.old).disk
-            → Agrees self.new (D.state device.new).disk }
+        ensures agrees { KeepsAgreement D.Device self.old self.new device.old device.new }
         ensures open { IsOpen self.new }
-        ensures err { OnErr result (cache_of self.new ≡ cache_of self.old) }
+        ensures err { OnErr result (SameCache self.old self.new) }
 
         // What is in memory stays as it is, and the device isn't asked. Nor is it for a page that the map hasn't, and the cache stays.
-        ensures changed { Contains (changed_pages_of self.old) page
-            → (device.new ≡ device.old) × (self.new ≡ self.old) }
-        ensures hit { IsSome (lookup (nat_eq page) (cache_of self.old).entries)
-            → (device.new ≡ device.old) × (self.new ≡ self.old) }
+        ensures changed { IfChanged self.old page
+            ((device.new ≡ device.old) × (self.new ≡ self.old)) }
+        ensures hit { IfCached self.old page
+            ((device.new ≡ device.old) × (self.new ≡ self.old)) }
         ensures absent { (image : List Sector) → page_of (map_now self.old image) page ≡ None
-            → (device.new ≡ device.old) × (cache_of self.new ≡ cache_of self.old) }
+            → (device.new ≡ device.old) × SameCache self.old self.new }
         ensures loads { Loads page (cache_of self.old) (cache_of self.new) }
 
         // `Spent` comes exactly where the value is spent, and otherwise the device alone refuses.
-        ensures spent { result ≡ Err PagesError.Spent ↔ is_spent self.old ≡ true }
-        ensures cause { OnErr result
-            ((result ≡ Err PagesError.Device) ⊎ (result ≡ Err PagesError.Spent)) }
+        ensures spent { ReportsSpent self.old result }
+        ensures cause { IsPageReadRefusal result }
     {
         if self.spent {
             return Err(PagesError::Spent);
@@ -429,22 +408,19 @@ impl PageMap {
     pub fn edit(&mut self, page: u32, bytes: &[u8; 4096]) -> Result<(), PagesError>
         requires open { IsOpen self.old }
         requires page { IsPage self.old page }
-        ensures map { OnOk result ((image : List Sector) → (map_now self.new image).pages
-            ≡ slice_set (map_now self.old image).pages page (Some bytes.now)) }
-        ensures changes_page { OnOk result
-            (ChangesPage (changed_pages_of self.old) page (changed_pages_of self.new)) }
-        ensures unchanged { OnErr result (changed_pages_of self.new ≡ changed_pages_of self.old) }
-        ensures filled { filled_of self.new ≤ filled_of self.old + 1 }
-        ensures fills { OnOk result (FillsPage self.old page self.new) }
-        ensures unfilled { OnErr result (filled_of self.new ≡ filled_of self.old) }
-        ensures err { OnErr result
-            ((image : List Sector) → map_now self.new image ≡ map_now self.old image) }
-        ensures capacity { (cache_of self.new).cap ≡ (cache_of self.old).cap }
-        ensures forgets { OnOk result (cache_of self.new ≡ cache_without page (cache_of self.old)) }
-        ensures cache { OnErr result (cache_of self.new ≡ cache_of self.old) }
+        ensures map { OnOk result (ReplacesPage (Some bytes.now) self.old self.new page) }
+        ensures changes_page { OnOk result (AddsChange self.old self.new page) }
+        ensures unchanged { OnErr result (SameChanges self.old self.new) }
+        ensures filled { FillsAtMost 1 self.old self.new }
+        ensures fills { OnOk result (FillsPage self.old self.new page) }
+        ensures unfilled { OnErr result (SameFilled self.old self.new) }
+        ensures err { OnErr result (SameMap self.old self.new) }
+        ensures capacity { SameCapacity self.old self.new }
+        ensures forgets { OnOk result (ForgetsPage self.old self.new page) }
+        ensures cache { OnErr result (SameCache self.old self.new) }
         ensures keeps { KeepsCommitted self.old self.new }
         ensures cause { IsEditRefusal result }
-        ensures spent { (result ≡ Err PagesError.Spent) ↔ (is_spent self.old ≡ true) }
+        ensures spent { ReportsSpent self.old result }
     {
         if self.spent {
             return Err(PagesError::Spent);
@@ -463,26 +439,23 @@ impl PageMap {
         requires page { IsPage self.old page }
 
         // After `Ok` the page has these bytes.
-        ensures map { OnOk result ((image : List Sector) → (map_now self.new image).pages
-            ≡ slice_set (map_now self.old image).pages page (Some bytes.now)) }
-        ensures changes_page { OnOk result
-            (ChangesPage (changed_pages_of self.old) page (changed_pages_of self.new)) }
-        ensures fills { OnOk result (FillsPage self.old page self.new) }
-        ensures forgets { OnOk result (cache_of self.new ≡ cache_without page (cache_of self.old)) }
+        ensures map { OnOk result (ReplacesPage (Some bytes.now) self.old self.new page) }
+        ensures changes_page { OnOk result (AddsChange self.old self.new page) }
+        ensures fills { OnOk result (FillsPage self.old self.new page) }
+        ensures forgets { OnOk result (ForgetsPage self.old self.new page) }
 
         // A refusal changes nothing.
-        ensures err { OnErr result
-            ((image : List Sector) → map_now self.new image ≡ map_now self.old image) }
-        ensures unchanged { OnErr result (changed_pages_of self.new ≡ changed_pages_of self.old) }
-        ensures unfilled { OnErr result (filled_of self.new ≡ filled_of self.old) }
-        ensures cache { OnErr result (cache_of self.new ≡ cache_of self.old) }
+        ensures err { OnErr result (SameMap self.old self.new) }
+        ensures unchanged { OnErr result (SameChanges self.old self.new) }
+        ensures unfilled { OnErr result (SameFilled self.old self.new) }
+        ensures cache { OnErr result (SameCache self.old self.new) }
 
         // Whatever the result is.
-        ensures filled { filled_of self.new ≤ filled_of self.old + 1 }
-        ensures capacity { (cache_of self.new).cap ≡ (cache_of self.old).cap }
+        ensures filled { FillsAtMost 1 self.old self.new }
+        ensures capacity { SameCapacity self.old self.new }
         ensures keeps { KeepsCommitted self.old self.new }
         ensures cause { IsEditRefusal result }
-        ensures spent { (result ≡ Err PagesError.Spent) ↔ (is_spent self.old ≡ true) }
+        ensures spent { ReportsSpent self.old result }
     {
         if self.spent {
             return Err(PagesError::Spent);
@@ -497,33 +470,27 @@ impl PageMap {
         requires open { IsOpen self.old }
 
         // After `Ok` the page has these bytes.
-        ensures page { IfOk result (λ page. IsPage self.old page) }
-        ensures unused { IfOk result
-            (λ page. (image : List Sector) → page_of (map_now self.old image) page ≡ None) }
-        ensures map { IfOk result (λ page. (image : List Sector) → (map_now self.new image).pages
-            ≡ slice_set (map_now self.old image).pages page (Some bytes.now)) }
-        ensures changes_page { IfOk result
-            (λ page. ChangesPage (changed_pages_of self.old) page (changed_pages_of self.new)) }
-        ensures fills { IfOk result (λ page. FillsPage self.old page self.new) }
-        ensures forgets { IfOk result
-            (λ page. cache_of self.new ≡ cache_without page (cache_of self.old)) }
+        ensures page { IfOk result (IsPage self.old) }
+        ensures unused { IfOk result (LacksPage self.old) }
+        ensures map { IfOk result (ReplacesPage (Some bytes.now) self.old self.new) }
+        ensures changes_page { IfOk result (AddsChange self.old self.new) }
+        ensures fills { IfOk result (FillsPage self.old self.new) }
+        ensures forgets { IfOk result (ForgetsPage self.old self.new) }
 
         // A refusal changes nothing.
-        ensures err { OnErr result
-            ((image : List Sector) → map_now self.new image ≡ map_now self.old image) }
-        ensures unchanged { OnErr result (changed_pages_of self.new ≡ changed_pages_of self.old) }
-        ensures unfilled { OnErr result (filled_of self.new ≡ filled_of self.old) }
-        ensures cache { OnErr result (cache_of self.new ≡ cache_of self.old) }
-        ensures same { result ≡ Err PagesError.Full → self.new ≡ self.old }
+        ensures err { OnErr result (SameMap self.old self.new) }
+        ensures unchanged { OnErr result (SameChanges self.old self.new) }
+        ensures unfilled { OnErr result (SameFilled self.old self.new) }
+        ensures cache { OnErr result (SameCache self.old self.new) }
+        ensures same { IfFull result (self.new ≡ self.old) }
 
         // Whatever the result is.
-        ensures filled { filled_of self.new ≤ filled_of self.old + 1 }
-        ensures capacity { (cache_of self.new).cap ≡ (cache_of self.old).cap }
+        ensures filled { FillsAtMost 1 self.old self.new }
+        ensures capacity { SameCapacity self.old self.new }
         ensures keeps { KeepsCommitted self.old self.new }
-        ensures full { is_spent self.old ≡ false
-            → (result ≡ Err PagesError.Full) ↔ HasEachPage self.old }
+        ensures full { ReportsFull self.old result }
         ensures cause { IsAllocateRefusal result }
-        ensures spent { (result ≡ Err PagesError.Spent) ↔ (is_spent self.old ≡ true) }
+        ensures spent { ReportsSpent self.old result }
     {
         let page = self.find_unused()?;
         self.edit_past(page, bytes)?;
@@ -532,32 +499,27 @@ impl PageMap {
         Ok(page)
     }
 
-    /// A page that wasn't in the map comes into it, with zeros. `Full` tells that there is no unused page number.
+    /// A page that wasn't in the map comes into it, with zeros. `Full` means that there is no unused page number.
     pub fn allocate(&mut self) -> Result<u32, PagesError>
         requires open { IsOpen self.old }
-        ensures page { IfOk result (λ page. IsPage self.old page) }
-        ensures unused { IfOk result
-            (λ page. (image : List Sector) → page_of (map_now self.old image) page ≡ None) }
-        ensures map { IfOk result (λ page. (image : List Sector) → (map_now self.new image).pages
-            ≡ slice_set (map_now self.old image).pages page (Some (replicate 4096 0))) }
-        ensures changes_page { IfOk result
-            (λ page. ChangesPage (changed_pages_of self.old) page (changed_pages_of self.new)) }
-        ensures unchanged { OnErr result (changed_pages_of self.new ≡ changed_pages_of self.old) }
-        ensures filled { filled_of self.new ≤ filled_of self.old + 1 }
-        ensures fills { IfOk result (λ page. FillsPage self.old page self.new) }
-        ensures unfilled { OnErr result (filled_of self.new ≡ filled_of self.old) }
-        ensures err { OnErr result
-            ((image : List Sector) → map_now self.new image ≡ map_now self.old image) }
-        ensures capacity { (cache_of self.new).cap ≡ (cache_of self.old).cap }
-        ensures forgets { IfOk result
-            (λ page. cache_of self.new ≡ cache_without page (cache_of self.old)) }
-        ensures cache { OnErr result (cache_of self.new ≡ cache_of self.old) }
+        ensures page { IfOk result (IsPage self.old) }
+        ensures unused { IfOk result (LacksPage self.old) }
+        ensures map { IfOk result
+            (ReplacesPage (Some (replicate 4096 0)) self.old self.new) }
+        ensures changes_page { IfOk result (AddsChange self.old self.new) }
+        ensures unchanged { OnErr result (SameChanges self.old self.new) }
+        ensures filled { FillsAtMost 1 self.old self.new }
+        ensures fills { IfOk result (FillsPage self.old self.new) }
+        ensures unfilled { OnErr result (SameFilled self.old self.new) }
+        ensures err { OnErr result (SameMap self.old self.new) }
+        ensures capacity { SameCapacity self.old self.new }
+        ensures forgets { IfOk result (ForgetsPage self.old self.new) }
+        ensures cache { OnErr result (SameCache self.old self.new) }
         ensures keeps { KeepsCommitted self.old self.new }
-        ensures full { is_spent self.old ≡ false
-            → (result ≡ Err PagesError.Full) ↔ HasEachPage self.old }
-        ensures same { result ≡ Err PagesError.Full → self.new ≡ self.old }
+        ensures full { ReportsFull self.old result }
+        ensures same { IfFull result (self.new ≡ self.old) }
         ensures cause { IsAllocateRefusal result }
-        ensures spent { (result ≡ Err PagesError.Spent) ↔ (is_spent self.old ≡ true) }
+        ensures spent { ReportsSpent self.old result }
     {
         let page = self.find_unused()?;
         self.edit(page, &[0; 4096])?;
@@ -570,21 +532,18 @@ impl PageMap {
     pub fn release(&mut self, page: u32) -> Result<(), PagesError>
         requires open { IsOpen self.old }
         requires page { IsPage self.old page }
-        ensures map { OnOk result ((image : List Sector)
-            → (map_now self.new image).pages ≡ slice_set (map_now self.old image).pages page None) }
-        ensures changes_page { OnOk result
-            (ChangesPage (changed_pages_of self.old) page (changed_pages_of self.new)) }
-        ensures unchanged { OnErr result (changed_pages_of self.new ≡ changed_pages_of self.old) }
+        ensures map { OnOk result (ReplacesPage None self.old self.new page) }
+        ensures changes_page { OnOk result (AddsChange self.old self.new page) }
+        ensures unchanged { OnErr result (SameChanges self.old self.new) }
         ensures filled { filled_of self.new ≤ filled_of self.old }
-        ensures unfilled { OnErr result (filled_of self.new ≡ filled_of self.old) }
-        ensures err { OnErr result
-            ((image : List Sector) → map_now self.new image ≡ map_now self.old image) }
-        ensures capacity { (cache_of self.new).cap ≡ (cache_of self.old).cap }
-        ensures forgets { OnOk result (cache_of self.new ≡ cache_without page (cache_of self.old)) }
-        ensures cache { OnErr result (cache_of self.new ≡ cache_of self.old) }
+        ensures unfilled { OnErr result (SameFilled self.old self.new) }
+        ensures err { OnErr result (SameMap self.old self.new) }
+        ensures capacity { SameCapacity self.old self.new }
+        ensures forgets { OnOk result (ForgetsPage self.old self.new page) }
+        ensures cache { OnErr result (SameCache self.old self.new) }
         ensures keeps { KeepsCommitted self.old self.new }
         ensures cause { IsEditRefusal result }
-        ensures spent { (result ≡ Err PagesError.Spent) ↔ (is_spent self.old ≡ true) }
+        ensures spent { ReportsSpent self.old result }
     {
         self.change(page, None)?;
         forget_run(&mut self.passed, page);
@@ -597,12 +556,10 @@ impl PageMap {
     /// A page number that isn't used.
     fn find_unused(&self) -> Result<u32, PagesError>
         requires { IsOpen self.now }
-        ensures page { IfOk result (λ page. IsPage self.now page) }
-        ensures unused { IfOk result
-            (λ page. (image : List Sector) → page_of (map_now self.now image) page ≡ None) }
-        ensures full { is_spent self.now ≡ false
-            → (result ≡ Err PagesError.Full) ↔ HasEachPage self.now }
-        ensures spent { (result ≡ Err PagesError.Spent) ↔ (is_spent self.now ≡ true) }
+        ensures page { IfOk result (IsPage self.now) }
+        ensures unused { IfOk result (LacksPage self.now) }
+        ensures full { ReportsFull self.now result }
+        ensures spent { ReportsSpent self.now result }
         ensures cause { OnErr result
             ((result ≡ Err PagesError.Full) ⊎ (result ≡ Err PagesError.Spent)) }
     {
@@ -625,23 +582,20 @@ impl PageMap {
     fn change(&mut self, page: u32, bytes: Option<PageBytes>) -> Result<(), PagesError>
         requires open { IsOpen self.old }
         requires page { IsPage self.old page }
-        ensures map { OnOk result ((image : List Sector) → (map_now self.new image).pages
-            ≡ slice_set (map_now self.old image).pages page bytes) }
-        ensures changes_page { OnOk result
-            (ChangesPage (changed_pages_of self.old) page (changed_pages_of self.new)) }
-        ensures unchanged { OnErr result (changed_pages_of self.new ≡ changed_pages_of self.old) }
-        ensures filled { filled_of self.new
-            ≤ filled_of self.old + (if is_some bytes then 1 else 0) }
-        ensures fills { OnOk result (IfSome bytes (λ _. FillsPage self.old page self.new)) }
-        ensures unfilled { OnErr result (filled_of self.new ≡ filled_of self.old) }
-        ensures err { OnErr result
-            ((image : List Sector) → map_now self.new image ≡ map_now self.old image) }
-        ensures capacity { (cache_of self.new).cap ≡ (cache_of self.old).cap }
-        ensures forgets { OnOk result (cache_of self.new ≡ cache_without page (cache_of self.old)) }
-        ensures cache { OnErr result (cache_of self.new ≡ cache_of self.old) }
         ensures keeps { KeepsCommitted self.old self.new }
         ensures cause { IsEditRefusal result }
-        ensures spent { (result ≡ Err PagesError.Spent) ↔ (is_spent self.old ≡ true) }
+        ensures map { OnOk result (ReplacesPage bytes self.old self.new page) }
+        ensures changes_page { OnOk result (AddsChange self.old self.new page) }
+        ensures unchanged { OnErr result (SameChanges self.old self.new) }
+        ensures filled { filled_of self.new
+            ≤ filled_of self.old + (if is_some bytes then 1 else 0) }
+        ensures fills { OnOk result (IfSome bytes (λ _. FillsPage self.old self.new page)) }
+        ensures unfilled { OnErr result (SameFilled self.old self.new) }
+        ensures err { OnErr result (SameMap self.old self.new) }
+        ensures capacity { SameCapacity self.old self.new }
+        ensures forgets { OnOk result (ForgetsPage self.old self.new page) }
+        ensures cache { OnErr result (SameCache self.old self.new) }
+        ensures spent { ReportsSpent self.old result }
     {
         if self.spent {
             return Err(PagesError::Spent);
@@ -657,21 +611,18 @@ impl PageMap {
         requires page { IsPage self.old page }
         requires unspent { is_spent self.old ≡ false }
         requires cached { IsSome (lookup (nat_eq page) (cache_of self.old).entries) }
-        ensures map { OnOk result ((image : List Sector) → (map_now self.new image).pages
-            ≡ slice_set (map_now self.old image).pages page (Some bytes.now)) }
-        ensures changes_page { OnOk result
-            (ChangesPage (changed_pages_of self.old) page (changed_pages_of self.new)) }
-        ensures unchanged { OnErr result (changed_pages_of self.new ≡ changed_pages_of self.old) }
-        ensures filled { filled_of self.new ≤ filled_of self.old + 1 }
-        ensures fills { OnOk result (FillsPage self.old page self.new) }
-        ensures unfilled { OnErr result (filled_of self.new ≡ filled_of self.old) }
-        ensures err { OnErr result
-            ((image : List Sector) → map_now self.new image ≡ map_now self.old image) }
-        ensures capacity { (cache_of self.new).cap ≡ (cache_of self.old).cap }
-        ensures forgets { OnOk result (cache_of self.new ≡ cache_without page (cache_of self.old)) }
-        ensures cache { OnErr result (cache_of self.new ≡ cache_of self.old) }
-        ensures keeps { KeepsCommitted self.old self.new }
         ensures cause { IsOkUnless result PagesError.Memory }
+        ensures keeps { KeepsCommitted self.old self.new }
+        ensures map { OnOk result (ReplacesPage (Some bytes.now) self.old self.new page) }
+        ensures changes_page { OnOk result (AddsChange self.old self.new page) }
+        ensures unchanged { OnErr result (SameChanges self.old self.new) }
+        ensures filled { FillsAtMost 1 self.old self.new }
+        ensures fills { OnOk result (FillsPage self.old self.new page) }
+        ensures unfilled { OnErr result (SameFilled self.old self.new) }
+        ensures err { OnErr result (SameMap self.old self.new) }
+        ensures capacity { SameCapacity self.old self.new }
+        ensures forgets { OnOk result (ForgetsPage self.old self.new page) }
+        ensures cache { OnErr result (SameCache self.old self.new) }
     {
         reserve_change(&mut self.changes, &mut self.places)?;
         let kept = take_page(&mut self.cache, page, bytes);
@@ -684,52 +635,45 @@ impl PageMap {
     pub fn commit<D: Device>(&mut self, device: &mut D) -> Result<(), PagesError>
         requires open { IsOpen self.old }
         requires sectors { sectors_of self.old ≤ D.sectors device.old }
-        ensures honest { D.is_honest device.old ↔ D.is_honest device.new }
-        ensures sectors { D.sectors device.new ≡ D.sectors device.old }
-        ensures failures { Blames (result ≡ Err PagesError.Device) (D.failures device.old)
-            (D.failures device.new) }
+        ensures honest { KeepsHonesty D.Device device.old device.new }
+        ensures sectors { KeepsSectors D.Device device.old device.new }
+        ensures failures { BlamesDevice D.Device result device.old device.new }
         ensures console { KeepsConsole D.Device device.old device.new }
 
         // At each moment a crash leaves the map of the last commit, or this one.
         ensures moments { LeavesOldOrNew D.Device self.old device.old device.new }
 
         // After `Ok` the disk holds this one.
-        ensures agrees { IfDiskAgrees D.Device self.old device.old
-            (OnOk result (Agrees self.new (D.state device.new).disk)) }
-        ensures map { IfDiskAgrees D.Device self.old device.old (OnOk result (SamePages
-            (map_on D.Device self.old device.old) (map_on D.Device self.new device.new))) }
+        ensures agrees { HoldsNew D.Device result self.old self.new device.old device.new }
+        ensures map { KeepsPages D.Device result self.old self.new device.old device.new }
         ensures committed { OnOk result (IsAsCommitted self.new) }
         ensures changed_pages { OnOk result (changed_pages_of self.new ≡ []) }
         ensures filled { OnOk result (filled_of self.new ≡ 0) }
-        ensures mark { mark_of self.new ≡ mark_of self.old }
+        ensures mark { SameMark self.old self.new }
         ensures unspent { OnOk result (is_spent self.new ≡ false) }
 
         // Where something was changed, it is the map of the next generation, and else nothing is other than before.
-        ensures advances { IfDiskAgrees D.Device self.old device.old (HasChanges self.old
-            → OnOk result (map_on D.Device self.new device.new
-            ≡ next_generation (map_on D.Device self.old device.old))) }
-        ensures rests { (HasChanges self.old → ⊥) → is_spent self.old ≡ false
-            → self.new ≡ self.old }
+        ensures advances { Advances D.Device result self.old self.new device.old device.new }
+        ensures rests { IfAtRest self.old (self.new ≡ self.old) }
 
         // With nothing changed nothing is done.
         ensures nothing { IfUnchanged self.old (DoesNothing D.Device device.old device.new) }
-        ensures idle { is_spent self.old ≡ false → IfUnchanged self.old (IsOk result) }
+        ensures idle { IfUnspent self.old (IfUnchanged self.old (IsOk result)) }
 
-        // `Full` tells that too few sectors are free, or that no generation is left, and then nothing was done.
-        ensures full { result ≡ Err PagesError.Full → IsFull self.old }
-        ensures told { is_spent self.old ≡ false → IsFull self.old → IsRefusalForRoom result }
-        ensures unchanged { result ≡ Err PagesError.Full
-            → DoesNothing D.Device device.old device.new }
+        // `Full` means that too few sectors are free, or that no generation is left, and then nothing was done.
+        ensures full { IfFull result (IsFull self.old) }
+        ensures told { IfUnspent self.old (IsFull self.old → IsRefusalForRoom result) }
+        ensures unchanged { IfFull result (DoesNothing D.Device device.old device.new) }
         ensures open { IsOpen self.new }
-        ensures same_sectors { sectors_of self.new ≡ sectors_of self.old }
+        ensures same_sectors { SameSectors self.old self.new }
         ensures refused { OnErr result (is_spent self.new ≡ true) }
         ensures cause { IsCommitRefusal result }
-        ensures spent { (result ≡ Err PagesError.Spent) ↔ (is_spent self.old ≡ true) }
+        ensures spent { ReportsSpent self.old result }
 
         // The pages that were changed come into the cache, so far as memory and its capacity allow.
         ensures gathers { OnOk result (GathersChanges self.old self.new) }
-        ensures cache { OnErr result (cache_of self.new ≡ cache_of self.old) }
-        ensures capacity { (cache_of self.new).cap ≡ (cache_of self.old).cap }
+        ensures cache { OnErr result (SameCache self.old self.new) }
+        ensures capacity { SameCapacity self.old self.new }
     {
         if self.spent {
             return Err(PagesError::Spent);

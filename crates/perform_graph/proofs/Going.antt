@@ -11,10 +11,10 @@ use Rattle.perform_graph.specs.declared.progress.Progress.TheVariants.{Unseen, O
 use Rattle.perform_graph.specs.declared.visit.Visit.{Visit}
 use Rattle.perform_graph.specs.Grouped.{IsGrouped}
 use Rattle.perform_graph.specs.Walk.{AllPlaced, Advances, PerformsVisit, IsWalkState, IsLaterWalkState, is_placed}
-use Rattle.perform_graph.specs.Walk.{is_seen, state, weight}
+use Rattle.perform_graph.specs.Walk.{HasNext, is_seen, state, weight}
 use Rattle.perform_graph.proofs.Lists.{pushed_cases}
-use Rattle.perform_graph.proofs.States.{count_more, less_ahead, seen_kept}
-use Rattle.perform_graph.proofs.Steps.{last_open, last_within, placed_stands, entered_stands}
+use Rattle.perform_graph.proofs.States.{count_more, less_ahead, seen_kept, seen_here, is_unseen}
+use Rattle.perform_graph.proofs.Steps.{last_open, last_within, placed_stands, entered_stands, moved_stands}
 use Rattle.perform_graph.proofs.Groups.{begun}
 
 -- the same walk, by equal parts
@@ -72,7 +72,7 @@ module _ (performed : List PerformedRange) (states new : List Progress) (path la
     → PerformsVisit performed one visit)
     (new_is : new ≡ set states visit.paragraph (Open (length path))) (later_is : later ≡ path ++ visit ∷ [])
     (now_is : now ≡ placed) where
-  pub entered_on : IsLaterWalkState performed states new later now
+  entered_on : IsLaterWalkState performed states new later now
   entered_on =
       let heavy = ap weight unseen in
       record {
@@ -84,7 +84,7 @@ module _ (performed : List PerformedRange) (states new : List Progress) (path la
       }
 
 -- only the last visit of a path is at its end
-pub only_last_leads : (performed : List PerformedRange) (path middle : List Visit) (next visit : Visit)
+only_last_leads : (performed : List PerformedRange) (path middle : List Visit) (next visit : Visit)
     → middle ≡ path ++ next ∷ [] → PerformsVisit performed next visit
     → (depth : ℕ) (one : Visit) → depth + 1 ≡ length middle → slice_get middle depth ≡ Some one
     → PerformsVisit performed one visit
@@ -95,3 +95,55 @@ only_last_leads performed path middle next visit e leads depth one end at =
           (let below = slice_get_within path depth one h in let pushed = length_push path next in absurd (omega arith))
       | inr h ↦ subst (λ v. PerformsVisit performed v visit) (sym h.1) leads
     ]
+
+-- A visit begins at a paragraph that wasn't seen.
+module _ (performed : List PerformedRange) (states new : List Progress) (path later : List Visit) (placed now : ℕ)
+    (visit : Visit) (last before : List (Option ℕ)) (paragraph : ℕ)
+    (grouped : IsGrouped (length states) performed last before) (stands : IsWalkState performed states path placed)
+    (same : visit.paragraph ≡ paragraph) (within : paragraph < length states)
+    (unseen : state states paragraph ≡ Unseen) (at : visit.at ≡ get_or last paragraph None) (next : visit.next ≡ 0)
+    (leads : (depth : ℕ) (one : Visit) → depth + 1 ≡ length path → slice_get path depth ≡ Some one
+    → PerformsVisit performed one visit)
+    (new_is : new ≡ set states visit.paragraph (Open (length path))) (later_is : later ≡ path ++ visit ∷ [])
+    (now_is : now ≡ placed) where
+  visit_begun : IsLaterWalkState performed states new later now
+  visit_begun =
+      entered_on performed states new path later placed now visit last before grouped stands
+      (subst (λ p. p < length states) (sym same) within) (ap (state states) same ∙ unseen)
+      (at ∙ ap (λ p. get_or last p None) (sym same)) next leads new_is later_is now_is
+
+-- a walk begins at its root
+pub walk_begun : (performed : List PerformedRange) (states new : List Progress) (path later : List Visit)
+    (placed now : ℕ) (visit : Visit) (last before : List (Option ℕ)) (root : ℕ)
+    → IsGrouped (length states) performed last before → path ≡ [] → IsWalkState performed states [] placed
+    → visit.paragraph ≡ root → root < length states → state states root ≡ Unseen → visit.at ≡ get_or last root None
+    → visit.next ≡ 0 → new ≡ set states visit.paragraph (Open (length path)) → later ≡ path ++ visit ∷ []
+    → now ≡ placed → IsLaterWalkState performed states new later now × (is_seen (state new root) ≡ true)
+walk_begun performed states new path later placed now visit last before root grouped empty stands same within unseen at
+    next new_is later_is now_is =
+    let none = ap (λ (l : List Visit). length l) empty in
+    let stands' = subst (λ p. IsWalkState performed states p placed) (sym empty) stands in
+    let here = seen_here states new visit.paragraph (Open (length path))
+    (subst (λ p. p < length states) (sym same) within) refl new_is in (
+      visit_begun performed states new path later placed now visit last before root grouped stands' same within unseen
+          at
+          next (λ depth one end e. absurd (omega (arith, end, none))) new_is later_is now_is,
+      ap (λ p. is_seen (state new p)) (sym same) ∙ here,
+    )
+
+-- a walk goes on from its last visit to a paragraph that this one performs
+pub walk_further : (performed : List PerformedRange) (states new : List Progress) (path middle later : List Visit)
+    (placed now : ℕ) (visit next begun : Visit) (last before : List (Option ℕ))
+    → IsGrouped (length states) performed last before → IsWalkState performed states (path ++ visit ∷ []) placed
+    → HasNext performed states visit.paragraph next → ((depth : ℕ) → state states next.next ≡ Open depth → ⊥)
+    → begun.paragraph ≡ next.next → begun.at ≡ get_or last next.next None → begun.next ≡ 0
+    → middle ≡ path ++ next ∷ [] → new ≡ set states begun.paragraph (Open (length middle))
+    → later ≡ middle ++ begun ∷ [] → now ≡ placed → IsLaterWalkState performed states new later now
+walk_further performed states new path middle later placed now visit next begun last before grouped stands has closed
+    same at first middle_is new_is later_is now_is =
+    let moved = moved_stands performed states path placed visit next stands has.same has.over in
+    visit_begun performed states new middle later placed now begun last before next.next grouped
+    (subst (λ p. IsWalkState performed states p placed) (sym middle_is) moved) same has.within
+    (is_unseen (state states next.next) has.unplaced closed) at first
+    (only_last_leads performed path middle next begun middle_is (record { leads = has.leads; next = sym same })) new_is
+    later_is now_is

@@ -85,7 +85,7 @@ module _ (count : ℕ) (performed : List PerformedRange) (end : ℕ) (last befor
             (sym same) (grouped.each_last one.performer within))))
       ]
 
-  pub grouped_more : IsGroupedTo count performed (end + 1) (set last one.performer (Some end)) (before ++ found ∷ [])
+  grouped_more : IsGroupedTo count performed (end + 1) (set last one.performer (Some end)) (before ++ found ∷ [])
   grouped_more = record {
     lasts = length-set last one.performer (Some end) ∙ grouped.lasts;
     befores = length_push before found ∙ ap (λ n. n + 1) grouped.befores;
@@ -111,6 +111,22 @@ begun count performed states last before visit grouped within at next =
 -- what is read past the end of the PERFORMs
 abbrev pub nothing : PerformedRange
 nothing = record { performer = 0; first = 0; last = 0 }
+
+-- one more PERFORM, before which the last one of its paragraph was read
+pub grouped_next : (count : ℕ) (performed : List PerformedRange) (number : ℕ) (last before later : List (Option ℕ))
+    (found : Option ℕ) → number < length performed → All (IsRange count) performed
+    → IsGroupedTo count performed number last before
+    → found ≡ get_or last (get_or performed number nothing).performer found → later ≡ before ++ found ∷ []
+    → IsGroupedTo count performed (number + 1) (set last (get_or performed number nothing).performer (Some number))
+    later
+grouped_next count performed number last before later found lt ranges grouped read more =
+    let one = get_or performed number nothing in
+    let within = (ranges number nothing lt).performer in
+    let fits = grouped.lasts in
+    let here : one.performer < length last = omega arith in
+    subst (IsGroupedTo count performed (number + 1) (set last one.performer (Some number))) (sym more)
+    (grouped_more count performed number last before one found grouped (slice_get-get_or performed number nothing lt)
+    within (get_or_read last one.performer found here read None))
 
 -- a visit that is at a PERFORM
 module _ (performed : List PerformedRange) (states : List Progress) (last before : List (Option ℕ)) (visit : Visit)

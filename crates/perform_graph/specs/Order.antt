@@ -1,4 +1,4 @@
--- Which paragraphs perform which (own choice: a PERFORM must not lead back to the paragraph that it stands in).
+-- Which paragraphs perform which (own choice: no paragraph performs itself, directly or through others).
 use Rattle.std.specs.Prelude.{◌≡◌, ℕ, ◌≤◌, ◌<◌, Bool, true, false, List, length, get_or, slice_get, Some, All}
 use Rattle.perform_graph.specs.declared.performed.PerformedRange.{PerformedRange}
 use Rattle.perform_graph.specs.declared.order.Order.{Order}

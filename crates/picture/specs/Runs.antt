@@ -1,4 +1,4 @@
--- Runs of symbols: what stands at the front of a list of them, and how many symbols and places there are.
+-- Runs of symbols: which symbols a list begins with, and how many symbols and places there are.
 use Rattle.std.specs.Prelude.{ℕ, ◌+◌, ◌*◌, Bool, false, ◌&&◌, ◌==◌, List, [], ◌∷◌, if◌then◌else◌}
 use Rattle.picture.specs.declared.run.Run.{Run}
 use Rattle.picture.specs.declared.class.Class.{Class}

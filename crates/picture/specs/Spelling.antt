@@ -1,5 +1,5 @@
--- Which runs a text of at most 30 characters can spell, told by the shortest text of each (COBOL-85, Nucleus, the PICTURE
--- clause, general rules).
+-- Which runs a text of at most 30 characters can spell, by the shortest text of each (COBOL-85, Nucleus, the PICTURE clause,
+-- general rules).
 use Rattle.std.specs.Prelude.{ℕ, zero, suc, ◌+◌, ◌-◌, ◌/◌, ◌%◌, ◌^◌, ◌==◌, Bool, true, false, ◌&&◌, List, [], ◌∷◌, ◌++◌, length, nat_le, nat_lt, if◌then◌else◌}
 use Rattle.picture.specs.declared.run.Run.{Run}
 use Rattle.picture.specs.declared.symbol.Symbol.{Symbol}

@@ -1,4 +1,4 @@
--- The symbols of pictures, and the classes of them in which the forms are told (COBOL-85, Nucleus, the PICTURE clause).
+-- The symbols of pictures, and the classes of them that the forms name (COBOL-85, Nucleus, the PICTURE clause).
 use Rattle.std.specs.Prelude.{ℕ, Bool, true, false, not, ◌&&◌, ◌||◌}
 use Rattle.picture.specs.declared.symbol.Symbol.{Symbol}
 use Rattle.picture.specs.declared.symbol.Symbol.TheVariants as s

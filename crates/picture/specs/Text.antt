@@ -1,5 +1,5 @@
--- The text of a picture (COBOL-85, Nucleus, the PICTURE clause, general rules): at most 30 characters, in which `c(k)` stands
--- for k times c. Lower case equals upper case (own choice). Repetition is read before the symbols are, so `C(1)R` is CR.
+-- The text of a picture (COBOL-85, Nucleus, the PICTURE clause, general rules): at most 30 characters, in which `c(k)` is k times
+-- c. Lower case equals upper case (own choice). Repetition is read before the symbols are, so `C(1)R` is CR.
 use Rattle.std.specs.Prelude.{◌≡◌, ℕ, zero, suc, ◌+◌, ◌-◌, ◌*◌, ◌^◌, ◌≤◌, Bool, true, ◌&&◌, ◌==◌, ◌⊎◌, List, [], ◌∷◌, ◌++◌, length, Option, Some, None, nat_le, if◌then◌else◌}
 use Rattle.std.specs.Char.{to_ascii_uppercase}
 use Rattle.picture.specs.declared.run.Run.{Run}

@@ -1,11 +1,13 @@
 -- Files with short records alone.
-use Rattle.std.proofs.Common.{◌≡◌, ℕ, Bool, true, false, List, [], ◌∷◌, Option, Some, None, refl, sym, ◌∙◌, ap, if◌then◌else◌}
+use Rattle.std.proofs.Common.{◌≡◌, ℕ, Bool, true, false, List, [], ◌∷◌, Option, Some, None, refl, sym, ◌∙◌, ap}
+use Rattle.std.proofs.Common.{if◌then◌else◌}
 use Rattle.std.specs.Ordering.{is_lt}
 use Rattle.records.specs.declared.answer.Outcome.{Outcome}
 use Rattle.records.specs.Spec.{Spec, is_long}
 use Rattle.records.specs.Rows.{Row, Pair, same_bytes, bytes_cmp, named_pair}
 use Rattle.records.specs.Files.{File, Files, NamedFile, AreShort, empty_file, file_at, with_file}
-use Rattle.records.specs.Changes.{FileChange, without_change, has_prime, new_row, is_taken, row_at, replaced_row, removed_row, insertion, replacement, removal, changes, without_pair}
+use Rattle.records.specs.Changes.{FileChange, without_change, has_prime, new_row, is_taken, row_at, replaced_row}
+use Rattle.records.specs.Changes.{removed_row, insertion, replacement, removal, changes, without_pair}
 use Rattle.std.specs.Prelude.{◌||◌, filter}
 use Rattle.records.specs.Stores.{MakesLong, is_change, files_after}
 use Rattle.records.proofs.Maps.{found_again}

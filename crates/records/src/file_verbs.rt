@@ -1,10 +1,11 @@
 //! File statements, whatever the files are kept in.
-ghost use Rattle.std.specs.Prelude.{◌≡◌, ◌≢◌, ◌≤◌, ◌<◌, ◌⊎◌, true, false, ℕ, List, length, Err, IsOk, IfOk, OnErr};
+ghost use Rattle.std.specs.Prelude.{◌≡◌, ◌≤◌, ◌<◌, true, false, List, length, Err, IsOk, OnErr};
 ghost use Rattle.station.specs.Disk.{Disk, Sector, IsCrashImage};
 ghost use Rattle.records.specs.Files.{Files};
-ghost use Rattle.records.specs.Calls.{Represents, Changes, ChangesFiles, Rests};
+ghost use Rattle.records.specs.Calls.{Changes, IsIdleUnless, Rests};
 ghost use Rattle.records.specs.Connector.{Entry, Connector};
-ghost use Rattle.records.specs.FileStep.{file_step, entry_at, area, Suits, needs_no_store, makes_file, has_changed, can_change_files, IsStep, SameConnectors};
+ghost use Rattle.records.specs.FileStep.{entry_at, area, Suits, needs_no_store, makes_file, has_changed, can_change_files, SameConnectors};
+ghost use Rattle.records.specs.VerbCalls.{ReturnsStep, ChangesByStep, LacksOnChange, LacksNothing};
 
 use crate::fault::StoreFault;
 use crate::keeps::Keeps;
@@ -44,28 +45,18 @@ pub trait FileVerbs: Keeps {
         // A CLOSE, and what a test of the connectors bars, isn't refused, and its step asks nothing of the files.
         ensures sure { needs_no_store (entries self.old) (connectors self.old) file verb ≡ true
             → IsOk result }
-        ensures step { (files : Files) → (Represents Self.Keeps D.Device self.old device.old files)
-            ⊎ (needs_no_store (entries self.old) (connectors self.old) file verb ≡ true) →
-            IfOk result (λ status. IsStep (connectors self.old) file (file_step (entries self.old)
-            files (connectors self.old) file verb (area bytes.old number.old)) status
-            (connectors self.new) (area bytes.new number.new)) }
-        ensures turns { (files : Files) → Represents Self.Keeps D.Device self.old device.old files →
-            ChangesFiles Self.Keeps D.Device result (makes_file verb)
-            (entry_at (entries self.old) file).name files
-            (file_step (entries self.old) files (connectors self.old) file verb
-            (area bytes.old number.old)).files self.old device.old self.new device.new }
+        ensures step { ReturnsStep Self.Keeps D.Device entries connectors self.old device.old
+            file verb bytes.old number.old result self.new bytes.new number.new }
+        ensures turns { ChangesByStep Self.Keeps D.Device entries connectors self.old device.old
+            file verb bytes.old number.old result self.new device.new }
 
         // `Full` and `Old` are answered only by a statement that would change a file, and by no verb that cannot change one, whatever the
         // disk holds; `Old` only by an OPEN that would make the file.
-        ensures full { (files : Files) → Represents Self.Keeps D.Device self.old device.old files
-            → (result ≡ Err StoreFault.Full) ⊎ (result ≡ Err StoreFault.Old) →
-            has_changed verb (file_step (entries self.old) files (connectors self.old) file verb
-            (area bytes.old number.old)).status ≡ true }
-        ensures never_full { can_change_files verb ≡ false
-            → (result ≢ Err StoreFault.Full) × (result ≢ Err StoreFault.Old) }
+        ensures full { LacksOnChange Self.Keeps D.Device entries connectors self.old device.old
+            file verb bytes.old number.old result }
+        ensures never_full { can_change_files verb ≡ false → LacksNothing result }
         ensures old { result ≡ Err StoreFault.Old → makes_file verb ≡ true }
-        ensures idle { D.is_honest device.old → IfOk result
-            (λ status. has_changed verb status ≡ false → D.state device.new ≡ D.state device.old) }
+        ensures idle { IsIdleUnless D.Device (has_changed verb) result device.old device.new }
         ensures refused { OnErr result (SameConnectors (connectors self.old) (connectors self.new)
             (area bytes.old number.old) (area bytes.new number.new)) }
         ensures rests { OnErr result

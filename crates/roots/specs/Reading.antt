@@ -1,4 +1,4 @@
--- The roots of an image, and what the errors stand for.
+-- The roots of an image, and what the errors mean.
 use Rattle.std.specs.Prelude.{List, length, Option, Some, None, Result}
 use Rattle.station.specs.Disk.{Sector, sector_at}
 use Rattle.roots.specs.Root.{Family, root_in}

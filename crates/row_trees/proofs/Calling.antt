@@ -77,6 +77,11 @@ module _ {D : Type 0} (d : Devices D) where
       → EditsPages d B q b r c → EditsPages d C p a r c
   edits_last A B C p q r a b c from first second = edits_then A B C p q r a b c (λ is. inr (from is)) first second
 
+  -- none is to blame
+  pub edits_more : (B : Type 0) (p q r : PageMap) (a b c : D) → EditsPages d ⊥ p a q b → EditsPages d B q b r c
+      → EditsPages d ⊥ p a r c
+  edits_more B p q r a b c first second = edits_last ⊥ B ⊥ p q r a b c (λ never. absurd never) first second
+
   -- a call that needs no device
   pub edits_kept : (A B : Type 0) (p q r : PageMap) (a b : D) → (B → A) → EditsPages d A p a q b → KeepsCommitted q r
       → EditsPages d B p a r b

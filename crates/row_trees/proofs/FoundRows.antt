@@ -6,7 +6,7 @@ use Rattle.station.specs.declared.device.Device.{Ghosts as Devices}
 use Rattle.byteorder.specs.Endian.{big_number}
 use Rattle.pages.specs.Pages.{Agrees}
 use Rattle.pages.specs.declared.page_map.PageMap.{PageMap}
-use Rattle.btree.specs.Calls.{OnPages, pages_on}
+use Rattle.btree.specs.Calls.{OnPages, OnTree, pages_on}
 use Rattle.btree.specs.Entries.{Entry, entry_with}
 use Rattle.btree.specs.Tree.{TreeNode, IsTreeOrEmpty}
 use Rattle.chains.specs.Chain.{pages_for}
@@ -17,6 +17,7 @@ use Rattle.chains.specs.Rows.{unrolled_entry}
 use Rattle.volume_format.specs.Calls.{LooksAt}
 use Rattle.volume_format.specs.Chained.{form_of}
 use Rattle.volume_format.specs.Forest.{TreeLevels}
+use Rattle.row_trees.specs.Calls.{OnRowTree}
 use Rattle.row_trees.specs.RowTree.{ChainedTree, IsRowTree}
 use Rattle.row_trees.proofs.Calling.{pages_told, same_on}
 use Rattle.row_trees.proofs.Among.{stored_in, stands_alone, seen_alone}
@@ -71,7 +72,7 @@ record_seen n pages entry bytes first long many is read =
     ∙ ap (λ (page : ℕ). take n (chain.chain_bytes pages (pages_for n) page)) is)
     ∙ sym (unrolled_long n pages entry long)
 
-pub long_got : (pages : List (Option Sector)) (rows : ChainedTree) (planted : TreeLevels) (key : List ℕ)
+long_got : (pages : List (Option Sector)) (rows : ChainedTree) (planted : TreeLevels) (key : List ℕ)
     (told : Option Entry) (entry : Entry) (bytes value : List ℕ) (first : ℕ) → IsRowTree pages rows planted
     → Says pages rows key told → told ≡ Some entry → rows.record_bytes ≢ 0 → length bytes ≡ rows.record_bytes
     → first ≡ big_number 4 entry.value → value ≡ bytes ++ drop 4 entry.value → IsRecordOf pages first bytes
@@ -98,10 +99,26 @@ module _ {D : Type 0} (d : Devices D) where
       (pages_told d A q a b claim honest looks.only (looks.agrees honest agrees) never) damaged
       (subst (λ (k : ℕ). S k first) (sym many) (subst (S rows.record_bytes) (sym first_is) stands))
 
-  pub read_on : (A : Type 0) (p q : PageMap) (a b : D) (bytes : List ℕ) (first : ℕ) → LooksAt d A p a q b
+  read_on : (A : Type 0) (p q : PageMap) (a b : D) (bytes : List ℕ) (first : ℕ) → LooksAt d A p a q b
       → OnPages d q b (λ before. IsRecordOf before first bytes) → d.is_honest a → Agrees p (d.state a).disk
       → IsRecordOf (pages_on d p a) first bytes
   read_on A p q a b bytes first looks read honest agrees =
       let claim : List (Option Sector) → Type 0 = λ l. IsRecordOf l first bytes in
       subst claim (same_on d p q a looks.unchanged)
       (pages_told d A q a b claim honest looks.only (looks.agrees honest agrees) read)
+
+  -- so it is the row that is found
+  pub found_long : {A : Type 0} {p q : PageMap} {a b : D} {view self : ChainedTree} {key : List ℕ}
+      {told : Option Entry} {entry : Entry} {bytes value : List ℕ} {first : ℕ} → LooksAt d A p a q b → view ≡ self
+      → OnTree d view.tree.layout view.tree.root p a (λ levels. told ≡ entry_with (stored_in view levels) key)
+      → told ≡ Some entry → view.record_bytes ≢ 0 → length bytes ≡ view.record_bytes
+      → first ≡ big_number 4 entry.value → value ≡ bytes ++ drop 4 entry.value
+      → OnPages d q b (λ before. IsRecordOf before first bytes)
+      → OnRowTree d self p a (λ planted. Some (pair entry.key value) ≡ entry_with planted.entries key)
+  found_long {A} {p} {q} {a} {b} {view} {self} {key} {told} {entry} {bytes} {value} {first} looks same says some long
+      many first_is whole read =
+      subst (λ (t : ChainedTree). OnRowTree d t p a
+      (λ planted. Some (pair entry.key value) ≡ entry_with planted.entries key)) same
+      (λ honest agrees planted is.
+      long_got (pages_on d p a) view planted key told entry bytes value first is (says honest agrees) some long many
+      first_is whole (read_on A p q a b bytes first looks read honest agrees))

@@ -1,6 +1,7 @@
 -- A row comes to a tree whose records are in chains, call by call.
-use Rattle.std.proofs.Common.{◌≡◌, ◌≢◌, ◌<◌, ◌≤◌, ◌+◌, ◌^◌, ◌++◌, false, ℕ, List, length, ap, subst, arith}
-use Rattle.std.specs.Prelude.{Option, Some, None}
+use Rattle.std.proofs.Common.{◌≡◌, ◌≢◌, ◌<◌, ◌≤◌, ◌+◌, ◌^◌, ◌++◌, Bool, false, ℕ, List, length, sym, ap, subst, ◌∙◌}
+use Rattle.std.proofs.Common.{arith}
+use Rattle.std.specs.Prelude.{Option, Some, IsSome, is_some, Result, Err}
 use Rattle.station.specs.Disk.{Sector}
 use Rattle.station.specs.declared.device.Device.{Ghosts as Devices}
 use Rattle.byteorder.specs.Endian.{big_bytes}
@@ -10,19 +11,40 @@ use Rattle.pages.specs.Pages.{Agrees, KeepsCommitted, SameCommitted, FewFree, Ha
 use Rattle.pages.specs.Pages.{committed_of, changed_pages_of, is_spent}
 use Rattle.pages.specs.declared.volume.VolumeMap.{VolumeMap}
 use Rattle.pages.specs.declared.page_map.PageMap.{PageMap}
-use Rattle.btree.specs.Calls.{OnTree, OnTreeChange, pages_on}
+use Rattle.pages.specs.declared.error.PagesError.{PagesError}
+use Rattle.pages.specs.declared.error.PagesError.TheVariants.{Full}
+use Rattle.btree.specs.Calls.{OnNoTree, OnTree, OnTreeChange, pages_on}
 use Rattle.btree.specs.Changes.{Inserts, pages_of_map}
-use Rattle.btree.specs.Entries.{Entry, entry_with, with_new_entry}
+use Rattle.btree.specs.Entries.{Entry, entry_with}
+use Rattle.btree.specs.Results.{FewChanged}
 use Rattle.btree.specs.Tree.{TreeNode, IsTreeOrEmpty}
+use Rattle.btree.proofs.Passing.{committed_on}
 use Rattle.btree.proofs.Refused.{few_left}
+use Rattle.chains.specs.Chain.{pages_for}
 use Rattle.chains.specs.Changes.{Lays}
 use Rattle.volume_format.specs.Calls.{LooksAt}
-use Rattle.volume_format.specs.Forest.{TreeLevels}
-use Rattle.row_trees.specs.RowTree.{ChainedTree, IsRowTreeAmong}
-use Rattle.row_trees.proofs.Among.{Stands, stands_among}
+use Rattle.row_trees.specs.Calls.{OnRowTreeAmong, InsertsRow, ChangesFewPages, LacksPages, LacksSectors}
+use Rattle.row_trees.specs.RowTree.{ChainedTree}
+use Rattle.row_trees.proofs.Among.{Stands, stands_among, stored_in}
 use Rattle.row_trees.proofs.Calling.{pages_told, change_told, same_on}
-use Rattle.row_trees.proofs.Forms.{pair}
 use Rattle.row_trees.proofs.Long.{laid_tree, inserted_long}
+use Rattle.row_trees.proofs.Passing.{few_added, few_first, none_or_some}
+
+-- so many pages more were changed
+pub room_laid : (old new : PageMap) (n most : ℕ) → FewFree → IsOpen new → SameCommitted old new
+    → is_spent old ≡ false → HasEachPage new → length (changed_pages_of new) ≤ length (changed_pages_of old) + n
+    → free_count (committed_of old) < length (changed_pages_of old) + (most + n)
+room_laid old new n most law ready same unspent each few =
+    let less = few_left old new n law ready same unspent each few in omega (arith, less)
+
+pub room_later : (old new : PageMap) (n most : ℕ) → SameCommitted old new
+    → length (changed_pages_of new) ≤ length (changed_pages_of old) + n
+    → free_count (committed_of new) < length (changed_pages_of new) + most
+    → free_count (committed_of old) < length (changed_pages_of old) + (most + n)
+room_later old new n most same few room =
+    let still : free_count (committed_of new) ≡ free_count (committed_of old) =
+    ap (λ (v : VolumeMap). free_count (volume_of v)) same.volume in
+    omega (arith, still, few, room)
 
 module _ {D : Type 0} (d : Devices D) where
   -- a chain was laid after a call that only reads
@@ -59,41 +81,99 @@ module _ {D : Type 0} (d : Devices D) where
       pages_told d A r a b each honest looks.only (laid_agrees A p q r a b looks keeps honest agrees) told levels
       (laid_tree_on A p q r a b rows levels bytes first looks laid stands)
 
-  pub inserted_on : (A : Type 0) (p q r s : PageMap) (a b : D) (left right : List TreeLevels) (old new : ChainedTree)
-      (entries : List Entry) (key bytes rest value : List ℕ) (first : ℕ) → LooksAt d A p a q b
-      → ((image : List Sector) → Lays (pages_of_map q image) bytes (pages_of_map r image) first)
-      → KeepsCommitted q r
-      → OnTreeChange d old.tree.layout old.tree.root r s b (λ before levels after.
-      Inserts old.tree.layout before levels after key (big_bytes 4 first ++ rest) (Some new.tree.root))
-      → old.record_bytes ≢ 0 → first < 2 ^ 32 → length bytes ≡ old.record_bytes → bytes ++ rest ≡ value
-      → new.tree.layout ≡ old.tree.layout → new.record_bytes ≡ old.record_bytes
-      → d.is_honest a → Agrees p (d.state a).disk → IsRowTreeAmong (pages_on d p a) left right old entries
-      → (entry_with entries key ≡ None)
-      × IsRowTreeAmong (pages_on d s a) left right new (with_new_entry entries (pair key value))
-  inserted_on A p q r s a b left right old new entries key bytes rest value first looks laid keeps told long small many
-      whole layout form honest agrees is =
-      let before = pages_on d p a in
+  -- A row is not in the tree, and then a chain was laid for its record.
+  pub record LaysRecord (A : Type 0) (p q r : PageMap) (a b : D) (rows : ChainedTree) (bytes : List ℕ) (first : ℕ) :
+      Type 0 where
+    pub looks : LooksAt d A p a q b
+    pub laid : (image : List Sector) → Lays (pages_of_map q image) bytes (pages_of_map r image) first
+    pub keeps : KeepsCommitted q r
+    pub few : FewChanged (pages_for (length bytes)) q r
+    pub many : length bytes ≡ rows.record_bytes
+
+  -- What a call says then of the pages: of the tree as it is stored, and so of the tree among others.
+  laid_among : {A : Type 0} {p q r : PageMap} {a b : D} {view self : ChainedTree} {bytes : List ℕ} {first : ℕ}
+      (claim : Type 0) → LaysRecord A p q r a b view bytes first → view ≡ self
+      → OnTree d view.tree.layout view.tree.root r b (λ levels. claim)
+      → OnRowTreeAmong d self p a (λ left right entries. claim)
+  laid_among {A} {p} {q} {r} {a} {b} {view} {self} {bytes} {first} claim lays same told =
+      subst (λ (t : ChainedTree). OnRowTreeAmong d t p a (λ left right entries. claim)) same
+      (λ honest agrees left right entries is.
+      laid_tells A p q r a b view is.planted.levels bytes first (λ levels. claim) lays.looks lays.laid lays.keeps honest
+      agrees (stands_among (pages_on d p a) left right view entries is) told)
+
+  pub laid_few : {A : Type 0} {p q r : PageMap} (s : PageMap) {a b : D} {view self : ChainedTree} {bytes : List ℕ}
+      {first : ℕ} (most : ℕ)
+      → LaysRecord A p q r a b view bytes first → view ≡ self
+      → OnTree d view.tree.layout view.tree.root r b (λ levels. FewChanged most r s)
+      → ChangesFewPages d most self p a s
+  laid_few {A} {p} {q} {r} s {a} {b} {view} {self} {bytes} {first} most lays same told =
+      λ honest agrees left right entries is.
+      few_added (changed_pages_of p) (changed_pages_of q) (changed_pages_of r) (changed_pages_of s) (length bytes)
+      self.record_bytes most lays.looks.unchanged.changed_pages lays.few
+      (lays.many ∙ ap (λ (t : ChainedTree). t.record_bytes) same)
+      (laid_among (FewChanged most r s) lays same told honest agrees left right entries is)
+
+  pub laid_room : {A : Type 0} {T U : Type 0} {p q r : PageMap} {a b : D} {view self : ChainedTree} {bytes : List ℕ}
+      {first : ℕ} (most : ℕ) (call : Result T PagesError) (result : Result U PagesError)
+      → LaysRecord A p q r a b view bytes first → view ≡ self
+      → OnTree d view.tree.layout view.tree.root r b (λ levels. LacksSectors most r call)
+      → (result ≡ Err Full → call ≡ Err Full) → LacksPages d most self p a result
+  laid_room {A} {T} {U} {p} {q} {r} {a} {b} {view} {self} {bytes} {first} most call result lays same told passed =
+      λ honest agrees left right entries is full.
+      let unchanged = lays.looks.unchanged in
+      room_later p r (pages_for self.record_bytes) most
+      (committed_on p q r unchanged.committed lays.keeps.committed)
+      (few_first (changed_pages_of p) (changed_pages_of q) (changed_pages_of r) (length bytes) self.record_bytes
+      unchanged.changed_pages lays.few (lays.many ∙ ap (λ (t : ChainedTree). t.record_bytes) same))
+      (laid_among (LacksSectors most r call) lays same told honest agrees left right entries is (passed full))
+
+  pub laid_never : {A R S : Type 0} {p q r : PageMap} {a b : D} {view self : ChainedTree} {bytes : List ℕ} {first : ℕ}
+      → LaysRecord A p q r a b view bytes first → view ≡ self
+      → OnNoTree d view.tree.layout view.tree.root r b S → (R → S)
+      → OnRowTreeAmong d self p a (λ left right entries. R → ⊥)
+  laid_never {A} {R} {S} {p} {q} {r} {a} {b} {view} {self} lays same never passed =
+      λ honest agrees left right entries is refused.
+      laid_among ⊥ lays same (λ h ag levels tree. never h ag (passed refused) levels tree) honest agrees left right
+      entries is
+
+  -- a key that was missing still is
+  pub laid_missing : {A X : Type 0} {p q r : PageMap} {a b : D} {view self : ChainedTree} {bytes : List ℕ} {first : ℕ}
+      (key : List ℕ) (held : Option Entry) → LaysRecord A p q r a b view bytes first → view ≡ self
+      → OnTree d view.tree.layout view.tree.root p a (λ levels. held ≡ entry_with (stored_in view levels) key)
+      → is_some held ≡ false
+      → OnTree d view.tree.layout view.tree.root r b (λ levels. IsSome (entry_with (stored_in view levels) key))
+      → OnRowTreeAmong d self p a (λ left right entries. X)
+  laid_missing {A} {X} {p} {q} {r} {a} {b} {view} {self} {bytes} {first} key held lays same got none told =
+      subst (λ (t : ChainedTree). OnRowTreeAmong d t p a (λ left right entries. X)) same
+      (λ honest agrees left right entries is.
+      let stands = stands_among (pages_on d p a) left right view entries is in
+      let levels = is.planted.levels in
+      none_or_some (sym (got honest agrees levels stands.tree)) none
+      (laid_tells A p q r a b view levels bytes first (λ (l : List (List TreeNode)).
+      IsSome (entry_with (stored_in view l) key)) lays.looks lays.laid lays.keeps honest agrees stands told))
+
+  -- its entry was added
+  pub inserted_on : {A E : Type 0} {p q r : PageMap} (s : PageMap) {a b : D} {view self new : ChainedTree}
+      {key bytes rest value stored : List ℕ} {first : ℕ} {result : Result Bool E}
+      → LaysRecord A p q r a b view bytes first → view ≡ self
+      → OnTreeChange d view.tree.layout view.tree.root r s b (λ before levels after.
+      Inserts view.tree.layout before levels after key stored (Some new.tree.root))
+      → stored ≡ big_bytes 4 first ++ rest → view.record_bytes ≢ 0 → first < 2 ^ 32 → bytes ++ rest ≡ value
+      → new.tree.layout ≡ view.tree.layout → new.record_bytes ≡ view.record_bytes
+      → InsertsRow d self p a new s key value result
+  inserted_on {A} {E} {p} {q} {r} s {a} {b} {view} {self} {new} {key} {bytes} {rest} {value} {stored} {first} {result}
+      lays same told value_is long small whole layout form =
+      subst (λ (t : ChainedTree). InsertsRow d t p a new s key value result) same
+      (λ honest agrees left right entries is ok.
       let levels = is.planted.levels in
       let claim : List (Option Sector) → List (Option Sector) → Type 0 = λ one two. (levels : List (List TreeNode))
-      → IsTreeOrEmpty old.tree.layout one old.tree.root levels
-      → Inserts old.tree.layout one levels two key (big_bytes 4 first ++ rest) (Some new.tree.root) in
-      inserted_long before (pages_on d r a) (pages_on d s a) left right old new entries is key bytes rest value first
-      long small many whole layout form (laid_on A p q r a b bytes first looks laid)
-      (change_told d A r s a b claim honest looks.only (laid_agrees A p q r a b looks keeps honest agrees) told levels
-      (laid_tree_on A p q r a b old levels bytes first looks laid (stands_among before left right old entries is)))
-
--- so many pages more were changed
-pub room_laid : (old new : PageMap) (n most : ℕ) → FewFree → IsOpen new → SameCommitted old new
-    → is_spent old ≡ false → HasEachPage new → length (changed_pages_of new) ≤ length (changed_pages_of old) + n
-    → free_count (committed_of old) < length (changed_pages_of old) + (most + n)
-room_laid old new n most law ready same unspent each few =
-    let less = few_left old new n law ready same unspent each few in omega (arith, less)
-
-pub room_later : (old new : PageMap) (n most : ℕ) → SameCommitted old new
-    → length (changed_pages_of new) ≤ length (changed_pages_of old) + n
-    → free_count (committed_of new) < length (changed_pages_of new) + most
-    → free_count (committed_of old) < length (changed_pages_of old) + (most + n)
-room_later old new n most same few room =
-    let still : free_count (committed_of new) ≡ free_count (committed_of old) =
-    ap (λ (v : VolumeMap). free_count (volume_of v)) same.volume in
-    omega (arith, still, few, room)
+      → IsTreeOrEmpty view.tree.layout one view.tree.root levels
+      → Inserts view.tree.layout one levels two key stored (Some new.tree.root) in
+      inserted_long (pages_on d p a) (pages_on d r a) (pages_on d s a) left right view new entries is key bytes rest
+      value first long small lays.many whole layout form (laid_on A p q r a b bytes first lays.looks lays.laid)
+      (subst (λ (l : List ℕ). Inserts view.tree.layout (pages_on d r a) levels (pages_on d s a) key l
+      (Some new.tree.root)) value_is
+      (change_told d A r s a b claim honest lays.looks.only
+      (laid_agrees A p q r a b lays.looks lays.keeps honest agrees)
+      told levels (laid_tree_on A p q r a b view levels bytes first lays.looks lays.laid
+      (stands_among (pages_on d p a) left right view entries is)))))

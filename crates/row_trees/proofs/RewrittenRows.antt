@@ -1,12 +1,12 @@
 -- A row of a tree whose records are in chains gets another record, call by call.
-use Rattle.std.proofs.Common.{◌≡◌, ◌≢◌, ◌<◌, ◌^◌, ◌++◌, ◌⊎◌, ℕ, List, length, refl, sym, subst, ◌∙◌}
-use Rattle.std.specs.Prelude.{Option, Some, IsSome, drop}
+use Rattle.std.proofs.Common.{◌≡◌, ◌≢◌, ◌<◌, ◌^◌, ◌++◌, ◌⊎◌, Bool, ℕ, List, length, refl, sym, subst, ◌∙◌}
+use Rattle.std.specs.Prelude.{Option, Some, None, IsSome, drop, Result}
 use Rattle.station.specs.Disk.{Sector}
 use Rattle.station.specs.declared.device.Device.{Ghosts as Devices}
 use Rattle.byteorder.specs.Endian.{big_bytes, big_number}
 use Rattle.pages.specs.Pages.{Agrees}
 use Rattle.pages.specs.declared.page_map.PageMap.{PageMap}
-use Rattle.btree.specs.Calls.{OnTree, OnTreeChange, OnChange, pages_on}
+use Rattle.btree.specs.Calls.{OnNoTree, OnTree, OnTreeChange, OnChange, pages_on}
 use Rattle.btree.specs.Changes.{Becomes}
 use Rattle.btree.specs.Entries.{Entry, entry_with, with_value}
 use Rattle.btree.specs.Tree.{TreeNode, IsTreeOrEmpty}
@@ -15,14 +15,14 @@ use Rattle.chains.specs.Chain.{pages_for}
 use Rattle.chains.specs.Chain as chain
 use Rattle.chains.specs.Changes.{Rewrites}
 use Rattle.volume_format.specs.Calls.{LooksAt}
-use Rattle.volume_format.specs.Forest.{TreeLevels}
-use Rattle.row_trees.specs.Calls.{EditsPages}
+use Rattle.row_trees.specs.Calls.{EditsPages, OnRowTreeAmong, ReplacesRow}
 use Rattle.row_trees.specs.RowTree.{ChainedTree, IsRowTreeAmong}
 use Rattle.row_trees.proofs.Among.{Stands, stored_in, stands_among}
 use Rattle.row_trees.proofs.Calling.{pages_told, change_told, same_on}
 use Rattle.row_trees.proofs.Changes.{same_key, unwritten}
 use Rattle.row_trees.proofs.Forms.{pair, first_told}
 use Rattle.row_trees.proofs.Long.{IsRewritten, is_rewritten, found_chain, rewritten_tree, replaced_long}
+use Rattle.row_trees.proofs.Passing.{none_not_some}
 use Rattle.row_trees.proofs.Short.{some_seen}
 use Rattle.row_trees.proofs.TakenRows.{both_read, both_agree}
 
@@ -38,7 +38,7 @@ is_there entries key was found = subst IsSome (sym found) refl
 
 module _ {D : Type 0} (d : Devices D) where
   -- a chain was rewritten after a call that only reads
-  pub rewritten_on : (A : Type 0) (p q r : PageMap) (a b : D) (old : ChainedTree) (key bytes : List ℕ) (was : Entry)
+  rewritten_on : (A : Type 0) (p q r : PageMap) (a b : D) (old : ChainedTree) (key bytes : List ℕ) (was : Entry)
       (first : ℕ) (levels : List (List TreeNode)) → LooksAt d A p a q b
       → OnChange d q r b (λ before after. chain.Stands before (pages_for (length bytes)) first
       → Rewrites before bytes after first)
@@ -77,72 +77,126 @@ module _ {D : Type 0} (d : Devices D) where
       (subst (λ (k : ℕ). S k first) (sym many) (subst (S old.record_bytes) (sym first_is)
       (found_chain (pages_on d p a) old levels key was long stands found)))
 
-  -- what a call says of the tree after the chain was rewritten
-  pub rewritten_tells : (A B : Type 0) (p q r : PageMap) (a b c : D) (old : ChainedTree) (key bytes : List ℕ)
-      (was : Entry) (levels : List (List TreeNode)) (claim : List (List TreeNode) → Type 0) → LooksAt d A p a q b
-      → EditsPages d B q b r c → old.record_bytes ≢ 0 → d.is_honest a → Agrees p (d.state a).disk
-      → Stands (pages_on d p a) old levels → entry_with (stored_in old levels) key ≡ Some was
-      → IsRewritten (pages_on d p a) bytes (pages_on d r a) old.record_bytes was
-      → OnTree d old.tree.layout old.tree.root r c claim → claim levels
-  rewritten_tells A B p q r a b c old key bytes was levels claim looks edits long honest agrees stands found written
-      told =
-      let each : List (Option Sector) → Type 0 = λ l. (levels : List (List TreeNode))
-      → IsTreeOrEmpty old.tree.layout l old.tree.root levels → claim levels in
-      pages_told d (A ⊎ B) r a c each honest (both_read d A B p q r a b c looks edits)
-      (both_agree d A B p q r a b c looks edits honest agrees) told levels
-      (rewritten_tree (pages_on d p a) (pages_on d r a) old levels key bytes was long stands found written)
+  -- A row was found, and its record was rewritten.
+  pub record RewritesFound (A B : Type 0) (p q r : PageMap) (a b c : D) (rows : ChainedTree) (key bytes : List ℕ)
+      (was : Entry) (first : ℕ) : Type 0 where
+    pub looks : LooksAt d A p a q b
+    pub found : OnTree d rows.tree.layout rows.tree.root p a
+        (λ levels. entry_with (stored_in rows levels) key ≡ Some was)
+    pub rewritten : OnChange d q r b (λ before after. chain.Stands before (pages_for (length bytes)) first
+        → Rewrites before bytes after first)
+    pub edits : EditsPages d B q b r c
+    pub first_is : first ≡ big_number 4 was.value
+    pub many : length bytes ≡ rows.record_bytes
+    pub long : rows.record_bytes ≢ 0
 
-  -- and what follows the record stays
-  pub unwritten_on : (p r : PageMap) (a : D) (left right : List TreeLevels) (old : ChainedTree) (entries : List Entry)
-      (key bytes value : List ℕ) (was : Entry) → old.record_bytes ≢ 0 → length bytes ≡ old.record_bytes
-      → bytes ++ drop 4 was.value ≡ value → (is : IsRowTreeAmong (pages_on d p a) left right old entries)
-      → entry_with (stored_in old is.planted.levels) key ≡ Some was
-      → IsRewritten (pages_on d p a) bytes (pages_on d r a) old.record_bytes was
-      → IsSome (entry_with entries key)
-      × IsRowTreeAmong (pages_on d r a) left right old (with_value entries (pair key value))
-  unwritten_on p r a left right old entries key bytes value was long many whole is found written =
+  written_on : {A B : Type 0} {p q r : PageMap} {a b c : D} {rows : ChainedTree} {key bytes : List ℕ} {was : Entry}
+      {first : ℕ} {levels : List (List TreeNode)} → RewritesFound A B p q r a b c rows key bytes was first
+      → d.is_honest a → Agrees p (d.state a).disk → Stands (pages_on d p a) rows levels
+      → IsRewritten (pages_on d p a) bytes (pages_on d r a) rows.record_bytes was
+  written_on {A} {B} {p} {q} {r} {a} {b} {c} {rows} {key} {bytes} {was} {first} {levels} writes honest agrees stands =
+      rewritten_on A p q r a b rows key bytes was first levels writes.looks writes.rewritten writes.first_is
+      writes.many writes.long honest agrees stands (writes.found honest agrees levels stands.tree)
+
+  -- the tree is on its pages still
+  tree_written : {A B : Type 0} {p q r : PageMap} {a b c : D} {rows : ChainedTree} {key bytes : List ℕ} {was : Entry}
+      {first : ℕ} {levels : List (List TreeNode)} → RewritesFound A B p q r a b c rows key bytes was first
+      → d.is_honest a → Agrees p (d.state a).disk → Stands (pages_on d p a) rows levels
+      → IsTreeOrEmpty rows.tree.layout (pages_on d r a) rows.tree.root levels
+  tree_written {A} {B} {p} {q} {r} {a} {b} {c} {rows} {key} {bytes} {was} {first} {levels} writes honest agrees
+      stands =
+      rewritten_tree (pages_on d p a) (pages_on d r a) rows levels key bytes was writes.long stands
+      (writes.found honest agrees levels stands.tree) (written_on writes honest agrees stands)
+
+  -- so what a call says then of the tree
+  written_tells : {A B : Type 0} {p q r : PageMap} {a b c : D} {rows : ChainedTree} {key bytes : List ℕ} {was : Entry}
+      {first : ℕ} {levels : List (List TreeNode)} (claim : List (List TreeNode) → Type 0)
+      → RewritesFound A B p q r a b c rows key bytes was first
+      → d.is_honest a → Agrees p (d.state a).disk → Stands (pages_on d p a) rows levels
+      → OnTree d rows.tree.layout rows.tree.root r c claim → claim levels
+  written_tells {A} {B} {p} {q} {r} {a} {b} {c} {rows} {key} {bytes} {was} {first} {levels} claim writes honest agrees
+      stands told =
+      let each : List (Option Sector) → Type 0 = λ l. (levels : List (List TreeNode))
+      → IsTreeOrEmpty rows.tree.layout l rows.tree.root levels → claim levels in
+      pages_told d (A ⊎ B) r a c each honest (both_read d A B p q r a b c writes.looks writes.edits)
+      (both_agree d A B p q r a b c writes.looks writes.edits honest agrees) told levels
+      (tree_written writes honest agrees stands)
+
+  pub written_never : {A B R S : Type 0} {p q r : PageMap} {a b c : D} {view self : ChainedTree}
+      {key bytes : List ℕ} {was : Entry} {first : ℕ} → RewritesFound A B p q r a b c view key bytes was first
+      → view ≡ self → OnNoTree d view.tree.layout view.tree.root r c S → (R → S)
+      → OnRowTreeAmong d self p a (λ left right entries. R → ⊥)
+  written_never {A} {B} {R} {S} {p} {q} {r} {a} {b} {c} {view} {self} writes same never passed =
+      subst (λ (t : ChainedTree). OnRowTreeAmong d t p a (λ left right entries. R → ⊥)) same
+      (λ honest agrees left right entries is refused.
+      written_tells (λ levels. ⊥) writes honest agrees (stands_among (pages_on d p a) left right view entries is)
+      (λ h ag levels tree. never h ag (passed refused) levels tree))
+
+  -- the key is there still
+  pub written_there : {A B X : Type 0} {p q r : PageMap} {a b c : D} {view self : ChainedTree} {key bytes : List ℕ}
+      {was : Entry} {first : ℕ} → RewritesFound A B p q r a b c view key bytes was first → view ≡ self
+      → OnTree d view.tree.layout view.tree.root r c (λ levels. entry_with (stored_in view levels) key ≡ None)
+      → OnRowTreeAmong d self p a (λ left right entries. X)
+  written_there {A} {B} {X} {p} {q} {r} {a} {b} {c} {view} {self} {key} writes same told =
+      subst (λ (t : ChainedTree). OnRowTreeAmong d t p a (λ left right entries. X)) same
+      (λ honest agrees left right entries is.
+      let stands = stands_among (pages_on d p a) left right view entries is in
+      none_not_some (sym (written_tells (λ levels. entry_with (stored_in view levels) key ≡ None) writes honest agrees
+      stands told) ∙ writes.found honest agrees is.planted.levels stands.tree))
+
+  -- what follows the record stays
+  pub unwritten_on : {A B F : Type 0} {p q r : PageMap} {a b c : D} {view self : ChainedTree}
+      {key bytes value : List ℕ} {was : Entry} {first : ℕ} {result : Result Bool F}
+      → RewritesFound A B p q r a b c view key bytes was first → view ≡ self → bytes ++ drop 4 was.value ≡ value
+      → ReplacesRow d self p a r key value result
+  unwritten_on {A} {B} {F} {p} {q} {r} {a} {b} {c} {view} {self} {key} {bytes} {value} {was} {first} {result} writes
+      same whole =
+      subst (λ (t : ChainedTree). ReplacesRow d t p a r key value result) same
+      (λ honest agrees left right entries is ok.
       let before = pages_on d p a in
       let levels = is.planted.levels in
-      let E = stored_in old levels in
-      let stands = stands_among before left right old entries is in
+      let E = stored_in view levels in
+      let stands = stands_among before left right view entries is in
+      let found = writes.found honest agrees levels stands.tree in
       let own = found_own E key was found in (
-        some_seen before left right old entries is key (is_there E key was found),
-        subst (λ (k : List ℕ). IsRowTreeAmong (pages_on d r a) left right old (with_value entries (pair k value)))
+        some_seen before left right view entries is key (is_there E key was found),
+        subst (λ (k : List ℕ). IsRowTreeAmong (pages_on d r a) left right view (with_value entries (pair k value)))
             (same_key E key was found)
-            (replaced_long before (pages_on d r a) (pages_on d r a) left right old entries is was was bytes value long
-            many own refl whole written (unwritten (pages_on d r a) old levels was own
-            (rewritten_tree before (pages_on d r a) old levels key bytes was long stands found written))),
-      )
+            (replaced_long before (pages_on d r a) (pages_on d r a) left right view entries is was was bytes value
+            writes.long writes.many own refl whole (written_on writes honest agrees stands)
+            (unwritten (pages_on d r a) view levels was own (tree_written writes honest agrees stands))),
+      ))
 
   -- or is another one
-  pub replaced_on : (A B : Type 0) (p q r s : PageMap) (a b c : D) (left right : List TreeLevels) (old : ChainedTree)
-      (entries : List Entry) (key bytes rest value : List ℕ) (was : Entry) (first : ℕ) → LooksAt d A p a q b
-      → EditsPages d B q b r c
-      → OnTreeChange d old.tree.layout old.tree.root r s c (λ before levels after.
-      Becomes old.tree.layout before levels after old.tree.root
-      (with_value (stored_in old levels) (pair key (big_bytes 4 first ++ rest))))
-      → first ≡ big_number 4 was.value → first < 2 ^ 32 → old.record_bytes ≢ 0 → length bytes ≡ old.record_bytes
-      → bytes ++ rest ≡ value → d.is_honest a → Agrees p (d.state a).disk
-      → (is : IsRowTreeAmong (pages_on d p a) left right old entries)
-      → entry_with (stored_in old is.planted.levels) key ≡ Some was
-      → IsRewritten (pages_on d p a) bytes (pages_on d r a) old.record_bytes was
-      → IsSome (entry_with entries key)
-      × IsRowTreeAmong (pages_on d s a) left right old (with_value entries (pair key value))
-  replaced_on A B p q r s a b c left right old entries key bytes rest value was first looks edits told first_is small
-      long many whole honest agrees is found written =
+  pub replaced_on : {A B F : Type 0} {p q r : PageMap} (s : PageMap) {a b c : D} {view self : ChainedTree}
+      {key bytes rest value stored : List ℕ} {was : Entry} {first : ℕ} {result : Result Bool F}
+      → RewritesFound A B p q r a b c view key bytes was first → view ≡ self
+      → OnTreeChange d view.tree.layout view.tree.root r s c (λ before levels after.
+      Becomes view.tree.layout before levels after view.tree.root
+      (with_value (stored_in view levels) (pair key stored)))
+      → stored ≡ big_bytes 4 first ++ rest → first < 2 ^ 32 → bytes ++ rest ≡ value
+      → ReplacesRow d self p a s key value result
+  replaced_on {A} {B} {F} {p} {q} {r} s {a} {b} {c} {view} {self} {key} {bytes} {rest} {value} {stored} {was} {first}
+      {result} writes same told value_is small whole =
+      subst (λ (t : ChainedTree). ReplacesRow d t p a s key value result) same
+      (λ honest agrees left right entries is ok.
       let before = pages_on d p a in
       let levels = is.planted.levels in
-      let E = stored_in old levels in
-      let stands = stands_among before left right old entries is in
-      let stored = pair key (big_bytes 4 first ++ rest) in
+      let E = stored_in view levels in
+      let stands = stands_among before left right view entries is in
+      let found = writes.found honest agrees levels stands.tree in
+      let entry = pair key (big_bytes 4 first ++ rest) in
       let claim : List (Option Sector) → List (Option Sector) → Type 0 = λ one two. (levels : List (List TreeNode))
-      → IsTreeOrEmpty old.tree.layout one old.tree.root levels
-      → Becomes old.tree.layout one levels two old.tree.root (with_value (stored_in old levels) stored) in (
-        some_seen before left right old entries is key (is_there E key was found),
-        replaced_long before (pages_on d r a) (pages_on d s a) left right old entries is was stored bytes value long
-            many
-            found (first_told first rest small ∙ first_is) whole written
-            (change_told d (A ⊎ B) r s a c claim honest (both_read d A B p q r a b c looks edits)
-            (both_agree d A B p q r a b c looks edits honest agrees) told levels
-            (rewritten_tree before (pages_on d r a) old levels key bytes was long stands found written)),
-      )
+      → IsTreeOrEmpty view.tree.layout one view.tree.root levels
+      → Becomes view.tree.layout one levels two view.tree.root
+      (with_value (stored_in view levels) (pair key stored)) in (
+        some_seen before left right view entries is key (is_there E key was found),
+        replaced_long before (pages_on d r a) (pages_on d s a) left right view entries is was entry bytes value
+            writes.long writes.many found (first_told first rest small ∙ writes.first_is) whole
+            (written_on writes honest agrees stands)
+            (subst (λ (l : List ℕ). Becomes view.tree.layout (pages_on d r a) levels (pages_on d s a) view.tree.root
+            (with_value E (pair key l))) value_is
+            (change_told d (A ⊎ B) r s a c claim honest (both_read d A B p q r a b c writes.looks writes.edits)
+            (both_agree d A B p q r a b c writes.looks writes.edits honest agrees) told levels
+            (tree_written writes honest agrees stands))),
+      ))

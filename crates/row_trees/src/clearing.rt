@@ -1,12 +1,11 @@
 //! A tree of rows gives up its pages.
-ghost use Rattle.std.specs.Prelude.{◌≡◌, ◌≢◌, ◌≤◌, ◌++◌, [], Err, length, OnOk, OnErr, IfErr};
+ghost use Rattle.std.specs.Prelude.{◌≡◌, ◌≢◌, ◌≤◌, [], Err, OnOk, OnErr, IfErr};
 ghost use Rattle.pages.specs.Pages.{sectors_of, filled_of, IsOpen};
 ghost use Rattle.btree.specs.Calls.{pages_on};
 ghost use Rattle.btree.specs.Moves.{Moves};
 ghost use Rattle.btree.specs.Refusals.{IsChangeRefusal};
 ghost use Rattle.btree.specs.Results.{OnlyIfSpent};
-ghost use Rattle.volume_format.specs.Forest.{IsForest};
-ghost use Rattle.row_trees.specs.Calls.{EditsPages, OnRowTree, OnRowTreeAmong};
+ghost use Rattle.row_trees.specs.Calls.{EditsPages, OnRowTree, ClearsTree, ReturnsNoDamage};
 ghost use Rattle.row_trees.specs.RowTree.{FitsForm};
 
 use crate::row_tree::RowTree;
@@ -27,11 +26,8 @@ impl RowTree {
         requires sectors { sectors_of pages.old ≤ D.sectors device.old }
         ensures edits { EditsPages D.Device (result ≡ Err PagesError.Device) pages.old device.old
             pages.new device.new }
-        ensures cleared { OnRowTreeAmong D.Device self.old pages.old device.old
-            (λ left right entries. OnOk result
-            (IsForest (pages_on D.Device pages.new device.old) (left ++ right))) }
-        ensures damaged { OnRowTreeAmong D.Device self.old pages.old device.old
-            (λ left right entries. result ≡ Err PagesError.Damaged → ⊥) }
+        ensures cleared { ClearsTree D.Device self.old pages.old device.old pages.new result }
+        ensures damaged { ReturnsNoDamage D.Device self.old pages.old device.old result }
         ensures filled { filled_of pages.new ≤ filled_of pages.old }
         ensures layout { self.new.tree.layout ≡ self.old.tree.layout }
         ensures form { self.new.record_bytes ≡ self.old.record_bytes }

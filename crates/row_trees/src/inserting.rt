@@ -1,13 +1,10 @@
 //! A new row is added to a tree.
-ghost use Rattle.std.specs.Prelude.{◌≡◌, ◌≤◌, ◌+◌, true, false, Ok, Err, None, IsSome, length, IfErr, OnErr};
-ghost use Rattle.pages.specs.Pages.{sectors_of, IsOpen, IsUnchanged};
-ghost use Rattle.btree.specs.Calls.{pages_on};
-ghost use Rattle.btree.specs.Entries.{entry_with, with_new_entry};
+ghost use Rattle.std.specs.Prelude.{◌≡◌, ◌≤◌, Err, length, IfErr, OnErr};
+ghost use Rattle.pages.specs.Pages.{sectors_of, IsOpen};
 ghost use Rattle.btree.specs.Refusals.{IsInsertRefusal};
-ghost use Rattle.btree.specs.Results.{OnlyIfSpent, FewChanged};
-ghost use Rattle.chains.specs.Chain.{pages_for};
-ghost use Rattle.row_trees.specs.Calls.{EditsPages, LacksSectors, OnRowTreeAmong};
-ghost use Rattle.row_trees.specs.RowTree.{IsRowTreeAmong, value_length};
+ghost use Rattle.btree.specs.Results.{OnlyIfSpent};
+ghost use Rattle.row_trees.specs.Calls.{EditsPages, LeavesTree, InsertsRow, FindsKey, ReturnsNoDamage, ChangesFewPages, LacksPages};
+ghost use Rattle.row_trees.specs.RowTree.{value_length};
 
 use crate::row_tree::RowTree;
 use crate::stored_value::StoredValue;
@@ -31,22 +28,14 @@ impl RowTree {
         requires value { length value.now ≡ value_length self.old }
         ensures edits { EditsPages D.Device (result ≡ Err PagesError.Device) pages.old device.old
             pages.new device.new }
-        ensures inserted { OnRowTreeAmong D.Device self.old pages.old device.old
-            (λ left right entries. result ≡ Ok true →
-            (entry_with entries key.now ≡ None)
-            × IsRowTreeAmong (pages_on D.Device pages.new device.old) left right self.new
-            (with_new_entry entries (record { key = key.now; value = value.now }))) }
-        ensures there { OnRowTreeAmong D.Device self.old pages.old device.old
-            (λ left right entries. result ≡ Ok false → IsSome (entry_with entries key.now)) }
-        ensures same { result ≡ Ok false → IsUnchanged pages.old pages.new × (self.new ≡ self.old) }
-        ensures damaged { OnRowTreeAmong D.Device self.old pages.old device.old
-            (λ left right entries. result ≡ Err PagesError.Damaged → ⊥) }
-        ensures changed_pages { OnRowTreeAmong D.Device self.old pages.old device.old
-            (λ left right entries.
-            FewChanged (42 + pages_for self.old.record_bytes) pages.old pages.new) }
-        ensures room { OnRowTreeAmong D.Device self.old pages.old device.old
-            (λ left right entries.
-            LacksSectors (42 + pages_for self.old.record_bytes) pages.old result) }
+        ensures inserted { InsertsRow D.Device self.old pages.old device.old self.new pages.new
+            key.now value.now result }
+        ensures there { FindsKey D.Device self.old pages.old device.old key.now result }
+        ensures same { LeavesTree self.old pages.old self.new pages.new result }
+        ensures damaged { ReturnsNoDamage D.Device self.old pages.old device.old result }
+        ensures changed_pages { ChangesFewPages D.Device 42 self.old pages.old device.old
+            pages.new }
+        ensures room { LacksPages D.Device 42 self.old pages.old device.old result }
         ensures layout { self.new.tree.layout ≡ self.old.tree.layout }
         ensures form { self.new.record_bytes ≡ self.old.record_bytes }
         ensures refused { OnErr result (self.new ≡ self.old) }

@@ -1,13 +1,9 @@
 //! A row leaves a tree.
-ghost use Rattle.std.specs.Prelude.{◌≡◌, ◌≤◌, ◌+◌, true, false, Ok, Err, None, IsSome, length, OnOk, IfErr};
-ghost use Rattle.pages.specs.Pages.{sectors_of, IsOpen, IsUnchanged};
-ghost use Rattle.btree.specs.Calls.{pages_on};
-ghost use Rattle.btree.specs.Entries.{entry_with, without_entry};
+ghost use Rattle.std.specs.Prelude.{◌≡◌, ◌≤◌, Err, IfErr};
+ghost use Rattle.pages.specs.Pages.{sectors_of, IsOpen};
 ghost use Rattle.btree.specs.Refusals.{IsChangeRefusal};
-ghost use Rattle.btree.specs.Results.{OnlyIfSpent, FewChanged};
-ghost use Rattle.chains.specs.Chain.{pages_for};
-ghost use Rattle.row_trees.specs.Calls.{EditsPages, OnRowTreeAmong};
-ghost use Rattle.row_trees.specs.RowTree.{IsRowTreeAmong};
+ghost use Rattle.btree.specs.Results.{OnlyIfSpent};
+ghost use Rattle.row_trees.specs.Calls.{EditsPages, LeavesTree, RemovesRow, MissesKey, ReturnsNoDamage, ChangesFewPagesOnOk};
 
 use crate::row_tree::RowTree;
 use crate::stored_value::first_page;
@@ -28,19 +24,13 @@ impl RowTree {
         requires sectors { sectors_of pages.old ≤ D.sectors device.old }
         ensures edits { EditsPages D.Device (result ≡ Err PagesError.Device) pages.old device.old
             pages.new device.new }
-        ensures removed { OnRowTreeAmong D.Device self.old pages.old device.old
-            (λ left right entries. result ≡ Ok true →
-            IsSome (entry_with entries key.now)
-            × IsRowTreeAmong (pages_on D.Device pages.new device.old) left right self.new
-            (without_entry entries key.now)) }
-        ensures missing { OnRowTreeAmong D.Device self.old pages.old device.old
-            (λ left right entries. result ≡ Ok false → entry_with entries key.now ≡ None) }
-        ensures same { result ≡ Ok false → IsUnchanged pages.old pages.new × (self.new ≡ self.old) }
-        ensures damaged { OnRowTreeAmong D.Device self.old pages.old device.old
-            (λ left right entries. result ≡ Err PagesError.Damaged → ⊥) }
-        ensures changed_pages { OnRowTreeAmong D.Device self.old pages.old device.old
-            (λ left right entries.
-            OnOk result (FewChanged (42 + pages_for self.old.record_bytes) pages.old pages.new)) }
+        ensures removed { RemovesRow D.Device self.old pages.old device.old self.new pages.new
+            key.now result }
+        ensures missing { MissesKey D.Device self.old pages.old device.old key.now result }
+        ensures same { LeavesTree self.old pages.old self.new pages.new result }
+        ensures damaged { ReturnsNoDamage D.Device self.old pages.old device.old result }
+        ensures changed_pages { ChangesFewPagesOnOk D.Device 42 self.old pages.old device.old
+            pages.new result }
         ensures layout { self.new.tree.layout ≡ self.old.tree.layout }
         ensures form { self.new.record_bytes ≡ self.old.record_bytes }
         ensures spent { OnlyIfSpent pages.old result }

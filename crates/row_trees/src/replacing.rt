@@ -1,13 +1,11 @@
 //! A row gets another record.
-ghost use Rattle.std.specs.Prelude.{◌≡◌, ◌≤◌, ◌+◌, true, false, Ok, Err, None, IsSome, length, IfErr};
+ghost use Rattle.std.specs.Prelude.{◌≡◌, ◌≤◌, ◌+◌, false, Ok, Err, length, IfErr};
 ghost use Rattle.pages.specs.Pages.{sectors_of, IsOpen, IsUnchanged};
-ghost use Rattle.btree.specs.Calls.{pages_on};
-ghost use Rattle.btree.specs.Entries.{entry_with, with_value};
 ghost use Rattle.btree.specs.Refusals.{IsChangeRefusal};
 ghost use Rattle.btree.specs.Results.{OnlyIfSpent, FewChanged};
 ghost use Rattle.chains.specs.Chain.{pages_for};
-ghost use Rattle.row_trees.specs.Calls.{EditsPages, OnRowTreeAmong};
-ghost use Rattle.row_trees.specs.RowTree.{IsRowTreeAmong, value_length};
+ghost use Rattle.row_trees.specs.Calls.{EditsPages, ReplacesRow, MissesKey, ReturnsNoDamage};
+ghost use Rattle.row_trees.specs.RowTree.{value_length};
 
 use crate::row_tree::RowTree;
 use crate::stored_value::{PAGE_NUMBER_BYTES, StoredValue, first_page};
@@ -31,16 +29,11 @@ impl RowTree {
         requires value { length value.now ≡ value_length self.old }
         ensures edits { EditsPages D.Device (result ≡ Err PagesError.Device) pages.old device.old
             pages.new device.new }
-        ensures replaced { OnRowTreeAmong D.Device self.old pages.old device.old
-            (λ left right entries. result ≡ Ok true →
-            IsSome (entry_with entries key.now)
-            × IsRowTreeAmong (pages_on D.Device pages.new device.old) left right self.old
-            (with_value entries (record { key = key.now; value = value.now }))) }
-        ensures missing { OnRowTreeAmong D.Device self.old pages.old device.old
-            (λ left right entries. result ≡ Ok false → entry_with entries key.now ≡ None) }
+        ensures replaced { ReplacesRow D.Device self.old pages.old device.old pages.new key.now
+            value.now result }
+        ensures missing { MissesKey D.Device self.old pages.old device.old key.now result }
         ensures same { result ≡ Ok false → IsUnchanged pages.old pages.new }
-        ensures damaged { OnRowTreeAmong D.Device self.old pages.old device.old
-            (λ left right entries. result ≡ Err PagesError.Damaged → ⊥) }
+        ensures damaged { ReturnsNoDamage D.Device self.old pages.old device.old result }
         ensures changed_pages { FewChanged (1 + pages_for self.old.record_bytes) pages.old
             pages.new }
         ensures tree { self.new ≡ self.old }

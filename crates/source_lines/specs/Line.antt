@@ -1,5 +1,5 @@
--- A line in the reference format (COBOL-85, Section IV, "Reference format"): columns 1 to 6 are the sequence number area, column 7 the
--- indicator area, columns 8 to 11 area A, columns 12 to 72 area B.
+-- A line in the reference format (COBOL-85, Section IV, "Reference format"). Columns 1 to 6 are the sequence number area, column 7
+-- the indicator area, columns 8 to 11 area A, columns 12 to 72 area B.
 use Rattle.std.specs.Prelude.{ℕ, ◌+◌, ◌-◌, ◌%◌, ◌==◌, Bool, not, ◌&&◌, nat_le, if◌then◌else◌, List, [], ◌∷◌, ◌++◌, take, drop, slice_index, replicate, Option}
 use Rattle.std.specs.List.{position, suffix_len}
 use Rattle.std.specs.Option.{option_map}

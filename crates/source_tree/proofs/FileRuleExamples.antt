@@ -146,7 +146,8 @@ too_long_key : of_length "X(101)" ≡ 69 ∷ []
 unfolding computing
 too_long_key = refl
 
-longest_record : of_files (f ∷ []) (described "F" (entries (item (codes "01") (codes "R") (codes "X(16000)") ∷ [])) ∷ [])
+longest_record :
+    of_files (f ∷ []) (described "F" (entries (item (codes "01") (codes "R") (codes "X(16000)") ∷ [])) ∷ [])
     ≡ []
 unfolding computing
 longest_record = refl

@@ -1,5 +1,5 @@
--- The rules of conditions: those of references and literals, 40 and 41 of condition names, 51 of numbers, and 52 where two sides can't be
--- compared (COBOL-85, Nucleus, "Relation condition"); and those of UNTIL and VARYING.
+-- The rules of conditions (COBOL-85, Nucleus, "Relation condition"), and those of UNTIL and VARYING. Those of references and
+-- literals; 40 and 41 of condition names; 51 of numbers; and 52 where two sides can't be compared.
 use Rattle.std.specs.Prelude.{◌==◌, Bool, true, false, not, ◌&&◌, ◌||◌, List, [], ◌∷◌, ◌++◌, length, Option, Some, None}
 use Rattle.items.specs.declared.usage.Usage.{Usage}
 use Rattle.items.specs.declared.usage.Usage.TheVariants as usage

@@ -1,5 +1,5 @@
--- The rules of EVALUATE: those of its subjects; 53 of a WHEN with more or fewer objects than there are subjects, and of an object that
--- doesn't fit its subject; and those of the conditions that its objects ask (COBOL-85, Nucleus, "The EVALUATE statement").
+-- The rules of EVALUATE (COBOL-85, Nucleus, "The EVALUATE statement"). Those of its subjects; 53 of a WHEN with more or fewer
+-- objects than there are subjects, and of an object that doesn't fit its subject; and those of the conditions that its objects ask.
 use Rattle.std.specs.Prelude.{◌==◌, not, if◌then◌else◌, map, List, [], ◌∷◌, ◌++◌, length}
 use Rattle.lexical.specs.declared.place.Place.{Place}
 use Rattle.source_tree.specs.declared.condition.Side.{Side}

@@ -1,7 +1,7 @@
--- The rules of files as SELECTs and FDs say them (COBOL-85, Sequential, Relative and Indexed I-O, "File control entry", "File description
--- entry"; the limits and the numbers among keys are this project's own choice): 42 a name that is given twice, 57 a SELECT without FD or an
--- FD without SELECT, 58 keys, 59 FILE STATUS, 60 RELATIVE KEY, 66 the file's name on the volume, 69 limits; and the rules of the entries of
--- records.
+-- The rules of files as SELECTs and FDs say them (COBOL-85, Sequential, Relative and Indexed I-O, "File control entry", "File
+-- description entry"). The limits and the numbers among keys are this project's own choice. 42 a name that is given twice, 57 a
+-- SELECT without FD or an FD without SELECT, 58 keys, 59 FILE STATUS, 60 RELATIVE KEY, 66 the file's name on the volume, 69 limits;
+-- and the rules of the entries of records.
 use Rattle.std.specs.Prelude.{ℕ, ◌+◌, ◌-◌, ◌==◌, nat_lt, nat_le, Bool, true, false, not, ◌&&◌, ◌||◌, sum, map, List, [], ◌∷◌, ◌++◌, length, drop, Option, Some, None}
 use Rattle.items.specs.declared.item.Kind.{Kind}
 use Rattle.items.specs.declared.item.Kind.TheVariants as kind

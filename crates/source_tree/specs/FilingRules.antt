@@ -1,6 +1,6 @@
--- The rules of file statements: 40 and 41 of files, records and items, 49 of the moves of INTO and FROM, 60 a START of a relative file
--- without RELATIVE KEY, 61 a statement that organization or access doesn't permit, 62 phrases, KEY and NEXT of READ, 63 START (COBOL-85,
--- Sequential, Relative and Indexed I-O).
+-- The rules of file statements (COBOL-85, Sequential, Relative and Indexed I-O). 40 and 41 of files, records and items, 49 of the
+-- moves of INTO and FROM, 60 a START of a relative file without RELATIVE KEY, 61 a statement that organization or access doesn't
+-- permit, 62 phrases, KEY and NEXT of READ, 63 START.
 use Rattle.std.specs.Prelude.{◌==◌, nat_le, Bool, true, false, not, ◌&&◌, ◌||◌, is_none, map, List, [], ◌∷◌, ◌++◌, Option, Some, None}
 use Rattle.std.specs.List.{list_any}
 use Rattle.items.specs.declared.item.Kind.{Kind}

@@ -1,6 +1,6 @@
--- The rules of INSPECT: 40, 41, 50 and 51 of references, 18 of literals, and 64 counters that aren't numeric, operands of another kind, and
--- replacing texts of another size (COBOL-85, Nucleus, "The INSPECT statement"; that numbers with S have no part in it is this project's own
--- choice).
+-- The rules of INSPECT (COBOL-85, Nucleus, "The INSPECT statement"). 40, 41, 50 and 51 of references, 18 of literals, and 64
+-- counters that aren't numeric, operands of another kind, and replacing texts of another size. Numbers with S have no part in it
+-- (own choice).
 use Rattle.std.specs.Prelude.{ℕ, ◌==◌, Bool, true, false, not, ◌&&◌, List, [], ◌∷◌, ◌++◌, length, Option, Some, None}
 use Rattle.items.specs.declared.item.Kind.{Kind}
 use Rattle.items.specs.declared.item.Kind.TheVariants as kind

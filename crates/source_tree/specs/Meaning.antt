@@ -1,5 +1,5 @@
--- What a program does, told on its tree. Control runs from the first statement to the end of the last paragraph, which
--- acts as STOP RUN and uses none of the budget (own choice; COBOL-85, Nucleus, "Procedure division execution").
+-- What a program does, defined on its tree. Control runs from the first statement to the end of the last paragraph, which acts as
+-- STOP RUN and uses none of the budget (own choice; COBOL-85, Nucleus, "Procedure division execution").
 use Rattle.std.specs.Prelude.{ℕ, zero, suc, map, List, [], ◌∷◌, length}
 use Rattle.station.specs.State.{Event}
 use Rattle.source_tree.specs.declared.control_statement.ControlStatement.{ControlStatement}

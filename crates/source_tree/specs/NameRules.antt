@@ -1,5 +1,5 @@
--- The rules of operands: 40 unknown name, or one of another kind, 41 ambiguous name, 50 number of subscripts, 51 numbers (COBOL-85,
--- Nucleus, "Uniqueness of reference"); and the form of literals, which those of a source text have.
+-- The rules of operands (COBOL-85, Nucleus, "Uniqueness of reference"), and the form of literals, which those of a source text
+-- have. 40 unknown name, or one of another kind, 41 ambiguous name, 50 number of subscripts, 51 numbers.
 use Rattle.std.specs.Prelude.{ℕ, ◌==◌, Bool, false, not, ◌&&◌, List, [], ◌∷◌, ◌++◌, length, Option, Some, None}
 use Rattle.std.specs.Char.{is_ascii_digit}
 use Rattle.std.specs.List.{list_all}

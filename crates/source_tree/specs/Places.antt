@@ -1,4 +1,4 @@
--- Where items stand (COBOL-85, Nucleus, "Data description entry": REDEFINES, OCCURS).
+-- The places of items (COBOL-85, Nucleus, "Data description entry": REDEFINES, OCCURS).
 use Rattle.std.specs.Prelude.{ℕ, ◌+◌, ◌-◌, ◌*◌, if◌then◌else◌, List, [], ◌∷◌, ◌++◌, Option, Some, None}
 use Rattle.picture.specs.declared.picture.Picture.{Picture}
 use Rattle.items.specs.declared.item.Item.{Item}

@@ -1,4 +1,4 @@
--- Rule 54: no PERFORM leads back to the paragraph that it stands in (own choice; COBOL-85 leaves open what recursion does).
+-- Rule 54: no paragraph performs itself, directly or through others (own choice; COBOL-85 leaves open what recursion does).
 use Rattle.std.specs.Prelude.{◌≡◌, ℕ, ◌+◌, Bool, true, map, List, [], ◌∷◌, ◌++◌, length, slice_get, Option, Some, None}
 use Rattle.lexical.specs.declared.place.Place.{Place}
 use Rattle.perform_graph.specs.declared.performed.PerformedRange.{PerformedRange}

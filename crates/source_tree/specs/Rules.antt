@@ -1,6 +1,6 @@
--- The rules of a program: those that it breaks, and where; its entries first, then its files, the names of its
--- procedures, its statements in order, and then whether there is a procedure, and how many statements there are. Rule
--- 54 looks at the whole program, and comes after these.
+-- The rules of a program: those that it breaks, and where. Its entries are first, then its files, the names of its procedures, its
+-- statements in order, and then whether there is a procedure, and how many statements there are. Rule 54 looks at the whole
+-- program, and is after these.
 use Rattle.std.specs.Prelude.{Bool, true, false, not, ◌&&◌, List, [], ◌∷◌, ◌++◌, Option, Some, None}
 use Rattle.lexical.specs.declared.place.Place.{Place}
 use Rattle.source_tree.specs.declared.name.Name.{Name}

@@ -1,5 +1,5 @@
--- What is so of the files of a program that keeps the rules of files: name and keys are those of a file (`records`), and the items of
--- RELATIVE KEY and FILE STATUS are those that a file statement stores.
+-- What is so of the files of a program that keeps the rules of files. Name and keys are those of a file (`records`), and the items
+-- of RELATIVE KEY and FILE STATUS are those that a file statement stores.
 use Rattle.std.specs.Prelude.{◌≡◌, ◌≤◌, ◌<◌, ◌==◌, nat_lt, ℕ, true, not, IfSome, [], length, slice_index_or}
 use Rattle.records.specs.Spec.{is_spec, is_name}
 use Rattle.source_tree.specs.Storage.{Storage}

@@ -1,5 +1,5 @@
--- The rules of STRING: 40, 41, 50 and 51 of references, 65 operands of another kind, and 67 ALL with a literal (COBOL-85, Nucleus, "The
--- STRING statement"; that numbers with S have no part in it is this project's own choice).
+-- The rules of STRING (COBOL-85, Nucleus, "The STRING statement"). 40, 41, 50 and 51 of references, 65 operands of another kind,
+-- and 67 ALL with a literal. Numbers with S have no part in it (own choice).
 use Rattle.std.specs.Prelude.{ℕ, ◌+◌, ◌^◌, ◌==◌, nat_lt, Bool, true, false, not, ◌&&◌, List, [], ◌∷◌, ◌++◌, Option, Some, None}
 use Rattle.items.specs.declared.numeric.Numeric.{Numeric}
 use Rattle.items.specs.declared.item.Kind.{Kind}

@@ -1,5 +1,5 @@
--- What a run has told: its events, and the files at the start and after each file statement. Neither is ever taken back, and there is one
--- note a file statement.
+-- What a run has reported: its events, and the files at the start and after each file statement. Neither is ever taken back, and
+-- there is one note a file statement.
 use Rattle.std.specs.Prelude.{◌≡◌, ℕ, suc, List, [], ◌∷◌, ◌++◌, length}
 use Rattle.station.specs.State.{Event, Shown, Noted}
 use Rattle.records.specs.Files.{Files}

@@ -1,4 +1,4 @@
--- Turns until a condition is true (COBOL-85, Nucleus, "The PERFORM statement", UNTIL and VARYING).
+-- Repetitions until a condition is true (COBOL-85, Nucleus, "The PERFORM statement", UNTIL and VARYING).
 use Rattle.std.specs.Prelude.{ℕ, zero, suc, Bool, true, false, List, [], ◌∷◌, Option, Some, None, Ok}
 use Rattle.source_tree.specs.declared.arithmetic.Operation.{Operation}
 use Rattle.source_tree.specs.declared.arithmetic.Operation.TheVariants.{Add}

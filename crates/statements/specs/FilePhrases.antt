@@ -1,5 +1,6 @@
--- The phrases of file statements, AT END and INVALID KEY with their opposites (COBOL-85, Sequential I-O, "The AT END phrase";
--- Indexed I-O, "The INVALID KEY phrase"): their rules, and how they are read, whatever reads statements.
+-- The phrases of file statements, AT END and INVALID KEY with their opposites: their rules, and how they are read, whatever reads
+-- statements. The standard has them under "The AT END phrase" (COBOL-85, Sequential I-O) and "The INVALID KEY phrase" (Indexed
+-- I-O).
 use Rattle.std.specs.Prelude.{◌≡◌, ◌||◌, is_some, if◌then◌else◌, Bool, true, List}
 use Rattle.source_tree.specs.declared.phrases.Phrases.{Phrases}
 use Rattle.source_tree.specs.declared.phrases.FilePhrases.{FilePhrases}

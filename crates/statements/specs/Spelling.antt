@@ -1,4 +1,4 @@
--- Which tokens spell which statement: one line for each verb, whose rule stands in a file of its own.
+-- Which tokens spell which statement: one line for each verb, whose rule is in a file of its own.
 use Rattle.std.specs.Prelude.{ℕ, zero, suc, true, false, List}
 use Rattle.source_tree.specs.declared.data_statement.DataStatement.{DataStatement}
 use Rattle.source_tree.specs.declared.data_statement.DataStatement.TheVariants.{Move, Initialize, Set}

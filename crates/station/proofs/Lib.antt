@@ -8,6 +8,7 @@ pub mod Opens
 -- Sectors written so that they are durable
 pub mod Writes
 pub mod TwoPhase
+mod Moments
 -- A station in memory: its record of calls
 pub mod Replay
 pub mod Events

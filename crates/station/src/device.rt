@@ -101,7 +101,7 @@ pub trait Device {
 
 /// A disk with a console, on one clock.
 pub trait Station: Device {
-    /// Takes the next console line. What doesn't fit is dropped. `None` tells that there is no other.
+    /// Takes the next console line. What doesn't fit is dropped. `None` means that there is no other.
     fn line(&mut self, into: &mut [u8]) -> Result<Option<usize>, DeviceError>
         ensures honest { Self.is_honest self.old ↔ Self.is_honest self.new }
         ensures sectors { Self.sectors self.new ≡ Self.sectors self.old }

@@ -130,7 +130,7 @@ impl Journal {
         self.add(Call::Show(shown))
     }
 
-    /// Puts the front of the next line into a buffer, as much as fits. `None` tells that there is no other.
+    /// Puts the front of the next line into a buffer, as much as fits. `None` means that there is no other.
     pub fn line(&mut self, into: &mut [u8]) -> Result<Option<usize>, AllocError>
         ensures sectors { journal_sectors self.new ≡ journal_sectors self.old }
         ensures bound { IfOk result (λ taken. IfSome taken (λ n. n ≤ length into.old)) }

@@ -34,8 +34,11 @@ pub fn moment_laws()
     // What is so at the entry, and at each moment after it, is so of the state that was left.
     ensures arrives { (a b : List State) (old new : State) (p : State → Bool) → EndsIn a old
         → EndsIn b new → IsTrue (p old) → Spans a b (λ s. IsTrue (p s)) → IsTrue (p new) }
+{}
 
-    // Whatever a failed show has told is a beginning of what it would have told.
-    ensures told { (old : State) (bytes : List ℕ) (s : State) → HasShownSome old bytes s
+/// Of a show that failed.
+pub fn show_law()
+    // Whatever it has shown is a beginning of what it would have shown.
+    ensures shown { (old : State) (bytes : List ℕ) (s : State) → HasShownSome old bytes s
         → Begins s.events (state_after_show old bytes).events }
 {}

@@ -20,7 +20,7 @@ mod two_phase;
 
 pub use blocks::{Block, write_blocks};
 pub use device::{Device, DeviceError, Station};
-pub use laws::{crash_laws, moment_laws};
+pub use laws::{crash_laws, moment_laws, show_law};
 pub use memory::MemoryStation;
 pub use note::Note;
 pub use sector_bytes::SectorBytes;

@@ -1,4 +1,4 @@
--- What stands before a token, as far as it decides what the token is.
+-- What is before a token, as far as it decides what the token is.
 use Rattle.std.specs.Prelude.{Bool, true, false, ◌||◌, if◌then◌else◌, Option, None, Some}
 use Rattle.tokens.specs.declared.context.Context.{Context}
 use Rattle.tokens.specs.declared.context.Context.TheVariants as context

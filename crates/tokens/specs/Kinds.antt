@@ -1,4 +1,4 @@
--- What is a token of each kind, or a separator: this text, before this rest, after what stands before it.
+-- What is a token of each kind, or a separator: this text, before this rest, after what is before it.
 use Rattle.std.specs.Prelude.{◌≡◌, ◌≤◌, ◌⊎◌, ℕ, ◌+◌, Bool, true, false, not, ◌&&◌, ◌==◌, List, [], ◌∷◌, ◌++◌, length, drop, Option, None, Some}
 use Rattle.source_lines.specs.declared.lines.Character.{Character}
 use Rattle.tokens.specs.declared.character.Class.{Class}

@@ -1,5 +1,5 @@
--- Picture character-strings (COBOL-85, Nucleus, "PICTURE clause"): the nonblank characters after PIC or PICTURE and an optional IS,
--- without a last period, comma or semicolon that stands before a space.
+-- Picture character-strings (COBOL-85, Nucleus, "PICTURE clause"). They are the nonblank characters after PIC or PICTURE and an
+-- optional IS, without a last period, comma or semicolon that a space follows.
 use Rattle.std.specs.Prelude.{ℕ, ◌-◌, Bool, ◌&&◌, if◌then◌else◌, ◌==◌, List, take, None}
 use Rattle.std.specs.Str.{str_eq_ignore_ascii_case}
 use lib.Chars.{codes}

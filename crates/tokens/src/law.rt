@@ -12,7 +12,7 @@ ghost use Rattle.tokens.specs.Scanning as spec;
 ghost use Rattle.tokens.specs.Tokens.{TokensOf, NoLonger, InOrder, ArePlacedBy};
 ghost use Rattle.tokens.specs.Spelled.{AreSpelledBy, AreSeparated};
 
-/// Characters have at most one list of tokens, the one that `scan` answers, and its spans and places are theirs.
+/// Characters have at most one list of tokens, the one that `scan` answers, and else one fault.
 pub fn laws()
     // What the function answers is in the relation.
     ensures answered { (characters : List Character) (found : List Token)
@@ -20,6 +20,16 @@ pub fn laws()
     // What is in the relation is what the function answers.
     ensures only { (characters : List Character) (found : List Token) → TokensOf characters found
         → spec.tokens characters ≡ Ok found }
+    // The fault that the function answers stands where no token and no separator begins, the first such place.
+    ensures refused { (characters : List Character) (fault : TokenFault)
+        → spec.tokens characters ≡ Err fault → RefusesCharacters characters fault }
+    // Where there is such a place, the function answers that fault.
+    ensures refused_only { (characters : List Character) (fault : TokenFault)
+        → RefusesCharacters characters fault → spec.tokens characters ≡ Err fault }
+{}
+
+/// Each token is the longest that can begin at its place, and its span and place are those of its characters.
+pub fn span_laws()
     // A token or separator is the longest that can begin at its place, after what stands before it.
     ensures longest { (before : Context) (kind : Option Kind)
         (c : Character) (text rest : List Character) → IsFront before kind (c ∷ text) rest
@@ -36,10 +46,4 @@ pub fn laws()
     // What lies before, between and after the spans is separators.
     ensures separators { (characters : List Character) (found : List Token)
         → spec.tokens characters ≡ Ok found → AreSeparated 0 characters found }
-    // The fault that the function answers stands where no token and no separator begins, the first such place.
-    ensures refused { (characters : List Character) (fault : TokenFault)
-        → spec.tokens characters ≡ Err fault → RefusesCharacters characters fault }
-    // Where there is such a place, the function answers that fault.
-    ensures refused_only { (characters : List Character) (fault : TokenFault)
-        → RefusesCharacters characters fault → spec.tokens characters ≡ Err fault }
 {}

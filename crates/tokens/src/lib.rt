@@ -15,7 +15,7 @@ pub mod token;
 mod word;
 
 pub use fault::{FaultKind, TokenError, TokenFault};
-pub use law::laws;
+pub use law::{laws, span_laws};
 pub use lexical::{NumericLiteral, Place, Sign};
 pub use reserved::Reserved;
 pub use scanner::scan;

@@ -21,10 +21,32 @@ pages_long (page ∷ pages) =
     let all = length-append (big_bytes 4 page) (flat_map (big_bytes 4) pages) in
     omega arith
 
-pub roots_filled : (roots : List ℕ) (count : ℕ) → count ≡ 28 - 4 * length roots
+roots_filled : (roots : List ℕ) (count : ℕ) → count ≡ 28 - 4 * length roots
     → flat_map (big_bytes 4) roots ++ replicate count 0 ≡ filled_to 28 (flat_map (big_bytes 4) roots)
 roots_filled roots count is =
     ap (λ (m : ℕ). flat_map (big_bytes 4) roots ++ replicate m 0) (is ∙ ap (λ (m : ℕ). 28 - m) (sym (pages_long roots)))
+
+-- a listing is written, part after part
+pub listing_spelled : (l : Listing) (none one two three four five prime next : List ℕ) (count : ℕ) → none ≡ []
+    → one ≡ none ++ spec_bytes l.spec → prime ≡ big_bytes 4 l.prime → two ≡ one ++ prime
+    → three ≡ two ++ flat_map (big_bytes 4) l.alternates → count ≡ 28 - 4 * length l.alternates
+    → four ≡ three ++ replicate count 0 → next ≡ big_bytes 8 l.next_arrival → five ≡ four ++ next
+    → five ≡ listing_bytes l
+unfolding listing_bytes
+listing_spelled l none one two three four five prime next count empty first prime_is second third count_is fourth
+    next_is fifth =
+    let head = spec_bytes l.spec in
+    let root = big_bytes 4 l.prime in
+    let roots = flat_map (big_bytes 4) l.alternates in
+    let zeros : List ℕ = replicate count 0 in
+    let last = big_bytes 8 l.next_arrival in
+    let front : two ≡ head ++ root = second ∙ ap (λ m. one ++ m) prime_is
+    ∙ ap (λ m. m ++ root) (first ∙ ap (λ m. m ++ head) empty) in
+    let middle : four ≡ (head ++ root) ++ filled_to 28 roots =
+    fourth ∙ ap (λ m. m ++ zeros) (third ∙ ap (λ m. m ++ roots) front) ∙ append_assoc (head ++ root) roots zeros
+    ∙ ap (λ m. (head ++ root) ++ m) (roots_filled l.alternates count count_is) in
+    fifth ∙ ap (λ m. four ++ m) next_is ∙ ap (λ m. m ++ last) middle
+    ∙ append_assoc (head ++ root) (filled_to 28 roots) last ∙ append_assoc head root (filled_to 28 roots ++ last)
 
 -- the page at a place of the list
 page_at : (pages : List ℕ) (i : ℕ) (more : List ℕ) → i < length pages → All (λ page. page < 2 ^ 32) pages

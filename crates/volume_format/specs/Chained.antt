@@ -1,5 +1,5 @@
--- Where the record of a row is: a record of more than 1,000 bytes is in a chain of pages, and the value of its entry in the
--- tree of rows is the chain's first page (4) and the arrivals (own choice).
+-- Where the record of a row is. A record of more than 1,000 bytes is in a chain of pages, and the value of its entry in the tree of
+-- rows is the chain's first page (4) and the arrivals (own choice).
 use Rattle.std.specs.Prelude.{◌++◌, ℕ, zero, suc, take, drop, if◌then◌else◌}
 use Rattle.std.proofs.Common.{refl}
 use Rattle.byteorder.specs.Endian.{big_number}

@@ -1,16 +1,22 @@
-use Rattle.std.proofs.Common.{◌++◌, List, sym, subst, arith}
+use Rattle.std.proofs.Common.{◌++◌, ℕ, List, sym, subst, arith}
 use Rattle.std.specs.Prelude.{Option, OnOk, IfErr}
 use Rattle.station.specs.Disk.{Sector}
 use Rattle.station.specs.State.{State}
-use Rattle.pages.specs.Pages.{map_now}
-use Rattle.volume_format.specs.Forest.{IsForest}
+use Rattle.pages.specs.Pages.{map_now, Agrees}
+use Rattle.btree.specs.Calls.{pages_on}
+use Rattle.records.specs.Files.{NamedFile}
+use Rattle.records.specs.Spec.{Spec}
+use Rattle.volume_format.specs.Forest.{TreeLevels, IsForest}
 use Rattle.volume_format.specs.Volume.{FileTrees, listing_of}
-use Rattle.alternate_keys.proofs.FileTrees.{prime_told, good_spec, all_stored}
 use Rattle.alternate_keys.specs.Faults.{IsReadFault}
+use Rattle.alternate_keys.specs.Placed.{HasTrees}
+use Rattle.alternate_keys.proofs.FileTrees.{prime_told, good_spec, all_stored}
 use Rattle.alternate_keys.proofs.Passing.{passed, spent_before}
 use Rattle.alternate_keys.proofs.Calling.{sectors_still}
 use Rattle.alternate_keys.proofs.Faults.{refused_by_call}
+use Rattle.alternate_keys.proofs.clearing.clear_trees.Given.{Over}
 use Rattle.alternate_keys.proofs.clearing.clear_trees.Goals as goal
+use Rattle.alternate_keys.proofs.clearing.clear_trees.Goals.{After-clear_alternates}
 
 pub returns-in_err-clear_rows-clause-damaged : goal.returns-in_err-clear_rows-clause-damaged
 returns-in_err-clear_rows-clause-damaged g c = λ honest agrees spec named generation left right has refused.
@@ -23,39 +29,37 @@ returns-in_err-clear_rows-clause-damaged g c = λ honest agrees spec named gener
     c.clear_rows.ensures.damaged honest agrees (listing_of kept) kept.prime left (kept.alternates ++ right) good
     has.placed.says (omega arith) told_prime has.placed.is.form has.placed.forest told
 
+-- the trees of the alternate keys are there, after that of the rows is cleared
+alternates : (g : Over) (c : After-clear_alternates g) {spec : Spec} {named : NamedFile} {generation : ℕ}
+    {left right : List TreeLevels} → g.D.Device.is_honest c.args.device.now
+    → Agrees c.args.pages.now (g.D.Device.state c.args.device.now).disk
+    → (has : HasTrees spec named generation (pages_on g.D.Device c.args.pages.now c.args.device.now) left right
+    c.args.value.now) → IsForest (pages_on g.D.Device c.clear_rows.new.pages c.clear_rows.new.device)
+    (left ++ (has.placed.kept.alternates ++ right))
+alternates g c {spec} {named} {generation} {left} {right} honest agrees has =
+    let kept : FileTrees = has.placed.kept in
+    subst (λ (s : State). IsForest (map_now c.clear_rows.new.pages s.disk.present).pages
+    (left ++ (kept.alternates ++ right))) (sym (c.clear_rows.ensures.edits.only.state honest))
+    (c.in_ok-clear_rows.ensures.cleared honest agrees (listing_of kept) kept.prime left (kept.alternates ++ right)
+    (good_spec spec named generation _ left right c.args.value.now has) has.placed.says (omega arith)
+    (prime_told spec named generation _ left right c.args.value.now has) has.placed.is.form has.placed.forest)
+
 pub returns-clause-cleared : goal.returns-clause-cleared
 returns-clause-cleared g c = λ honest agrees spec named generation left right has.
-    let before : List (Option Sector) =
-    (map_now c.args.pages.now (g.D.Device.state c.args.device.now).disk.present).pages in
-    let kept : FileTrees = has.placed.kept in
-    let good = good_spec spec named generation before left right c.args.value.now has in
-    let told_prime = prime_told spec named generation before left right c.args.value.now has in
+    let at = (goal.at.returns-clause-cleared g c).After-clear_alternates in
     let edits = c.clear_rows.ensures.edits in
-    let still = edits.only.state honest in
-    let first = c.in_ok-clear_rows.ensures.cleared honest agrees (listing_of kept) kept.prime left
-    (kept.alternates ++ right) good has.placed.says (omega arith) told_prime has.placed.is.form has.placed.forest in
-    let there = subst (λ (s : State). IsForest (map_now c.clear_rows.new.pages s.disk.present).pages
-    (left ++ (kept.alternates ++ right))) (sym still) first in
-    let done = c.clear_alternates.ensures.cleared (edits.only.honest.0 honest) (edits.agrees honest agrees) kept left
-    right (all_stored spec named generation before left right c.args.value.now has) there in
     subst (λ (s : State). OnOk c.clear_alternates.result
-    (IsForest (map_now c.clear_alternates.new.pages s.disk.present).pages (left ++ right))) still done
+    (IsForest (map_now c.clear_alternates.new.pages s.disk.present).pages (left ++ right))) (edits.only.state honest)
+    (c.clear_alternates.ensures.cleared (edits.only.honest.0 honest) (edits.agrees honest agrees) has.placed.kept left
+    right (all_stored spec named generation _ left right c.args.value.now has) (alternates g at honest agrees has))
 
 pub returns-clause-damaged : goal.returns-clause-damaged
 returns-clause-damaged g c = λ honest agrees spec named generation left right has refused.
-    let before : List (Option Sector) =
-    (map_now c.args.pages.now (g.D.Device.state c.args.device.now).disk.present).pages in
-    let kept : FileTrees = has.placed.kept in
-    let good = good_spec spec named generation before left right c.args.value.now has in
-    let told_prime = prime_told spec named generation before left right c.args.value.now has in
+    let at = (goal.at.returns-clause-damaged g c).After-clear_alternates in
     let edits = c.clear_rows.ensures.edits in
-    let still = edits.only.state honest in
-    let first = c.in_ok-clear_rows.ensures.cleared honest agrees (listing_of kept) kept.prime left
-    (kept.alternates ++ right) good has.placed.says (omega arith) told_prime has.placed.is.form has.placed.forest in
-    let there = subst (λ (s : State). IsForest (map_now c.clear_rows.new.pages s.disk.present).pages
-    (left ++ (kept.alternates ++ right))) (sym still) first in
-    c.clear_alternates.ensures.damaged (edits.only.honest.0 honest) (edits.agrees honest agrees) kept left right
-    (all_stored spec named generation before left right c.args.value.now has) there refused
+    c.clear_alternates.ensures.damaged (edits.only.honest.0 honest) (edits.agrees honest agrees) has.placed.kept left
+    right (all_stored spec named generation _ left right c.args.value.now has) (alternates g at honest agrees has)
+    refused
 
 pub returns-in_err-clear_rows-clause-spent : goal.returns-in_err-clear_rows-clause-spent
 returns-in_err-clear_rows-clause-spent g c =

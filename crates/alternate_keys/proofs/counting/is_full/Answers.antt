@@ -1,97 +1,77 @@
-use Rattle.std.proofs.Common.{◌≡◌, ◌+◌, inr, ℕ, suc, List, length, Err, sym, ap, subst, ◌∙◌, arith}
-use Rattle.std.specs.Prelude.{map, Option, Some}
+use Rattle.std.proofs.Common.{◌≡◌, inr, List, length, Err, refl, sym, ap, ◌∙◌, arith}
+use Rattle.std.specs.Prelude.{map, Some}
 use Rattle.std.proofs.lemmas.List.{length-map}
-use Rattle.station.specs.Disk.{Sector}
 use Rattle.pages.specs.Image.{Map}
-use Rattle.pages.specs.Pages.{map_now}
-use Rattle.btree_pages.specs.Keys.{Ascend}
-use Rattle.btree_pages.specs.declared.row_layout.RowLayout.{RowLayout}
-use Rattle.btree.specs.Rooted.{RootedTree}
-use Rattle.btree.specs.Entries.{Entry, entries_of, first_entry, first_entry_after}
-use Rattle.btree.specs.Laws.{keys_listed}
+use Rattle.pages.specs.Pages.{map_now, mark_of}
+use Rattle.btree.specs.Calls.{pages_on}
+use Rattle.btree.specs.Entries.{Entry}
 use Rattle.btree.specs.Tree.{IsTreeOrEmpty}
+use Rattle.btree.proofs.Ascending.{entry_at, none_at}
 use Rattle.btree.proofs.Frames.{same_pages}
-use Rattle.btree.proofs.There.{tree_ascends}
 use Rattle.records.specs.declared.fault.StoreFault.TheVariants.{Device}
 use Rattle.records.specs.Files.{Files}
 use Rattle.volume_format.specs.Catalog.{catalog_layout}
-use Rattle.volume_format.specs.Volume.{FileTrees, catalog_entry}
+use Rattle.volume_format.specs.Volume.{FileTrees, MapHolds, catalog_entry}
 use Rattle.volume_format.proofs.Looks.{looks_blamed, looks_then}
+use Rattle.alternate_keys.specs.Created.{OnFiles}
+use Rattle.alternate_keys.proofs.CatalogEntries.{catalog_there, first_listed, more_listed, next_listed}
 use Rattle.alternate_keys.proofs.Catalogs.{catalog_holds}
-use Rattle.btree.proofs.Ascending.{entry_at, first_at, next_at, none_at, some_at}
 use Rattle.alternate_keys.proofs.Faults.{refused_by_call}
+use Rattle.alternate_keys.proofs.counting.is_full.Given.{Over}
 use Rattle.alternate_keys.proofs.counting.is_full.Goals as goal
+use Rattle.alternate_keys.proofs.counting.is_full.Goals.{After-next_in}
 
 pub loop-turn-init : goal.loop-turn-init
 loop-turn-init g c = record {
   looks = looks_blamed g.D.Device (c.first_in.result ≡ Err Device) ⊥ c.args.pages.now c.first_in.new.pages
       c.args.device.now c.first_in.new.device (λ is. absurd is) c.first_in.ensures.looks;
   next_is = λ honest agrees files holds.
-      let m : Map = map_now c.args.pages.now (g.D.Device.state c.args.device.now).disk.present in
-      let tree : RootedTree = c.catalog_tree-catalog.result in
-      let layout : tree.layout ≡ catalog_layout m.mark =
-      c.catalog_tree-catalog.ensures.layout ∙ ap catalog_layout c.mark.ensures.is in
-      let there = catalog_holds m files holds tree layout
-      (c.catalog_tree-catalog.ensures.root ∙ c.catalog.ensures) in
-      let listed : entries_of tree.layout holds.keeps.catalog ≡ map (catalog_entry m.mark) holds.kept =
-      ap (λ (l : RowLayout). entries_of l holds.keeps.catalog) layout
-      ∙ holds.keeps.listed in
-      c.in_ok-next.ensures.entry honest agrees holds.keeps.catalog there ∙ ap first_entry listed
-      ∙ first_at (map (catalog_entry m.mark) holds.kept);
+      first_listed (map_now c.args.pages.now (g.D.Device.state c.args.device.now).disk.present) files holds refl
+      c.catalog_tree-catalog.result (c.catalog_tree-catalog.ensures.layout ∙ ap catalog_layout c.mark.ensures.is)
+      (c.catalog_tree-catalog.ensures.root ∙ c.catalog.ensures) c.in_ok-next.next
+      (c.in_ok-next.ensures.entry honest agrees holds.keeps.catalog);
   some = λ honest agrees files holds. omega arith;
 }
 
+-- the entry at this turn
+entry_then : (g : Over) (c : After-next_in g) → OnFiles g.D.Device c.args.pages.now c.args.device.now (λ files holds.
+    entry_at c.loop-turn.turn (map (catalog_entry (mark_of c.args.pages.now)) holds.kept) ≡ Some c.in-Some.entry)
+entry_then g c honest agrees files holds =
+    sym (c.loop-turn.invariant.next_is honest agrees files holds) ∙ c.in-Some.is
+
+-- the catalog is there still
+still_there : (g : Over) (c : After-next_in g) → g.D.Device.is_honest c.args.device.now → (files : Files)
+    → (holds : MapHolds (map_now c.args.pages.now (g.D.Device.state c.args.device.now).disk.present) files)
+    → IsTreeOrEmpty c.catalog_tree-catalog.result.layout (pages_on g.D.Device c.loop-turn.pages c.loop-turn.device)
+    c.catalog_tree-catalog.result.root holds.keeps.catalog
+still_there g c honest files holds =
+    let looks = c.loop-turn.invariant.looks in
+    catalog_there (map_now c.args.pages.now (g.D.Device.state c.args.device.now).disk.present) files holds refl
+    c.catalog_tree-catalog.result (c.catalog_tree-catalog.ensures.layout ∙ ap catalog_layout c.mark.ensures.is)
+    (c.catalog_tree-catalog.ensures.root ∙ c.catalog.ensures)
+    (pages_on g.D.Device c.loop-turn.pages c.loop-turn.device)
+    (same_pages c.args.pages.now c.loop-turn.pages (g.D.Device.state c.args.device.now)
+    (g.D.Device.state c.loop-turn.device) looks.unchanged (looks.only.state honest))
+
 pub loop-turn-preserved : goal.loop-turn-preserved
-loop-turn-preserved g c = record {
-  looks =
-      let loop = c.loop-turn in
-      looks_then g.D.Device ⊥ (c.next_in.result ≡ Err Device) ⊥ c.args.pages.now loop.pages c.next_in.new.pages
-      c.args.device.now loop.device c.next_in.new.device (λ is. absurd is) loop.invariant.looks c.next_in.ensures.looks;
-  next_is = λ honest agrees files holds.
-      let m : Map = map_now c.args.pages.now (g.D.Device.state c.args.device.now).disk.present in
-      let tree : RootedTree = c.catalog_tree-catalog.result in
-      let entries : List Entry = map (catalog_entry m.mark) holds.kept in
-      let count : length files ≡ length holds.kept =
-      ap (λ (l : Files). length l) (sym holds.named) ∙ length-map holds.kept (λ (k : FileTrees). k.named) in
-      let many : length entries ≡ length holds.kept = length-map holds.kept (catalog_entry m.mark) in
-      let loop = c.loop-turn in
-      let looks = loop.invariant.looks in
-      let layout : tree.layout ≡ catalog_layout m.mark =
-      c.catalog_tree-catalog.ensures.layout ∙ ap catalog_layout c.mark.ensures.is in
-      let there = catalog_holds m files holds tree layout
-      (c.catalog_tree-catalog.ensures.root ∙ c.catalog.ensures) in
-      let listed : entries_of tree.layout holds.keeps.catalog ≡ entries =
-      ap (λ (l : RowLayout). entries_of l holds.keeps.catalog) layout
-      ∙ holds.keeps.listed in
-      let same = same_pages c.args.pages.now loop.pages (g.D.Device.state c.args.device.now)
-      (g.D.Device.state loop.device) looks.unchanged (looks.only.state honest) in
-      let there_now = subst (λ (p : List (Option Sector)). IsTreeOrEmpty tree.layout p tree.root holds.keeps.catalog)
-      (sym same) there in
-      let is : entry_at loop.turn entries ≡ Some c.in-Some.entry =
-      sym (loop.invariant.next_is honest agrees files holds) ∙ c.in-Some.is in
-      let ascend = subst (λ (es : List Entry). Ascend (keys_listed es)) listed
-      (tree_ascends tree.layout m.pages tree.root holds.keeps.catalog there) in
-      c.in_ok-next-in-Some.ensures.entry (looks.only.honest.0 honest) (looks.agrees honest agrees) holds.keeps.catalog
-      there_now ∙ ap (λ (es : List Entry). first_entry_after es c.in-Some.entry.key) listed
-      ∙ next_at entries loop.turn c.in-Some.entry ascend is
-      ∙ ap (λ (n : ℕ). entry_at n entries) (let e : suc loop.turn ≡ loop.turn + 1 = omega arith in e);
-  some = λ honest agrees files holds.
-      let m : Map = map_now c.args.pages.now (g.D.Device.state c.args.device.now).disk.present in
-      let tree : RootedTree = c.catalog_tree-catalog.result in
-      let entries : List Entry = map (catalog_entry m.mark) holds.kept in
-      let count : length files ≡ length holds.kept =
-      ap (λ (l : Files). length l) (sym holds.named) ∙ length-map holds.kept (λ (k : FileTrees). k.named) in
-      let many : length entries ≡ length holds.kept = length-map holds.kept (catalog_entry m.mark) in
-      let is : entry_at c.loop-turn.turn entries ≡ Some c.in-Some.entry =
-      sym (c.loop-turn.invariant.next_is honest agrees files holds) ∙ c.in-Some.is in
-      let more = some_at entries c.loop-turn.turn c.in-Some.entry is in
-      omega (arith, more, many);
-}
+loop-turn-preserved g c =
+    let at = (goal.at.loop-turn-preserved g c).After-next_in in
+    let looks = c.loop-turn.invariant.looks in
+    record {
+      looks = looks_then g.D.Device ⊥ _ ⊥ _ _ _ _ _ _ (λ is. absurd is) looks c.next_in.ensures.looks;
+      next_is = λ honest agrees files holds.
+          next_listed (map_now c.args.pages.now (g.D.Device.state c.args.device.now).disk.present) files holds refl
+          c.catalog_tree-catalog.result (c.catalog_tree-catalog.ensures.layout ∙ ap catalog_layout c.mark.ensures.is)
+          (c.catalog_tree-catalog.ensures.root ∙ c.catalog.ensures) c.loop-turn.turn c.in-Some.entry
+          c.in_ok-next-in-Some.next (entry_then g at honest agrees files holds)
+          (c.in_ok-next-in-Some.ensures.entry (looks.only.honest.0 honest) (looks.agrees honest agrees)
+          holds.keeps.catalog (still_there g at honest files holds));
+      some = λ honest agrees files holds. more_listed _ holds.kept _ _ (entry_then g at honest agrees files holds);
+    }
 
 pub returns-in-None-clause-room : goal.returns-in-None-clause-room
 returns-in-None-clause-room g c = λ honest agrees files holds none.
     let m : Map = map_now c.args.pages.now (g.D.Device.state c.args.device.now).disk.present in
-    let tree : RootedTree = c.catalog_tree-catalog.result in
     let entries : List Entry = map (catalog_entry m.mark) holds.kept in
     let count : length files ≡ length holds.kept =
     ap (λ (l : Files). length l) (sym holds.named) ∙ length-map holds.kept (λ (k : FileTrees). k.named) in
@@ -104,7 +84,6 @@ returns-in-None-clause-room g c = λ honest agrees files holds none.
 pub returns-clause-full : goal.returns-clause-full
 returns-clause-full g c = λ honest agrees files holds yes.
     let m : Map = map_now c.args.pages.now (g.D.Device.state c.args.device.now).disk.present in
-    let tree : RootedTree = c.catalog_tree-catalog.result in
     let entries : List Entry = map (catalog_entry m.mark) holds.kept in
     let count : length files ≡ length holds.kept =
     ap (λ (l : Files). length l) (sym holds.named) ∙ length-map holds.kept (λ (k : FileTrees). k.named) in
@@ -117,7 +96,7 @@ pub returns-in_err-next-clause-damaged : goal.returns-in_err-next-clause-damaged
 returns-in_err-next-clause-damaged g c = λ honest agrees files holds refused.
     let told = refused_by_call c.in_err-next.was c.from_residual.ensures.1 refused in
     let m : Map = map_now c.args.pages.now (g.D.Device.state c.args.device.now).disk.present in
-    let tree : RootedTree = c.catalog_tree-catalog.result in
+    let tree = c.catalog_tree-catalog.result in
     let layout : tree.layout ≡ catalog_layout m.mark =
     c.catalog_tree-catalog.ensures.layout ∙ ap catalog_layout c.mark.ensures.is in
     let there = catalog_holds m files holds tree layout
@@ -136,18 +115,8 @@ returns-in_err-next-in-Some-clause-looks g c =
 
 pub returns-in_err-next-in-Some-clause-damaged : goal.returns-in_err-next-in-Some-clause-damaged
 returns-in_err-next-in-Some-clause-damaged g c = λ honest agrees files holds refused.
-    let told = refused_by_call c.in_err-next-in-Some.was c.from_residual-in_err-next-in-Some.ensures.1 refused in
-    let m : Map = map_now c.args.pages.now (g.D.Device.state c.args.device.now).disk.present in
-    let tree : RootedTree = c.catalog_tree-catalog.result in
-    let loop = c.loop-turn in
-    let looks = loop.invariant.looks in
-    let layout : tree.layout ≡ catalog_layout m.mark =
-    c.catalog_tree-catalog.ensures.layout ∙ ap catalog_layout c.mark.ensures.is in
-    let there = catalog_holds m files holds tree layout
-    (c.catalog_tree-catalog.ensures.root ∙ c.catalog.ensures) in
-    let same = same_pages c.args.pages.now loop.pages (g.D.Device.state c.args.device.now)
-    (g.D.Device.state loop.device) looks.unchanged (looks.only.state honest) in
-    let there_now =
-    subst (λ (p : List (Option Sector)). IsTreeOrEmpty tree.layout p tree.root holds.keeps.catalog) (sym same) there in
-    c.next_in.ensures.damaged (looks.only.honest.0 honest) (looks.agrees honest agrees) holds.keeps.catalog there_now
-    told
+    let at = (goal.at.returns-in_err-next-in-Some-clause-damaged g c).After-next_in in
+    let looks = c.loop-turn.invariant.looks in
+    c.next_in.ensures.damaged (looks.only.honest.0 honest) (looks.agrees honest agrees) holds.keeps.catalog
+    (still_there g at honest files holds)
+    (refused_by_call c.in_err-next-in-Some.was c.from_residual-in_err-next-in-Some.ensures.1 refused)

@@ -1,44 +1,24 @@
 use Rattle.std.proofs.Common.{◌≡◌, Ok, Err, true, false, List, ap, sym, subst, ◌∙◌}
 use Rattle.std.specs.Prelude.{Option, IsSome}
 use Rattle.station.specs.Disk.{Sector}
-use Rattle.btree_pages.specs.declared.row_layout.RowLayout.{RowLayout}
 use Rattle.pages.specs.Pages.{map_now}
 use Rattle.pages.specs.declared.error.PagesError.TheVariants as pages
 use Rattle.records.specs.declared.fault.StoreFault.TheVariants.{Full, Damaged}
-use Rattle.btree.specs.Tree.{IsTreeOrEmpty}
-use Rattle.btree.specs.Rooted.{RootedTree}
-use Rattle.btree.specs.Entries.{Entry, entries_of, entry_with, with_new_entry}
-use Rattle.volume_format.specs.Forest.{TreeLevels, tree_levels}
-use Rattle.volume_format.proofs.Forests.{forest_moves}
-use Rattle.volume_format.proofs.Whole.{whole_grows}
-use Rattle.alternate_keys.proofs.Among.{grows}
+use Rattle.btree.specs.Entries.{Entry, entry_with}
 use Rattle.volume_format.proofs.Faults.{damaged_back, full_back}
+use Rattle.alternate_keys.proofs.Among.{grows}
+use Rattle.alternate_keys.proofs.Becoming.{inserts_among}
 use Rattle.alternate_keys.proofs.enter.insert_among.Goals as goal
 
 pub returns-in-Ok-clause-inserted : goal.returns-in-Ok-clause-inserted
 returns-in-Ok-clause-inserted g c = λ honest agrees left right entries stands is.
     let image = (g.D.Device.state c.args.device.now).disk.present in
     let before : List (Option Sector) = (map_now c.args.pages.now image).pages in
-    let after : List (Option Sector) = (map_now c.insert.new.pages image).pages in
-    let old : RootedTree = c.args.tree.now in
-    let new : RootedTree = c.insert.new.self in
-    let made : Entry = record { key = c.args.key.now; value = c.args.value.now } in
     let came : c.in-Ok.new ≡ true = cc in
-    let told =
-    c.in-Ok.ensures.inserted honest agrees stands.levels (grows before left right old entries stands) (ap Ok came) in
-    let one : TreeLevels = tree_levels old stands.levels in
-    let two : TreeLevels = tree_levels new told.1.levels in
-    let holds = subst (λ (l : RowLayout). IsTreeOrEmpty l after new.root told.1.levels) (sym c.in-Ok.ensures.layout)
-    told.1.holds in (
-      ap (λ (es : List Entry). entry_with es c.args.key.now) (sym stands.listed) ∙ told.0,
-      record {
-        levels = told.1.levels;
-        forest = forest_moves before after left right one two stands.forest told.1.moves
-            (whole_grows after new told.1.levels holds);
-        listed = ap (λ (l : RowLayout). entries_of l told.1.levels) c.in-Ok.ensures.layout ∙ told.1.listed
-            ∙ ap (λ (es : List Entry). with_new_entry es made) stands.listed;
-      },
-    )
+    inserts_among before (map_now c.insert.new.pages image).pages left right c.args.tree.now c.insert.new.self entries
+    c.args.key.now c.args.value.now stands c.in-Ok.ensures.layout
+    (c.in-Ok.ensures.inserted honest agrees stands.levels (grows before left right c.args.tree.now entries stands)
+    (ap Ok came))
 
 pub returns-in-Ok-clause-there : goal.returns-in-Ok-clause-there
 returns-in-Ok-clause-there g c = λ honest agrees left right entries stands is.

@@ -1,4 +1,4 @@
-use Rattle.std.proofs.Common.{◌≡◌, inr, Result, Err, ◌+◌, ℕ, Bool, List, length, sym, ap, subst, ◌∙◌, arith}
+use Rattle.std.proofs.Common.{◌≡◌, inr, Result, Err, ◌+◌, ℕ, Bool, List, length, sym, ap, ◌∙◌, arith}
 use Rattle.std.specs.Prelude.{take, drop, Option, Some, None}
 use Rattle.std.specs.List.{flat_map}
 use Rattle.std.specs.Result.{IsErrAnd}
@@ -9,16 +9,16 @@ use Rattle.station.specs.Disk.{Sector}
 use Rattle.pages.specs.Pages.{map_now}
 use Rattle.btree.specs.Rooted.{RootedTree}
 use Rattle.btree.specs.Entries.{Entry, entries_of, entry_with}
-use Rattle.row_trees.specs.RowTree.{ChainedTree, IsRowTree}
+use Rattle.btree.specs.Calls.{pages_on}
 use Rattle.records.specs.declared.answer.Found.{Found}
 use Rattle.records.specs.declared.key.KeyOfReference.TheVariants.{Prime, Alternate}
 use Rattle.records.specs.Rows.{Row}
 use Rattle.alternate_keys.specs.declared.search_start.SearchStart.TheVariants as aim
 use Rattle.volume_format.specs.Pairs.{IsUnder}
 use Rattle.alternate_keys.specs.Aims.{found_entry}
+use Rattle.alternate_keys.specs.Searches.{OnPairEntry}
 use Rattle.alternate_keys.specs.Seen.{begins_with_value}
 use Rattle.volume_format.specs.Trees.{entry_under}
-use Rattle.btree.proofs.Frames.{same_pages}
 use Rattle.btree.proofs.Passing.{never_ok, same_error}
 use Rattle.pages.specs.declared.error.PagesError.{PagesError}
 use Rattle.pages.specs.declared.error.PagesError.TheVariants.{Device, Damaged}
@@ -26,9 +26,10 @@ use Rattle.volume_format.specs.Calls.{LooksAt}
 use Rattle.volume_format.proofs.Looks.{looks_blamed, looks_nowhere, looks_then}
 use Rattle.alternate_keys.proofs.Tells.{repeated_is, row_there, alternate_number, alternate_long}
 use Rattle.alternate_keys.proofs.Faults.{refused_by_call}
+use Rattle.alternate_keys.proofs.HeldTrees.{rows_still}
 use Rattle.alternate_keys.proofs.found_rows.read_alternate_row.Given.{Over}
 use Rattle.alternate_keys.proofs.found_rows.read_alternate_row.Goals as goal
-use Rattle.alternate_keys.proofs.found_rows.read_alternate_row.Goals.{After-find, After-is_repeated}
+use Rattle.alternate_keys.proofs.found_rows.read_alternate_row.Goals.{After-copy_record, After-find, After-is_repeated}
 
 -- the calls only read
 looked : (g : Over) (c : After-is_repeated g) → LooksAt g.D.Device (c.is_repeated.result ≡ Err Device)
@@ -92,51 +93,43 @@ returns-clause-looks g c = both g (goal.at.returns-clause-looks g c).After-find 
 
 pub returns-in_err-row-clause-damaged : goal.returns-in_err-row-clause-damaged
 returns-in_err-row-clause-damaged g c = λ honest agrees spec i rows row told near fits is.
-    let damaged = refused_by_call c.in_err-row.was c.from_residual-in_err-row.ensures.1 is in
-    let same =
-    same_pages c.args.pages.now c.is_repeated.new.pages (g.D.Device.state c.args.device.now) (g.D.Device.state
-    c.is_repeated.new.device) c.is_repeated.ensures.unchanged (c.is_repeated.ensures.only.state honest) in
-    let prime : ChainedTree = c.args.prime.now in
-    let here = subst (λ (p : List (Option Sector)). IsRowTree p prime told.there.planted) (sym same)
-    told.there.stands in
     c.find.ensures.damaged (c.is_repeated.ensures.only.honest.0 honest) (c.is_repeated.ensures.agrees honest agrees)
-    told.there.planted here damaged
+    told.there.planted (rows_still g.D.Device c.args.pages.now c.is_repeated.new.pages c.args.device.now
+    c.is_repeated.new.device c.is_repeated.ensures.unchanged (c.is_repeated.ensures.only.state honest) told.there)
+    (refused_by_call c.in_err-row.was c.from_residual-in_err-row.ensures.1 is)
 
 pub returns-in-None-clause-damaged : goal.returns-in-None-clause-damaged
 returns-in-None-clause-damaged g c = λ honest agrees spec i rows row told near fits is.
-    let pages : List (Option Sector) =
-    (map_now c.args.pages.now (g.D.Device.state c.args.device.now).disk.present).pages in
-    let same =
-    same_pages c.args.pages.now c.is_repeated.new.pages (g.D.Device.state c.args.device.now) (g.D.Device.state
-    c.is_repeated.new.device) c.is_repeated.ensures.unchanged (c.is_repeated.ensures.only.state honest) in
-    let prime : ChainedTree = c.args.prime.now in
-    let here = subst (λ (p : List (Option Sector)). IsRowTree p prime told.there.planted) (sym same)
-    told.there.stands in
-    let got = c.in_ok-row.ensures.row (c.is_repeated.ensures.only.honest.0 honest)
-    (c.is_repeated.ensures.agrees honest agrees) told.there.planted here in
-    let there =
-    row_there spec i c.args.value_length pages rows prime c.args.under.now c.args.notes.now.entry row told in
-    let found = got ∙ ap (entry_with told.there.planted.entries) c.value.ensures ∙ there in
+    let found = c.in_ok-row.ensures.row (c.is_repeated.ensures.only.honest.0 honest)
+    (c.is_repeated.ensures.agrees honest agrees) told.there.planted
+    (rows_still g.D.Device c.args.pages.now c.is_repeated.new.pages c.args.device.now
+    c.is_repeated.new.device c.is_repeated.ensures.unchanged (c.is_repeated.ensures.only.state honest) told.there)
+    ∙ ap (entry_with told.there.planted.entries) c.value.ensures
+    ∙ row_there spec i c.args.value_length (pages_on g.D.Device c.args.pages.now c.args.device.now) rows
+    c.args.prime.now c.args.under.now c.args.notes.now.entry row told in
     let clash : None ≡ Some (entry_under spec Prime row) = sym c.in-None.is ∙ found in
+    cc
+
+-- the row that is found
+row_is : (g : Over) (c : After-copy_record g) → OnPairEntry g.D.Device c.args.pages.now c.args.device.now
+    c.args.prime.now c.args.under.now c.args.value_length c.args.notes.now.entry
+    (λ spec i rows row. c.in-Some.row ≡ entry_under spec Prime row)
+row_is g c = λ honest agrees spec i rows row told.
+    let found = c.in_ok-row.ensures.row (c.is_repeated.ensures.only.honest.0 honest)
+    (c.is_repeated.ensures.agrees honest agrees) told.there.planted
+    (rows_still g.D.Device c.args.pages.now c.is_repeated.new.pages c.args.device.now
+    c.is_repeated.new.device c.is_repeated.ensures.unchanged (c.is_repeated.ensures.only.state honest) told.there)
+    ∙ ap (entry_with told.there.planted.entries) c.value.ensures
+    ∙ row_there spec i c.args.value_length (pages_on g.D.Device c.args.pages.now c.args.device.now) rows
+    c.args.prime.now c.args.under.now c.args.notes.now.entry row told in
+    let some : Some c.in-Some.row ≡ Some (entry_under spec Prime row) = sym c.in-Some.is ∙ found in
     cc
 
 pub returns-in_err-copy_record-clause-damaged : goal.returns-in_err-copy_record-clause-damaged
 returns-in_err-copy_record-clause-damaged g c = λ honest agrees spec i rows row told near fits is.
-    let pages : List (Option Sector) =
-    (map_now c.args.pages.now (g.D.Device.state c.args.device.now).disk.present).pages in
-    let same =
-    same_pages c.args.pages.now c.is_repeated.new.pages (g.D.Device.state c.args.device.now) (g.D.Device.state
-    c.is_repeated.new.device) c.is_repeated.ensures.unchanged (c.is_repeated.ensures.only.state honest) in
-    let prime : ChainedTree = c.args.prime.now in
-    let here = subst (λ (p : List (Option Sector)). IsRowTree p prime told.there.planted) (sym same)
-    told.there.stands in
-    let got = c.in_ok-row.ensures.row (c.is_repeated.ensures.only.honest.0 honest)
-    (c.is_repeated.ensures.agrees honest agrees) told.there.planted here in
-    let there =
-    row_there spec i c.args.value_length pages rows prime c.args.under.now c.args.notes.now.entry row told in
-    let found = got ∙ ap (entry_with told.there.planted.entries) c.value.ensures ∙ there in
-    let some : Some c.in-Some.row ≡ Some (entry_under spec Prime row) = sym c.in-Some.is ∙ found in
-    let whole : c.in-Some.row ≡ entry_under spec Prime row = cc in
+    let whole =
+    row_is g (goal.at.returns-in_err-copy_record-clause-damaged g c).After-copy_record honest agrees spec i rows
+    row told in
     let count =
     ap (λ (l : List ℕ). length l) c.value-2.ensures ∙ ap (λ (e : Entry). length e.value) whole
     ∙ length-append row.bytes (flat_map (big_bytes 8) row.arrivals) in
@@ -176,21 +169,7 @@ returns-clause-found g c = λ honest agrees spec i rows row told near.
 
 pub returns-clause-bytes : goal.returns-clause-bytes
 returns-clause-bytes g c = λ honest agrees spec i rows row told fits.
-    let pages : List (Option Sector) =
-    (map_now c.args.pages.now (g.D.Device.state c.args.device.now).disk.present).pages in
-    let same =
-    same_pages c.args.pages.now c.is_repeated.new.pages (g.D.Device.state c.args.device.now) (g.D.Device.state
-    c.is_repeated.new.device) c.is_repeated.ensures.unchanged (c.is_repeated.ensures.only.state honest) in
-    let prime : ChainedTree = c.args.prime.now in
-    let here = subst (λ (p : List (Option Sector)). IsRowTree p prime told.there.planted) (sym same)
-    told.there.stands in
-    let got = c.in_ok-row.ensures.row (c.is_repeated.ensures.only.honest.0 honest)
-    (c.is_repeated.ensures.agrees honest agrees) told.there.planted here in
-    let there =
-    row_there spec i c.args.value_length pages rows prime c.args.under.now c.args.notes.now.entry row told in
-    let found = got ∙ ap (entry_with told.there.planted.entries) c.value.ensures ∙ there in
-    let some : Some c.in-Some.row ≡ Some (entry_under spec Prime row) = sym c.in-Some.is ∙ found in
-    let whole : c.in-Some.row ≡ entry_under spec Prime row = cc in
+    let whole = row_is g (goal.at.returns-clause-bytes g c).After-copy_record honest agrees spec i rows row told in
     let record_is =
     All-contains (λ (r : Row). length r.bytes ≡ spec.record_length) rows row told.there.records told.has in
     c.in_ok-copy_record.ensures.ok ∙ ap (take (length c.args.bytes.now)) c.value-2.ensures

@@ -1,14 +1,14 @@
-use Rattle.std.proofs.Common.{◌≡◌, Ok, Err, true, false, List, ap, sym, subst, ◌∙◌}
-use Rattle.std.specs.Prelude.{Option, None, is_some}
+use Rattle.std.proofs.Common.{◌≡◌, Ok, Err, List, ap, refl, sym, subst, ◌∙◌}
+use Rattle.std.specs.Prelude.{Option}
 use Rattle.station.specs.Disk.{Sector}
 use Rattle.pages.specs.Pages.{map_now}
 use Rattle.pages.specs.declared.error.PagesError.TheVariants as pages
 use Rattle.records.specs.declared.fault.StoreFault.TheVariants.{Damaged}
 use Rattle.btree.specs.Rooted.{RootedTree}
-use Rattle.btree.specs.Entries.{Entry, entries_of, entry_with, without_entry}
+use Rattle.btree.specs.Entries.{Entry, entries_of, without_entry}
 use Rattle.btree.specs.Changes.{Becomes}
 use Rattle.alternate_keys.proofs.Among.{grows}
-use Rattle.alternate_keys.proofs.Becoming.{becomes_among}
+use Rattle.alternate_keys.proofs.Becoming.{becomes_among, never_missing}
 use Rattle.volume_format.proofs.Faults.{damaged_back}
 use Rattle.alternate_keys.proofs.leave.remove_among.Goals as goal
 
@@ -39,14 +39,9 @@ pub returns-in-Ok-false-clause-damaged : goal.returns-in-Ok-false-clause-damaged
 returns-in-Ok-false-clause-damaged g c = λ honest agrees left right entries stands some is.
     let before : List (Option Sector) =
     (map_now c.args.pages.now (g.D.Device.state c.args.device.now).disk.present).pages in
-    let tree : RootedTree = c.args.tree.now in
-    let none : entry_with (entries_of tree.layout stands.levels) c.args.key.now ≡ None = c.in-Ok-false.ensures.missing
-    honest agrees stands.levels (grows before left right tree entries stands) (ap Ok c.in-Ok-false.field-0-test) in
-    let none_there : entry_with entries c.args.key.now ≡ None =
-    ap (λ (es : List Entry). entry_with es c.args.key.now) (sym stands.listed) ∙ none in
-    let clash : is_some (entry_with entries c.args.key.now) ≡ false = ap (λ (e : Option Entry). is_some e) none_there in
-    let both : true ≡ false = sym some ∙ clash in
-    cc
+    never_missing before left right c.args.tree.now entries c.args.key.now c.args.key.now refl stands
+    (c.in-Ok-false.ensures.missing honest agrees stands.levels
+    (grows before left right c.args.tree.now entries stands) (ap Ok c.in-Ok-false.field-0-test)) some
 
 pub returns-in-Err-clause-damaged : goal.returns-in-Err-clause-damaged
 returns-in-Err-clause-damaged g c = λ honest agrees left right entries stands some is.

@@ -19,8 +19,9 @@ use Rattle.volume_format.specs.Volume.{FileTrees, MapHolds, catalog_entry}
 use Rattle.volume_format.proofs.Looks.{looks_blamed, looks_then}
 use Rattle.alternate_keys.specs.Created.{OnFiles}
 use Rattle.alternate_keys.specs.Migrated.{AreFilled}
-use Rattle.alternate_keys.proofs.CatalogLeaves.{AreListed, catalog_there, first_listed, leaf_capacity, leaf_value}
-use Rattle.alternate_keys.proofs.CatalogLeaves.{listed_all, next_listed, none_filled, none_listed, own_lengths}
+use Rattle.alternate_keys.proofs.CatalogEntries.{catalog_there, first_listed, next_listed}
+use Rattle.alternate_keys.proofs.CatalogLeaves.{AreListed, leaf_capacity, leaf_value}
+use Rattle.alternate_keys.proofs.CatalogLeaves.{listed_all, none_filled, none_listed, own_lengths}
 use Rattle.alternate_keys.proofs.CatalogLeaves.{row_inserted, row_listed, trees_now}
 use Rattle.alternate_keys.proofs.Faults.{never_device, refused_by_call}
 use Rattle.alternate_keys.proofs.FilledPages.{agreed_bounds}

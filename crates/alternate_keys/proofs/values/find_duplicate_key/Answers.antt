@@ -4,23 +4,25 @@ use Rattle.std.specs.Prelude.{filter, Option, slice_index_or, if◌then◌else�
 use Rattle.std.specs.List.{list_any}
 use Rattle.std.proofs.lemmas.List.{get_or_read}
 use Rattle.station.specs.Disk.{Sector}
+use Rattle.btree.specs.Calls.{IfAgrees, pages_on}
+use Rattle.btree.proofs.Frames.{same_pages}
 use Rattle.records.specs.declared.answer.Outcome.{Outcome}
 use Rattle.records.specs.declared.answer.Outcome.TheVariants.{Taken}
 use Rattle.records.specs.declared.file_spec.AlternateKey.{AlternateKey}
 use Rattle.records.specs.declared.key.KeyOfReference.TheVariants.{Alternate}
-use Rattle.records.specs.Spec.{Spec}
 use Rattle.records.specs.Rows.{Row, no_key}
 use Rattle.records.specs.Changes.{repeats, is_taken, is_duplicate, done_outcome}
 use Rattle.records.specs.Stores.{spec_of}
-use Rattle.btree.proofs.Frames.{same_pages}
 use Rattle.alternate_keys.specs.Moved.{is_new}
-use Rattle.alternate_keys.specs.Placed.{listed_tree}
+use Rattle.alternate_keys.specs.Placed.{HasAllPairs, listed_tree}
 use Rattle.alternate_keys.specs.Seen.{HasPairs}
 use Rattle.volume_format.proofs.Looks.{looks_then}
 use Rattle.alternate_keys.proofs.Walks.{any_more, any_at, all_taken, allowed, any_filtered}
 use Rattle.alternate_keys.proofs.Passing.{never_ok}
 use Rattle.alternate_keys.proofs.Faults.{refused_by_call}
+use Rattle.alternate_keys.proofs.values.find_duplicate_key.Given.{Over}
 use Rattle.alternate_keys.proofs.values.find_duplicate_key.Goals as goal
+use Rattle.alternate_keys.proofs.values.find_duplicate_key.Goals.{After-is_repeated}
 
 pub returns-in_err-repeated-clause-looks : goal.returns-in_err-repeated-clause-looks
 returns-in_err-repeated-clause-looks g c =
@@ -30,21 +32,30 @@ returns-in_err-repeated-clause-looks g c =
     (λ is. inr (let told = refused_by_call c.in_err-repeated.was c.from_residual.ensures.1 is in told))
     loop.invariant.looks c.is_repeated.ensures.looks
 
+-- the key is one of the file's
+low : (g : Over) (c : After-is_repeated g) → c.loop-key.key < length (spec_of c.args.file.now).alternates
+low g c = omega (arith, c.len-count.ensures, c.args.file.now.alternates.ok, c.loop-key-test.true)
+
+-- its pairs are there still
+here : (g : Over) (c : After-is_repeated g) → IfAgrees g.D.Device c.args.pages.now c.args.device.now
+    ((rows : List Row) → HasAllPairs (spec_of c.args.file.now)
+    (pages_on g.D.Device c.args.pages.now c.args.device.now) rows c.args.listing.now
+    → HasPairs (spec_of c.args.file.now) (Alternate c.loop-key.key)
+    (pages_on g.D.Device c.loop-key.pages c.loop-key.device) rows
+    (listed_tree (spec_of c.args.file.now) c.loop-key.key c.args.listing.now))
+here g c honest agrees rows pairs =
+    let looks = c.loop-key.invariant.looks in
+    subst (λ (p : List (Option Sector)). HasPairs (spec_of c.args.file.now) (Alternate c.loop-key.key) p rows
+    (listed_tree (spec_of c.args.file.now) c.loop-key.key c.args.listing.now))
+    (sym (same_pages c.args.pages.now c.loop-key.pages (g.D.Device.state c.args.device.now)
+    (g.D.Device.state c.loop-key.device) looks.unchanged (looks.only.state honest))) (pairs c.loop-key.key (low g c))
+
 pub returns-in_err-repeated-clause-damaged : goal.returns-in_err-repeated-clause-damaged
 returns-in_err-repeated-clause-damaged g c = λ honest agrees rows pairs is.
-    let loop = c.loop-key in
-    let spec : Spec = spec_of c.args.file.now in
-    let listing : List ℕ = c.args.listing.now in
-    let n : c.len-count.result ≡ length c.args.file.now.alternates.items =
-    omega (arith, c.len-count.ensures, c.args.file.now.alternates.ok) in
-    let low : loop.key < length spec.alternates = let test = c.loop-key-test.true in omega (arith, n, test) in
-    let same = same_pages c.args.pages.now loop.pages (g.D.Device.state c.args.device.now)
-    (g.D.Device.state loop.device) loop.invariant.looks.unchanged (loop.invariant.looks.only.state honest) in
-    let here = subst (λ (p : List (Option Sector)).
-    HasPairs spec (Alternate loop.key) p rows (listed_tree spec loop.key listing)) (sym same) (pairs loop.key low) in
-    let damaged = refused_by_call c.in_err-repeated.was c.from_residual.ensures.1 is in
-    c.is_repeated.ensures.damaged (loop.invariant.looks.only.honest.0 honest)
-    (loop.invariant.looks.agrees honest agrees) rows here damaged
+    let at = (goal.at.returns-in_err-repeated-clause-damaged g c).After-is_repeated in
+    let looks = c.loop-key.invariant.looks in
+    c.is_repeated.ensures.damaged (looks.only.honest.0 honest) (looks.agrees honest agrees) rows
+    (here g at honest agrees rows pairs) (refused_by_call c.in_err-repeated.was c.from_residual.ensures.1 is)
 
 pub returns-then-is_barred-clause-looks : goal.returns-then-is_barred-clause-looks
 returns-then-is_barred-clause-looks g c =
@@ -86,12 +97,13 @@ module _ (keys : List AlternateKey) (rows : List Row) (bytes : List ℕ) (new : 
       (taken_is ∙ ap (λ (ks : List AlternateKey). list_any bars ks) (sym all) ∙ none)
       ∙ ap done_outcome (duplicate_is ∙ ap (λ (ks : List AlternateKey). list_any doubles ks) (sym all) ∙ sym is))
 
-  -- one key more
-  pub passes : (k : ℕ) (repeated barred : Bool) → repeated ≡ wanted (slice_index_or keys k no_key)
-      → barred ≡ (not (slice_index_or keys k no_key).duplicates && repeated) → barred ≡ false
-      → bars (slice_index_or keys k no_key) ≡ false
-  passes k repeated barred there is out =
-      ap (λ (b : Bool). not (slice_index_or keys k no_key).duplicates && b) (sym there) ∙ sym is ∙ out
+  -- one key more: it bars the record, or the answer so far holds of it too
+  pub bars_at : (k : ℕ) (key : AlternateKey) (repeated barred answer : Bool) → key ≡ slice_index_or keys k no_key
+      → repeated ≡ wanted (slice_index_or keys k no_key) → barred ≡ (not key.duplicates && repeated)
+      → barred ≡ answer → bars (slice_index_or keys k no_key) ≡ answer
+  bars_at k key repeated barred answer at there is out =
+      ap (λ (b : Bool). not (slice_index_or keys k no_key).duplicates && b) (sym there)
+      ∙ ap (λ (x : AlternateKey). not x.duplicates && repeated) (sym at) ∙ sym is ∙ out
 
   pub none_more : (k : ℕ) → k < length keys → list_any bars (take k keys) ≡ false
       → bars (slice_index_or keys k no_key) ≡ false → list_any bars (take (k + 1) keys) ≡ false
@@ -108,64 +120,43 @@ module _ (keys : List AlternateKey) (rows : List Row) (bytes : List ℕ) (new : 
       (there ∙ sym (allowed (slice_index_or keys k no_key).duplicates (wanted (slice_index_or keys k no_key)) own))
       ∙ sym (any_more doubles keys k no_key low)
 
+  pub goes_on : (k : ℕ) (key : AlternateKey) (duplicate repeated barred either : Bool) → k < length keys
+      → key ≡ slice_index_or keys k no_key → repeated ≡ wanted (slice_index_or keys k no_key)
+      → barred ≡ (not key.duplicates && repeated) → barred ≡ false → either ≡ (duplicate || repeated)
+      → (list_any bars (take k keys) ≡ false) × (duplicate ≡ list_any doubles (take k keys))
+      → (list_any bars (take (k + 1) keys) ≡ false) × (either ≡ list_any doubles (take (k + 1) keys))
+  goes_on k key duplicate repeated barred either low at there is out both so_far =
+      let own = bars_at k key repeated barred false at there is out in (
+        none_more k low so_far.0 own,
+        double_more k duplicate repeated either low so_far.1 there own both,
+      )
+
 pub returns-then-is_barred-clause-told : goal.returns-then-is_barred-clause-told
 returns-then-is_barred-clause-told g c = λ honest agrees rows pairs.
-    let loop = c.loop-key in
-    let spec : Spec = spec_of c.args.file.now in
-    let listing : List ℕ = c.args.listing.now in
-    let bytes : List ℕ = c.args.bytes.now in
-    let keys : List AlternateKey = spec.alternates in
-    let new : AlternateKey → Bool = is_new c.args.verb (take spec.record_length c.args.old.now) bytes in
-    let n : c.len-count.result ≡ length c.args.file.now.alternates.items =
-    omega (arith, c.len-count.ensures, c.args.file.now.alternates.ok) in
-    let low : loop.key < length keys = let test = c.loop-key-test.true in omega (arith, n, test) in
-    let same = same_pages c.args.pages.now loop.pages (g.D.Device.state c.args.device.now)
-    (g.D.Device.state loop.device) loop.invariant.looks.unchanged (loop.invariant.looks.only.state honest) in
-    let here = subst (λ (p : List (Option Sector)).
-    HasPairs spec (Alternate loop.key) p rows (listed_tree spec loop.key listing)) (sym same) (pairs loop.key low) in
-    let key : AlternateKey = slice_index_or keys loop.key no_key in
-    let there = c.in_ok-repeated.ensures.repeated (loop.invariant.looks.only.honest.0 honest)
-    (loop.invariant.looks.agrees honest agrees) rows here in
-    let at : c.index.result.now ≡ key = get_or_read keys loop.key c.index.result.now low c.index.ensures no_key in
-    let own : bars keys rows bytes new key ≡ true =
-    ap (λ (b : Bool). not key.duplicates && b) (sym there)
-    ∙ ap (λ (k : AlternateKey). not k.duplicates && c.in_ok-repeated.repeated) (sym at) ∙ sym c.is_barred.ensures
-    ∙ c.if-is_barred.true in
-    barred keys rows bytes new loop.key low own
+    let at = (goal.at.returns-then-is_barred-clause-told g c).After-is_repeated in
+    let keys = (spec_of c.args.file.now).alternates in
+    let new = is_new c.args.verb (take c.args.file.now.record_length c.args.old.now) c.args.bytes.now in
+    let looks = c.loop-key.invariant.looks in
+    barred keys rows c.args.bytes.now new c.loop-key.key (low g at)
+    (bars_at keys rows c.args.bytes.now new c.loop-key.key c.index.result.now c.in_ok-repeated.repeated
+    c.is_barred.result true (get_or_read keys c.loop-key.key c.index.result.now (low g at) c.index.ensures no_key)
+    (c.in_ok-repeated.ensures.repeated (looks.only.honest.0 honest) (looks.agrees honest agrees) rows
+    (here g at honest agrees rows pairs)) c.is_barred.ensures c.if-is_barred.true)
 
 pub loop-key-preserved : goal.loop-key-preserved
 loop-key-preserved g c =
-    let loop = c.loop-key in
+    let at = (goal.at.loop-key-preserved g c).After-is_repeated in
+    let keys = (spec_of c.args.file.now).alternates in
+    let new = is_new c.args.verb (take c.args.file.now.record_length c.args.old.now) c.args.bytes.now in
+    let loop = c.loop-key.invariant in
     record {
-      looks = looks_then g.D.Device ⊥ _ ⊥ c.args.pages.now loop.pages c.is_repeated.new.pages c.args.device.now
-          loop.device c.is_repeated.new.device
-          (λ is. absurd is) loop.invariant.looks c.is_repeated.ensures.looks;
-      told = λ honest agrees rows pairs.
-          let spec : Spec = spec_of c.args.file.now in
-          let listing : List ℕ = c.args.listing.now in
-          let bytes : List ℕ = c.args.bytes.now in
-          let keys : List AlternateKey = spec.alternates in
-          let new : AlternateKey → Bool = is_new c.args.verb (take spec.record_length c.args.old.now) bytes in
-          let n : c.len-count.result ≡ length c.args.file.now.alternates.items =
-          omega (arith, c.len-count.ensures, c.args.file.now.alternates.ok) in
-          let low : loop.key < length keys = let test = c.loop-key-test.true in omega (arith, n, test) in
-          let same = same_pages c.args.pages.now loop.pages (g.D.Device.state c.args.device.now)
-          (g.D.Device.state loop.device) loop.invariant.looks.unchanged (loop.invariant.looks.only.state honest) in
-          let here = subst (λ (p : List (Option Sector)). HasPairs spec (Alternate loop.key) p rows
-          (listed_tree spec loop.key listing)) (sym same) (pairs loop.key low) in
-          let key : AlternateKey = slice_index_or keys loop.key no_key in
-          let there = c.in_ok-repeated.ensures.repeated (loop.invariant.looks.only.honest.0 honest)
-          (loop.invariant.looks.agrees honest agrees) rows here in
-          let at : c.index.result.now ≡ key = get_or_read keys loop.key c.index.result.now low c.index.ensures no_key in
-          let so_far = loop.invariant.told honest agrees rows pairs in
-          let is : c.is_barred.result ≡ (not key.duplicates && c.in_ok-repeated.repeated) =
-          c.is_barred.ensures ∙ ap (λ (k : AlternateKey). not k.duplicates && c.in_ok-repeated.repeated) at in
-          let own = passes keys rows bytes new loop.key c.in_ok-repeated.repeated c.is_barred.result there is
-          c.if-is_barred.false in (
-            none_more keys rows bytes new loop.key low so_far.0 own,
-            double_more keys rows bytes new loop.key loop.duplicate c.in_ok-repeated.repeated c.either-duplicate.result
-                low so_far.1 there own c.either-duplicate.ensures,
-          );
+      looks = looks_then g.D.Device ⊥ _ ⊥ _ _ _ _ _ _ (λ is. absurd is) loop.looks c.is_repeated.ensures.looks;
+      told = λ honest agrees rows pairs. goes_on keys rows c.args.bytes.now new c.loop-key.key c.index.result.now
+          c.loop-key.duplicate c.in_ok-repeated.repeated c.is_barred.result c.either-duplicate.result (low g at)
+          (get_or_read keys c.loop-key.key c.index.result.now (low g at) c.index.ensures no_key)
+          (c.in_ok-repeated.ensures.repeated (loop.looks.only.honest.0 honest) (loop.looks.agrees honest agrees) rows
+          (here g at honest agrees rows pairs)) c.is_barred.ensures c.if-is_barred.false c.either-duplicate.ensures
+          (loop.told honest agrees rows pairs);
     }
 
 pub returns-then-duplicate-clause-told : goal.returns-then-duplicate-clause-told

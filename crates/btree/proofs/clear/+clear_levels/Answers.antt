@@ -1,17 +1,17 @@
-use Rattle.std.proofs.Common.{◌≡◌, ◌≤◌, ◌<◌, ◌-◌, ◌^◌, ℕ, List, [], length, sym, ap, subst, ◌∙◌, arith, rules}
+use Rattle.std.proofs.Common.{◌≡◌, ◌≤◌, ◌<◌, ◌-◌, ℕ, List, [], length, sym, ap, subst, ◌∙◌, arith, rules}
 use Rattle.std.specs.Prelude.{Option, OnOk}
 use Rattle.std.specs.List.{All}
 use Rattle.std.proofs.lemmas.List.{nil_from_length}
 use Rattle.std.proofs.lemmas.Result.{on_ok_weaker}
 use Rattle.station.specs.Disk.{Sector}
-use Rattle.station.specs.State.{State}
 use Rattle.pages.specs.Image.{Map}
 use Rattle.btree.specs.Tree.{TreeNode, pages_of}
-use Rattle.btree.specs.Laws.{IsSmall}
 use Rattle.btree.specs.Moves.{Moves}
 use Rattle.btree.specs.Changes.{pages_of_map}
-use Rattle.btree.specs.Clears.{HasPages, IsDown, levels_below}
-use Rattle.btree.proofs.Clearing.{moves_none, no_levels, top_between, down_after, cleared_after, fewer_levels}
+use Rattle.btree.specs.Clears.{IsDown}
+use Rattle.btree.specs.Calls.{pages_on}
+use Rattle.btree.proofs.ClearedLevels.{rest_left}
+use Rattle.btree.proofs.Clearing.{moves_none, no_levels, top_between, cleared_after, fewer_levels}
 use Rattle.std.specs.Prelude.{IfErr, Err}
 use Rattle.std.proofs.Common.{inr, true}
 use Rattle.station.specs.Calls.{OnlyReads}
@@ -53,59 +53,34 @@ returns-in_err-release_pages-clause-catalog g t c =
 
 pub returns-clause-cleared : goal.returns-clause-cleared
 returns-clause-cleared g t c = λ honest agrees levels few down.
-    let below = c.below.ensures in
-    let image = (g.D.Device.state c.args.device.now).disk.present in
-    let one = pages_of_map c.args.pages.now image in
-    let two = pages_of_map c.release_pages.new.pages image in
-    let three = pages_of_map c.clear_levels.new.pages image in
     let numbers : List ℕ = c.args.numbers.items in
-    let children : List ℕ = c.in_ok-children.children.items in
-    let has : HasPages children (levels_below levels) = c.in_ok-children.ensures.below honest agrees levels few
+    let one = pages_on g.D.Device c.args.pages.now c.args.device.now in
+    let has = c.in_ok-children.ensures.below honest agrees levels few
     (subst (λ (n : List ℕ). IsDown c.args.layout one n levels) (sym c.as_slice.ensures.value) down) in
-    let first : Moves one numbers two [] =
-    subst (λ (n : List ℕ). Moves one n two []) c.as_slice-2.ensures.value
-    (subst (λ (p : List (Option Sector)). Moves p c.as_slice-2.result.now two [])
-    (ap (λ (m : Map). m.pages) (below.unchanged.map image)) (c.in_ok-release_pages.ensures.released image)) in
-    let after = down_after c.args.layout one two numbers children levels down has first in
-    let Rest : State → Type 0 = λ s. IsSmall (pages_of_map c.release_pages.new.pages s.disk.present)
-    → IsDown c.args.layout (pages_of_map c.release_pages.new.pages s.disk.present) children (levels_below levels) →
-    OnOk c.clear_levels.result (Moves (pages_of_map c.release_pages.new.pages s.disk.present)
-    (pages_of (levels_below levels)) (pages_of_map c.clear_levels.new.pages s.disk.present) []) in
-    let rest : Rest (g.D.Device.state c.args.device.now) =
-    subst Rest (below.only.state honest)
-    (c.clear_levels.ensures.cleared (below.only.honest.0 honest) (c.release_pages.ensures.keeps.agrees
-    (g.D.Device.state c.below.new.device).disk (below.agrees honest agrees)) (levels_below levels)) in
-    let small : IsSmall two = subst (λ (n : ℕ). n ≤ 2 ^ 20) (sym first.count) few in
+    let left = rest_left g.D.Device _ c.args.layout c.args.pages.now c.below.new.pages c.release_pages.new.pages
+    c.clear_levels.new.pages c.args.device.now c.below.new.device numbers c.as_slice-2.result.now
+    c.in_ok-children.children.items levels
+    (λ before after l. OnOk c.clear_levels.result (Moves before (pages_of l) after [])) c.below.ensures.unchanged
+    c.below.ensures.only c.below.ensures.agrees c.release_pages.ensures.keeps c.as_slice-2.ensures.value
+    c.in_ok-release_pages.ensures.released honest agrees few down has c.clear_levels.ensures.cleared in
     on_ok_weaker c.clear_levels.result
-    (λ second. cleared_after c.args.layout one two three numbers levels down first second) (rest small after)
+    (λ second. cleared_after c.args.layout one _ _ numbers levels down left.0 second) left.1
 
 pub returns-clause-damaged : goal.returns-clause-damaged
 returns-clause-damaged g t c = λ honest agrees is levels few down deep.
-    let below = c.below.ensures in
-    let image = (g.D.Device.state c.args.device.now).disk.present in
-    let one = pages_of_map c.args.pages.now image in
-    let two = pages_of_map c.release_pages.new.pages image in
-    let numbers : List ℕ = c.args.numbers.items in
-    let children : List ℕ = c.in_ok-children.children.items in
+    let one = pages_on g.D.Device c.args.pages.now c.args.device.now in
     let here : IsDown c.args.layout one c.as_slice.result.now levels =
     subst (λ (n : List ℕ). IsDown c.args.layout one n levels) (sym c.as_slice.ensures.value) down in
-    let has : HasPages children (levels_below levels) = c.in_ok-children.ensures.below honest agrees levels few here in
-    let first : Moves one numbers two [] =
-    subst (λ (n : List ℕ). Moves one n two []) c.as_slice-2.ensures.value
-    (subst (λ (p : List (Option Sector)). Moves p c.as_slice-2.result.now two [])
-    (ap (λ (m : Map). m.pages) (below.unchanged.map image)) (c.in_ok-release_pages.ensures.released image)) in
-    let after = down_after c.args.layout one two numbers children levels down has first in
-    let Rest : State → Type 0 = λ s. IsSmall (pages_of_map c.release_pages.new.pages s.disk.present)
-    → IsDown c.args.layout (pages_of_map c.release_pages.new.pages s.disk.present) children (levels_below levels) →
-    length (levels_below levels) ≤ c.args.depth - 1 → ⊥ in
-    let rest : Rest (g.D.Device.state c.args.device.now) =
-    subst Rest (below.only.state honest)
-    (c.clear_levels.ensures.damaged (below.only.honest.0 honest) (c.release_pages.ensures.keeps.agrees
-    (g.D.Device.state c.below.new.device).disk (below.agrees honest agrees)) is (levels_below levels)) in
-    let small : IsSmall two = subst (λ (n : ℕ). n ≤ 2 ^ 20) (sym first.count) few in
+    let has = c.in_ok-children.ensures.below honest agrees levels few here in
+    let left = rest_left g.D.Device _ c.args.layout c.args.pages.now c.below.new.pages c.release_pages.new.pages
+    c.clear_levels.new.pages c.args.device.now c.below.new.device c.args.numbers.items c.as_slice-2.result.now
+    c.in_ok-children.children.items levels (λ before after l. length l ≤ c.args.depth - 1 → ⊥)
+    c.below.ensures.unchanged c.below.ensures.only c.below.ensures.agrees c.release_pages.ensures.keeps
+    c.as_slice-2.ensures.value c.in_ok-release_pages.ensures.released honest agrees few down has
+    (λ h a. c.clear_levels.ensures.damaged h a is) in
     let some : 0 < length c.as_slice.result.now = search rules in
     let count = fewer_levels c.args.layout one c.as_slice.result.now levels some here in
-    rest small after (omega arith)
+    left.1 (omega arith)
 
 pub returns-clause-catalog : goal.returns-clause-catalog
 returns-clause-catalog g t c = c.clear_levels.ensures.catalog ∙ c.release_pages.ensures.keeps.catalog

@@ -1,18 +1,17 @@
-use Rattle.std.proofs.Common.{◌≡◌, ◌<◌, ◌+◌, ℕ, List, [], ◌++◌, Err, length, map, sym, ap, subst, ◌∙◌, arith, rules}
+use Rattle.std.proofs.Common.{◌≡◌, ◌<◌, ◌+◌, ℕ, List, [], Err, length, map, sym, subst, ◌∙◌, arith, rules}
 use Rattle.std.specs.Prelude.{Option, Some, slice_index_or}
 use Rattle.std.proofs.lemmas.Result.{err_from_is_err_and}
 use Rattle.station.specs.Disk.{Sector}
 use Rattle.station.proofs.Calls.{reads_then}
 use Rattle.pages.specs.declared.error.PagesError.TheVariants.{Damaged}
-use Rattle.btree_pages.specs.declared.row_layout.RowLayout.{RowLayout}
 use Rattle.btree_pages.specs.declared.row_layout.Kind.TheVariants.{Leaf, Inner}
 use Rattle.btree_pages.specs.Keys.{child_of}
 use Rattle.btree.specs.Tree.{TreeNode, IsOnPage, node_at}
 use Rattle.btree.specs.Propagates.{node_with}
-use Rattle.btree.specs.Changes.{pages_of_map}
 use Rattle.btree.proofs.Frames.{unchanged_on, same_pages}
-use Rattle.btree.proofs.Descents.{rows_read, kind_read}
-use Rattle.btree.proofs.Clearing.{page_at, as_many, children_more, few_children}
+use Rattle.btree.specs.Calls.{pages_on}
+use Rattle.btree.proofs.Children.{inner_read, children_next}
+use Rattle.btree.proofs.Clearing.{page_at, as_many, few_children}
 use Rattle.std.specs.Prelude.{IfErr, IfOk}
 use Rattle.std.proofs.Common.{inr}
 use Rattle.station.specs.Calls.{OnlyReads}
@@ -22,6 +21,7 @@ use Rattle.std.proofs.Common.{true}
 use Rattle.btree.specs.Tree.{rows_of}
 use Rattle.btree.specs.Refusals.{IsChangeRefusal}
 use Rattle.btree.proofs.Passing.{passed, never_ok, still_error, damaged_not_device, damaged_not_spent, memory_is_put}
+use Rattle.btree.proofs.Passing.{pages_before}
 use Rattle.btree.proofs.Passing.{put_not_device, put_not_damaged, memory_not_spent}
 use Rattle.btree.proofs.Passing.{put_is_rest, rest_is_change, read_is_change, reads_where, sectors_on}
 use Rattle.btree.proofs.clear.children_of.Goals as goal
@@ -54,20 +54,12 @@ pub returns-then-ne-clause-damaged : goal.returns-then-ne-clause-damaged
 returns-then-ne-clause-damaged g c = λ honest agrees is level stand numbers below.
     let loop = c.loop-place in
     let node = c.in_ok-node.node in
-    let pages = pages_of_map c.args.pages.now (g.D.Device.state c.args.device.now).disk.present in
-    let same = same_pages c.args.pages.now loop.pages (g.D.Device.state c.args.device.now)
-    (g.D.Device.state loop.device) loop.invariant.unchanged (loop.invariant.only.state honest) in
-    let none : TreeNode = node_with 0 [] in
-    let here : TreeNode = slice_index_or level loop.place none in
-    let count = as_many level c.args.numbers.now numbers in
-    let test = c.loop-place-test.true in
-    let low : loop.place < length level = omega arith in
     let number : ℕ = slice_index_or c.args.numbers.now loop.place 0 in
-    let read : node_at c.args.layout pages number ≡ Some node =
-    subst (λ (p : List (Option Sector)). node_at c.args.layout p number ≡ Some node) same
-    (c.in_ok-node.ensures.node (loop.invariant.only.honest.0 honest) (loop.invariant.agrees honest agrees)) in
-    let inner : Inner ≡ node.kind = kind_read c.args.layout pages Inner here number node
-    (page_at level c.args.numbers.now loop.place none numbers low) (stand loop.place none low) read in
+    let read = pages_before g.D.Device ⊥ c.args.pages.now loop.pages c.args.device.now loop.device
+    (λ pages. node_at c.args.layout pages number ≡ Some node) loop.invariant.unchanged loop.invariant.only
+    loop.invariant.agrees c.in_ok-node.ensures.node honest agrees in
+    let inner = (inner_read c.args.layout (pages_on g.D.Device c.args.pages.now c.args.device.now) level
+    c.args.numbers.now loop.place node stand numbers c.loop-place-test.true read).2 in
     let other : node.kind ≡ Leaf = search rules in
     let clash : Inner ≡ Leaf = inner ∙ other in
     cc
@@ -84,28 +76,13 @@ pub returns-then-room-len-clause-damaged : goal.returns-then-room-len-clause-dam
 returns-then-room-len-clause-damaged g c = λ honest agrees is level stand numbers below.
     let loop = c.loop-place in
     let node = c.in_ok-node.node in
-    let image = (g.D.Device.state c.args.device.now).disk.present in
-    let pages = pages_of_map c.args.pages.now image in
-    let same = same_pages c.args.pages.now loop.pages (g.D.Device.state c.args.device.now)
-    (g.D.Device.state loop.device) loop.invariant.unchanged (loop.invariant.only.state honest) in
-    let none : TreeNode = node_with 0 [] in
-    let here : TreeNode = slice_index_or level loop.place none in
-    let count = as_many level c.args.numbers.now numbers in
-    let test = c.loop-place-test.true in
-    let low : loop.place < length level = omega arith in
-    let number : ℕ = slice_index_or c.args.numbers.now loop.place 0 in
-    let at : node_at c.args.layout pages number ≡ Some node =
-    subst (λ (p : List (Option Sector)). node_at c.args.layout p number ≡ Some node) same
-    (c.in_ok-node.ensures.node (loop.invariant.only.honest.0 honest) (loop.invariant.agrees honest agrees)) in
-    let rows : here.rows ≡ node.rows = rows_read c.args.layout pages Inner here number node
-    (page_at level c.args.numbers.now loop.place none numbers low) (stand loop.place none low) at in
-    let pushed : c.push_children.new.numbers.items ≡ loop.children.items ++ map (child_of c.args.layout) node.rows =
-    c.in_ok-push_children.ensures.numbers
-    ∙ ap (λ (f : RowLayout). loop.children.items ++ map (child_of f) node.rows) c.in_ok-node.ensures.shape.0 in
-    let few = few_children c.args.layout level (loop.place + 1) c.push_children.new.numbers.items
-    (children_more c.args.layout level loop.place none node.rows loop.children.items c.push_children.new.numbers.items
-    low rows (loop.invariant.children honest agrees level stand numbers) pushed) in
-    let room = c.page_count-room.ensures.pages image in
+    let after : List ℕ = c.push_children.new.numbers.items in
+    let few = few_children c.args.layout level (loop.place + 1) after (children_next g.D.Device c.args.layout
+    c.args.pages.now loop.pages c.args.device.now loop.device c.args.numbers.now loop.place node loop.children.items
+    after loop.invariant.unchanged loop.invariant.only loop.invariant.agrees c.loop-place-test.true
+    c.in_ok-node.ensures.node c.in_ok-node.ensures.shape.0 c.in_ok-push_children.ensures.numbers
+    loop.invariant.children honest agrees level stand numbers) in
+    let room = c.page_count-room.ensures.pages (g.D.Device.state c.args.device.now).disk.present in
     let is_room = c.page_count-room.ensures.count in
     let beyond = c.if-room-len.true in
     omega arith
@@ -113,36 +90,16 @@ returns-then-room-len-clause-damaged g c = λ honest agrees is level stand numbe
 pub loop-place-preserved : goal.loop-place-preserved
 loop-place-preserved g c =
     let loop = c.loop-place in
-    let read = c.read_node.ensures in
-    let node = c.in_ok-node.node in
     record {
-      only = reads_then g.D.Device ⊥ _ ⊥ c.args.device.now loop.device c.read_node.new.device (λ e. absurd e)
-          loop.invariant.only read.only;
-      unchanged =
-          unchanged_on c.args.pages.now loop.pages c.read_node.new.pages loop.invariant.unchanged read.unchanged;
-      agrees = λ h a. read.agrees (loop.invariant.only.honest.0 h) (loop.invariant.agrees h a);
-      is_open = read.open;
-      children = λ h a level stand numbers.
-          let pages = pages_of_map c.args.pages.now (g.D.Device.state c.args.device.now).disk.present in
-          let same = same_pages c.args.pages.now loop.pages (g.D.Device.state c.args.device.now)
-          (g.D.Device.state loop.device) loop.invariant.unchanged (loop.invariant.only.state h) in
-          let none : TreeNode = node_with 0 [] in
-          let here : TreeNode = slice_index_or level loop.place none in
-          let count = as_many level c.args.numbers.now numbers in
-          let test = c.loop-place-test.true in
-          let low : loop.place < length level = omega arith in
-          let number : ℕ = slice_index_or c.args.numbers.now loop.place 0 in
-          let at : node_at c.args.layout pages number ≡ Some node =
-          subst (λ (p : List (Option Sector)). node_at c.args.layout p number ≡ Some node) same
-          (c.in_ok-node.ensures.node (loop.invariant.only.honest.0 h) (loop.invariant.agrees h a)) in
-          let rows : here.rows ≡ node.rows = rows_read c.args.layout pages Inner here number node
-          (page_at level c.args.numbers.now loop.place none numbers low) (stand loop.place none low) at in
-          let pushed : c.push_children.new.numbers.items
-          ≡ loop.children.items ++ map (child_of c.args.layout) node.rows =
-          c.in_ok-push_children.ensures.numbers
-          ∙ ap (λ (f : RowLayout). loop.children.items ++ map (child_of f) node.rows) c.in_ok-node.ensures.shape.0 in
-          children_more c.args.layout level loop.place none node.rows loop.children.items
-          c.push_children.new.numbers.items low rows (loop.invariant.children h a level stand numbers) pushed;
+      only = reads_then g.D.Device _ _ _ _ _ _ (λ e. absurd e) loop.invariant.only c.read_node.ensures.only;
+      unchanged = unchanged_on _ _ _ loop.invariant.unchanged c.read_node.ensures.unchanged;
+      agrees = λ h a. c.read_node.ensures.agrees (loop.invariant.only.honest.0 h) (loop.invariant.agrees h a);
+      is_open = c.read_node.ensures.open;
+      children = children_next g.D.Device c.args.layout c.args.pages.now loop.pages c.args.device.now loop.device
+          c.args.numbers.now loop.place c.in_ok-node.node loop.children.items c.push_children.new.numbers.items
+          loop.invariant.unchanged loop.invariant.only loop.invariant.agrees c.loop-place-test.true
+          c.in_ok-node.ensures.node c.in_ok-node.ensures.shape.0 c.in_ok-push_children.ensures.numbers
+          loop.invariant.children;
       few = let inside = c.if-room-len.false in omega arith;
     }
 

@@ -22,16 +22,13 @@ loop-place-preserved c =
     record {
       moves = λ image.
           let pages = c.page_count.ensures.pages image in
-          let is = c.page_count.ensures.count in
-          let inside = c.if-page_count-page.false in
           let low : slice_index_or c.args.numbers.now loop.place 0 < length (pages_of_map loop.pages image) =
-          omega arith in
+          omega (arith, c.page_count.ensures.count, c.if-page_count-page.false) in
           moves_next c.args.numbers.now loop.place (pages_of_map c.args.pages.now image) (pages_of_map loop.pages image)
           (pages_of_map c.release.new.self image) c.loop-place-test.true low (loop.invariant.moves image)
           (c.in_ok-release.ensures.map image);
       filled = omega (arith, c.release.ensures.filled, loop.invariant.filled);
-      keeps = keeps_on c.args.pages.now loop.pages c.release.new.self loop.invariant.keeps
-          c.release.ensures.keeps;
+      keeps = keeps_on _ _ _ loop.invariant.keeps c.release.ensures.keeps;
       is_open = c.release.ensures.keeps.is_open loop.invariant.is_open;
     }
 

@@ -1,25 +1,22 @@
-use Rattle.std.proofs.Common.{◌≡◌, ◌<◌, ◌-◌, ℕ, List, length, sym, ap, subst, ◌∙◌, arith, rules, true}
+use Rattle.std.proofs.Common.{◌≡◌, ◌≤◌, ◌-◌, List, length, sym, ap, ◌∙◌, arith, rules, true}
 use Rattle.std.proofs.Common.{inr}
-use Rattle.std.specs.Prelude.{Option, IfErr, IfOk, Err}
-use Rattle.std.specs.List.{All}
+use Rattle.std.specs.Prelude.{IfErr, IfOk, Err}
 use Rattle.std.specs.Vec.{vec_len}
 use Rattle.std.proofs.lemmas.List.{nil_from_length}
 use Rattle.std.proofs.lemmas.Result.{IfOk-weaker}
-use Rattle.station.specs.Disk.{Sector}
 use Rattle.station.specs.Calls.{OnlyReads}
 use Rattle.station.proofs.Calls.{reads_then, reads_nothing}
 use Rattle.pages.specs.Pages.{is_spent}
 use Rattle.pages.specs.declared.error.PagesError.TheVariants.{Device, Spent}
-use Rattle.btree_pages.specs.declared.row_layout.Kind.TheVariants.{Leaf}
-use Rattle.btree.specs.Tree.{TreeNode, IsOnPage, rows_in_order}
+use Rattle.btree.specs.Tree.{TreeNode, rows_of, rows_in_order}
 use Rattle.btree.specs.Changes.{pages_of_map}
-use Rattle.btree.specs.Clears.{HasPages, IsDown, levels_below}
-use Rattle.btree.specs.Laws.{IsSmall}
 use Rattle.btree.specs.Refusals.{IsChangeRefusal}
 use Rattle.btree.proofs.Clearing.{no_levels, fewer_levels}
-use Rattle.btree.proofs.Counting.{some_in, no_more_levels, alone_rows, levels_down, same_leaves}
-use Rattle.btree.proofs.Frames.{unchanged_on, same_pages}
+use Rattle.btree.proofs.Counting.{some_in, alone_rows, same_leaves}
+use Rattle.btree.proofs.Frames.{unchanged_on}
 use Rattle.btree.proofs.Passing.{passed, never_ok, still_error, reads_where, sectors_on}
+use Rattle.btree.specs.Calls.{pages_on}
+use Rattle.btree.proofs.CountCalls.{of_leaves, of_lower}
 use Rattle.btree.proofs.count.+count_levels.Goals as goal
 
 pub returns-then-is_empty-clause-count : goal.returns-then-is_empty-clause-count
@@ -33,84 +30,58 @@ returns-then-is_empty-clause-count g t c = λ honest agrees levels few down.
 -- No pages are below: the level is one of leaves.
 pub returns-then-is_empty-2-clause-count : goal.returns-then-is_empty-2-clause-count
 returns-then-is_empty-2-clause-count g t c = λ honest agrees levels few down.
-    let below = c.below.ensures in
-    let image = (g.D.Device.state c.args.device.now).disk.present in
-    let pages = pages_of_map c.args.pages.now image in
-    let numbers : List ℕ = c.args.numbers.items in
-    let children : List ℕ = c.in_ok-children.children.items in
-    let has : HasPages children (levels_below levels) = c.in_ok-children.ensures.below honest agrees levels few
-    (subst (λ (n : List ℕ). IsDown c.args.layout pages n levels) (sym c.as_slice.ensures.value) down) in
-    let same = same_pages c.args.pages.now c.below.new.pages (g.D.Device.state c.args.device.now)
-    (g.D.Device.state c.below.new.device) below.unchanged (below.only.state honest) in
-    let full : vec_len c.args.numbers ≡ length numbers = search rules in
-    let some = some_in (vec_len c.args.numbers) numbers full (sym c.is_empty.ensures ∙ c.if-is_empty.false) in
-    let zero : length children ≡ 0 = search rules in
-    let are = no_more_levels c.args.layout pages numbers children levels some down has
-    (nil_from_length children zero) in
-    IfOk-weaker c.count_rows.result _ (λ count. count ≡ length (rows_in_order levels))
-    (λ count is. is ∙ alone_rows c.args.layout pages numbers levels are)
-    (c.count_rows.ensures.count (below.only.honest.0 honest) (below.agrees honest agrees) are.level
-    (subst (λ (p : List (Option Sector)). All (IsOnPage c.args.layout p Leaf) are.level) (sym same) are.stand)
-    (are.are ∙ sym c.as_slice-then-is_empty-2.ensures.value))
+    let full : vec_len c.args.numbers ≡ length c.args.numbers.items = search rules in
+    let zero : length c.in_ok-children.children.items ≡ 0 = search rules in
+    let found = of_leaves g.D.Device _ c.args.pages.now c.below.new.pages c.args.device.now
+    c.below.new.device c.args.layout c.args.numbers.items c.as_slice.result.now c.as_slice-then-is_empty-2.result.now
+    c.in_ok-children.children.items
+    (λ level. IfOk c.count_rows.result (λ n. n ≡ length (rows_of level)))
+    c.below.ensures.unchanged c.below.ensures.only c.below.ensures.agrees c.as_slice.ensures.value
+    c.as_slice-then-is_empty-2.ensures.value
+    (some_in (vec_len c.args.numbers) c.args.numbers.items full (sym c.is_empty.ensures ∙ c.if-is_empty.false))
+    (nil_from_length c.in_ok-children.children.items zero) c.in_ok-children.ensures.below
+    c.count_rows.ensures.count honest agrees levels few down in
+    IfOk-weaker c.count_rows.result _ _ (λ n is. is ∙ alone_rows _ _ _ levels found.0) found.1
 
 pub returns-then-is_empty-2-clause-damaged : goal.returns-then-is_empty-2-clause-damaged
 returns-then-is_empty-2-clause-damaged g t c = λ honest agrees is levels few down deep.
-    let below = c.below.ensures in
-    let image = (g.D.Device.state c.args.device.now).disk.present in
-    let pages = pages_of_map c.args.pages.now image in
-    let numbers : List ℕ = c.args.numbers.items in
-    let children : List ℕ = c.in_ok-children.children.items in
-    let has : HasPages children (levels_below levels) = c.in_ok-children.ensures.below honest agrees levels few
-    (subst (λ (n : List ℕ). IsDown c.args.layout pages n levels) (sym c.as_slice.ensures.value) down) in
-    let same = same_pages c.args.pages.now c.below.new.pages (g.D.Device.state c.args.device.now)
-    (g.D.Device.state c.below.new.device) below.unchanged (below.only.state honest) in
-    let full : vec_len c.args.numbers ≡ length numbers = search rules in
-    let some = some_in (vec_len c.args.numbers) numbers full (sym c.is_empty.ensures ∙ c.if-is_empty.false) in
-    let zero : length children ≡ 0 = search rules in
-    let are = no_more_levels c.args.layout pages numbers children levels some down has
-    (nil_from_length children zero) in
-    c.count_rows.ensures.damaged (below.only.honest.0 honest) (below.agrees honest agrees) is are.level
-    (subst (λ (p : List (Option Sector)). All (IsOnPage c.args.layout p Leaf) are.level) (sym same) are.stand)
-    (are.are ∙ sym c.as_slice-then-is_empty-2.ensures.value)
+    let full : vec_len c.args.numbers ≡ length c.args.numbers.items = search rules in
+    let zero : length c.in_ok-children.children.items ≡ 0 = search rules in
+    (of_leaves g.D.Device _ c.args.pages.now c.below.new.pages c.args.device.now
+    c.below.new.device c.args.layout c.args.numbers.items c.as_slice.result.now c.as_slice-then-is_empty-2.result.now
+    c.in_ok-children.children.items
+    (λ level. ⊥)
+    c.below.ensures.unchanged c.below.ensures.only c.below.ensures.agrees c.as_slice.ensures.value
+    c.as_slice-then-is_empty-2.ensures.value
+    (some_in (vec_len c.args.numbers) c.args.numbers.items full (sym c.is_empty.ensures ∙ c.if-is_empty.false))
+    (nil_from_length c.in_ok-children.children.items zero) c.in_ok-children.ensures.below
+    (λ h a. c.count_rows.ensures.damaged h a is) honest agrees levels few down).1
 
 pub returns-clause-count : goal.returns-clause-count
 returns-clause-count g t c = λ honest agrees levels few down.
-    let below = c.below.ensures in
-    let image = (g.D.Device.state c.args.device.now).disk.present in
-    let pages = pages_of_map c.args.pages.now image in
-    let children : List ℕ = c.in_ok-children.children.items in
-    let has : HasPages children (levels_below levels) = c.in_ok-children.ensures.below honest agrees levels few
-    (subst (λ (n : List ℕ). IsDown c.args.layout pages n levels) (sym c.as_slice.ensures.value) down) in
-    let same = same_pages c.args.pages.now c.below.new.pages (g.D.Device.state c.args.device.now)
-    (g.D.Device.state c.below.new.device) below.unchanged (below.only.state honest) in
-    let full : vec_len c.in_ok-children.children ≡ length children = search rules in
-    let some = some_in (vec_len c.in_ok-children.children) children full
-    (sym c.is_empty-2.ensures ∙ c.if-is_empty-2.false) in
-    let lower = levels_down c.args.layout pages c.args.numbers.items children levels down has in
-    IfOk-weaker c.count_levels.result _ (λ count. count ≡ length (rows_in_order levels))
-    (λ count is. is ∙ ap length (same_leaves levels children has some))
-    (c.count_levels.ensures.count (below.only.honest.0 honest) (below.agrees honest agrees) (levels_below levels)
-    (subst IsSmall (sym same) few)
-    (subst (λ (p : List (Option Sector)). IsDown c.args.layout p children (levels_below levels)) (sym same) lower))
+    let children = c.in_ok-children.children in
+    let full : vec_len children ≡ length children.items = search rules in
+    let some = some_in (vec_len children) children.items full (sym c.is_empty-2.ensures ∙ c.if-is_empty-2.false) in
+    let lower = of_lower g.D.Device _ c.args.pages.now c.below.new.pages c.args.device.now
+    c.below.new.device c.args.layout c.args.numbers.items c.as_slice.result.now c.in_ok-children.children.items
+    (λ levels. IfOk c.count_levels.result (λ n. n ≡ length (rows_in_order levels)))
+    c.below.ensures.unchanged c.below.ensures.only c.below.ensures.agrees c.as_slice.ensures.value
+    c.in_ok-children.ensures.below c.count_levels.ensures.count honest agrees levels few down in
+    IfOk-weaker c.count_levels.result _ _
+    (λ n is. is ∙ ap length (same_leaves levels children.items lower.0 some)) lower.1
 
 pub returns-clause-damaged : goal.returns-clause-damaged
 returns-clause-damaged g t c = λ honest agrees is levels few down deep.
-    let below = c.below.ensures in
-    let image = (g.D.Device.state c.args.device.now).disk.present in
-    let pages = pages_of_map c.args.pages.now image in
-    let children : List ℕ = c.in_ok-children.children.items in
-    let here : IsDown c.args.layout pages c.as_slice.result.now levels =
-    subst (λ (n : List ℕ). IsDown c.args.layout pages n levels) (sym c.as_slice.ensures.value) down in
-    let has : HasPages children (levels_below levels) = c.in_ok-children.ensures.below honest agrees levels few here in
-    let same = same_pages c.args.pages.now c.below.new.pages (g.D.Device.state c.args.device.now)
-    (g.D.Device.state c.below.new.device) below.unchanged (below.only.state honest) in
-    let lower = levels_down c.args.layout pages c.args.numbers.items children levels down has in
-    let some : 0 < length c.as_slice.result.now = search rules in
-    let count = fewer_levels c.args.layout pages c.as_slice.result.now levels some here in
-    c.count_levels.ensures.damaged (below.only.honest.0 honest) (below.agrees honest agrees) is (levels_below levels)
-    (subst IsSmall (sym same) few)
-    (subst (λ (p : List (Option Sector)). IsDown c.args.layout p children (levels_below levels)) (sym same) lower)
-    (omega arith)
+    let full : vec_len c.args.numbers ≡ length c.args.numbers.items = search rules in
+    let some = some_in _ c.args.numbers.items full (sym c.is_empty.ensures ∙ c.if-is_empty.false) in
+    let count = fewer_levels c.args.layout (pages_on g.D.Device c.args.pages.now c.args.device.now)
+    c.args.numbers.items levels some down in
+    let lower = of_lower g.D.Device _ c.args.pages.now c.below.new.pages c.args.device.now
+    c.below.new.device c.args.layout c.args.numbers.items c.as_slice.result.now c.in_ok-children.children.items
+    (λ levels. length levels ≤ c.args.depth - 1 → ⊥)
+    c.below.ensures.unchanged c.below.ensures.only c.below.ensures.agrees c.as_slice.ensures.value
+    c.in_ok-children.ensures.below (λ h a. c.count_levels.ensures.damaged h a is) honest agrees levels few down in
+    lower.1 (omega arith)
 
 pub returns-then-is_empty-clause-only : goal.returns-then-is_empty-clause-only
 returns-then-is_empty-clause-only g t c =

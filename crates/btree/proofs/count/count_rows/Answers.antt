@@ -1,6 +1,6 @@
-use Rattle.std.proofs.Common.{◌≡◌, ◌≤◌, ◌<◌, ◌+◌, ℕ, List, [], Err, true, length, sym, ap, subst, ◌∙◌, arith, rules}
+use Rattle.std.proofs.Common.{◌≡◌, ◌≤◌, ◌<◌, List, [], Err, true, length, sym, ap, subst, ◌∙◌, arith, rules}
 use Rattle.std.proofs.Common.{inr}
-use Rattle.std.specs.Prelude.{Option, Some, slice_index_or, IfErr, IfOk}
+use Rattle.std.specs.Prelude.{Option, slice_index_or, IfErr, IfOk}
 use Rattle.std.proofs.lemmas.List.{take_all}
 use Rattle.std.proofs.lemmas.Result.{err_from_is_err_and}
 use Rattle.station.specs.Disk.{Sector}
@@ -9,16 +9,14 @@ use Rattle.station.proofs.Calls.{reads_then}
 use Rattle.pages.specs.Pages.{is_spent}
 use Rattle.pages.specs.declared.error.PagesError.TheVariants.{Device, Damaged, Spent}
 use Rattle.btree_pages.specs.declared.row_layout.Kind.TheVariants.{Leaf, Inner}
-use Rattle.btree.specs.Tree.{TreeNode, IsOnPage, node_at, rows_of}
+use Rattle.btree.specs.Tree.{TreeNode, IsOnPage, rows_of}
 use Rattle.btree.specs.Propagates.{node_with}
-use Rattle.btree.specs.Changes.{pages_of_map}
 use Rattle.btree.specs.Refusals.{IsChangeRefusal}
 use Rattle.btree.proofs.Frames.{unchanged_on, same_pages}
-use Rattle.btree.proofs.Descents.{rows_read, kind_read}
 use Rattle.btree.proofs.Clearing.{page_at, as_many}
-use Rattle.btree.proofs.Counting.{rows_more}
 use Rattle.btree.proofs.Passing.{passed, never_ok, still_error, damaged_not_device, damaged_not_spent}
 use Rattle.btree.proofs.Passing.{read_is_change, reads_where, sectors_on}
+use Rattle.btree.proofs.CountCalls.{never_inner, rows_on}
 use Rattle.btree.proofs.count.count_rows.Goals as goal
 
 pub returns-in_err-node-clause-unchanged : goal.returns-in_err-node-clause-unchanged
@@ -46,58 +44,28 @@ returns-then-ne-clause-unchanged g c = unchanged_on c.args.pages.now c.loop-plac
     c.loop-place.invariant.unchanged c.read_node.ensures.unchanged
 
 pub returns-then-ne-clause-damaged : goal.returns-then-ne-clause-damaged
-returns-then-ne-clause-damaged g c = λ honest agrees is level stand numbers.
+returns-then-ne-clause-damaged g c = λ honest agrees is.
     let loop = c.loop-place in
-    let node = c.in_ok-node.node in
-    let pages = pages_of_map c.args.pages.now (g.D.Device.state c.args.device.now).disk.present in
-    let same = same_pages c.args.pages.now loop.pages (g.D.Device.state c.args.device.now)
-    (g.D.Device.state loop.device) loop.invariant.unchanged (loop.invariant.only.state honest) in
-    let none : TreeNode = node_with 0 [] in
-    let here : TreeNode = slice_index_or level loop.place none in
-    let count = as_many level c.args.numbers.now numbers in
     let test = c.loop-place-test.true in
-    let low : loop.place < length level = omega arith in
-    let number : ℕ = slice_index_or c.args.numbers.now loop.place 0 in
-    let read : node_at c.args.layout pages number ≡ Some node =
-    subst (λ (p : List (Option Sector)). node_at c.args.layout p number ≡ Some node) same
-    (c.in_ok-node.ensures.node (loop.invariant.only.honest.0 honest) (loop.invariant.agrees honest agrees)) in
-    let leaf : Leaf ≡ node.kind = kind_read c.args.layout pages Leaf here number node
-    (page_at level c.args.numbers.now loop.place none numbers low) (stand loop.place none low) read in
-    let other : node.kind ≡ Inner = search rules in
-    let clash : Leaf ≡ Inner = leaf ∙ other in
-    cc
+    let low : loop.place < length c.args.numbers.now = omega arith in
+    let inner : c.in_ok-node.node.kind ≡ Inner = search rules in
+    never_inner g.D.Device ⊥ c.args.pages.now loop.pages c.args.device.now loop.device c.args.layout c.args.numbers.now
+    loop.place c.in_ok-node.node loop.invariant.unchanged loop.invariant.only loop.invariant.agrees low
+    c.in_ok-node.ensures.node inner honest agrees
 
 pub loop-place-preserved : goal.loop-place-preserved
 loop-place-preserved g c =
-    let loop = c.loop-place in
-    let read = c.read_node.ensures in
-    let node = c.in_ok-node.node in
+    let at = c.loop-place.invariant in
+    let low : c.loop-place.place < length c.args.numbers.now = let test = c.loop-place-test.true in omega arith in
     record {
-      only = reads_then g.D.Device ⊥ _ ⊥ c.args.device.now loop.device c.read_node.new.device (λ e. absurd e)
-          loop.invariant.only read.only;
-      unchanged =
-          unchanged_on c.args.pages.now loop.pages c.read_node.new.pages loop.invariant.unchanged read.unchanged;
-      agrees = λ h a. read.agrees (loop.invariant.only.honest.0 h) (loop.invariant.agrees h a);
-      is_open = read.open;
-      rows = λ h a level stand numbers.
-          let pages = pages_of_map c.args.pages.now (g.D.Device.state c.args.device.now).disk.present in
-          let same = same_pages c.args.pages.now loop.pages (g.D.Device.state c.args.device.now)
-          (g.D.Device.state loop.device) loop.invariant.unchanged (loop.invariant.only.state h) in
-          let none : TreeNode = node_with 0 [] in
-          let here : TreeNode = slice_index_or level loop.place none in
-          let count = as_many level c.args.numbers.now numbers in
-          let test = c.loop-place-test.true in
-          let low : loop.place < length level = omega arith in
-          let number : ℕ = slice_index_or c.args.numbers.now loop.place 0 in
-          let at : node_at c.args.layout pages number ≡ Some node =
-          subst (λ (p : List (Option Sector)). node_at c.args.layout p number ≡ Some node) same
-          (c.in_ok-node.ensures.node (loop.invariant.only.honest.0 h) (loop.invariant.agrees h a)) in
-          let rows : here.rows ≡ node.rows = rows_read c.args.layout pages Leaf here number node
-          (page_at level c.args.numbers.now loop.place none numbers low) (stand loop.place none low) at in
-          let more = rows_more level loop.place none node.rows loop.count low rows
-          (loop.invariant.rows h a level stand numbers) in
-          ap (λ (n : ℕ). loop.count + n) c.count.ensures.rows ∙ more;
-      few = let few = loop.invariant.few in let shape = c.in_ok-node.ensures.shape.2 in omega arith;
+      only = reads_then g.D.Device ⊥ _ ⊥ _ _ _ (λ e. absurd e) at.only c.read_node.ensures.only;
+      unchanged = unchanged_on _ _ _ at.unchanged c.read_node.ensures.unchanged;
+      agrees = λ h a. c.read_node.ensures.agrees (at.only.honest.0 h) (at.agrees h a);
+      is_open = c.read_node.ensures.open;
+      rows = rows_on g.D.Device ⊥ c.args.pages.now c.loop-place.pages c.args.device.now c.loop-place.device
+          c.args.layout c.args.numbers.now c.loop-place.place c.loop-place.count c.count.result c.in_ok-node.node
+          at.unchanged at.only at.agrees low c.in_ok-node.ensures.node c.count.ensures.rows at.rows;
+      few = let few = at.few in let shape = c.in_ok-node.ensures.shape.2 in omega arith;
     }
 
 -- The device is only read.

@@ -1,15 +1,13 @@
-use Rattle.std.proofs.Common.{◌≡◌, ℕ, List, Err, refl, sym, subst, rules}
-use Rattle.std.specs.Prelude.{Option, Some}
+use Rattle.std.proofs.Common.{◌≡◌, List, Err, refl, sym, subst, rules}
+use Rattle.std.specs.Prelude.{Option}
 use Rattle.std.proofs.lemmas.Result.{err_from_is_err_and}
 use Rattle.station.specs.Disk.{Sector}
 use Rattle.pages.specs.Pages.{map_now}
 use Rattle.pages.specs.declared.error.PagesError.TheVariants.{Damaged}
 use Rattle.btree_pages.specs.declared.row_layout.Kind.TheVariants.{Leaf, Inner}
-use Rattle.btree.specs.Tree.{node_at, IsOnPage}
-use Rattle.btree.specs.Path.{EndsAt}
+use Rattle.btree.specs.Tree.{IsOnPage}
 use Rattle.btree.specs.Steps.{LeadsTo}
 use Rattle.btree.specs.Propagates.{node_with}
-use Rattle.btree.proofs.Descents.{rows_read, kind_read}
 use Rattle.btree.proofs.Frames.{unchanged_on, same_pages}
 use Rattle.std.proofs.Common.{inr}
 use Rattle.station.specs.Calls.{OnlyReads}
@@ -17,6 +15,7 @@ use Rattle.station.proofs.Calls.{reads_then}
 use Rattle.pages.specs.declared.error.PagesError.TheVariants.{Device}
 use Rattle.btree.proofs.Passing.{passed, never_ok, still_error, damaged_not_device}
 use Rattle.btree.proofs.Passing.{sectors_on}
+use Rattle.btree.proofs.DescentCalls.{ends_read, never_inner_end}
 use Rattle.btree.proofs.descend.descend.Goals as goal
 
 pub returns-in_err-leaf-clause-unchanged : goal.returns-in_err-leaf-clause-unchanged
@@ -46,39 +45,21 @@ returns-then-ne-clause-unchanged g c =
     c.read_node.ensures.unchanged
 
 pub returns-then-ne-clause-damaged : goal.returns-then-ne-clause-damaged
-returns-then-ne-clause-damaged g c = λ h a is levels tree.
-    let pages : List (Option Sector) =
-    (map_now c.args.pages.now (g.D.Device.state c.args.device.now).disk.present).pages in
-    let same = same_pages c.args.pages.now c.follow.new.pages (g.D.Device.state c.args.device.now)
-    (g.D.Device.state c.follow.new.device) c.follow.ensures.unchanged (c.follow.ensures.only.state h) in
+returns-then-ne-clause-damaged g c = λ h a is.
     let way = c.in_ok-path.field-0 in
-    let leads : LeadsTo c.args.layout pages c.args.key.now levels way.path.items way.page way.right =
-    c.in_ok-path.ensures.way h a levels tree in
-    let read : node_at c.args.layout pages way.page ≡ Some c.in_ok-leaf.leaf =
-    subst (λ (p : List (Option Sector)). node_at c.args.layout p way.page ≡ Some c.in_ok-leaf.leaf) same
-    (c.in_ok-leaf.ensures.node (c.follow.ensures.only.honest.0 h) (c.follow.ensures.agrees h a)) in
-    let leaf : Leaf ≡ c.in_ok-leaf.leaf.kind = kind_read c.args.layout pages Leaf (node_with way.page leads.rows)
-    way.page c.in_ok-leaf.leaf refl leads.stands read in
     let inner : c.in_ok-leaf.leaf.kind ≡ Inner = search rules in
-    let clash : Leaf ≡ Inner = cc in
-    cc
+    never_inner_end g.D.Device _ c.args.pages.now c.follow.new.pages c.args.device.now c.follow.new.device
+    c.args.layout c.args.root c.args.key.now way.path.items way.page way.right c.in_ok-leaf.leaf
+    c.follow.ensures.unchanged c.follow.ensures.only c.follow.ensures.agrees c.in_ok-path.ensures.way
+    c.in_ok-leaf.ensures.node inner h a
 
 pub returns-clause-way : goal.returns-clause-way
-returns-clause-way g c = λ h a levels tree.
-    let pages : List (Option Sector) =
-    (map_now c.args.pages.now (g.D.Device.state c.args.device.now).disk.present).pages in
-    let same = same_pages c.args.pages.now c.follow.new.pages (g.D.Device.state c.args.device.now)
-    (g.D.Device.state c.follow.new.device) c.follow.ensures.unchanged (c.follow.ensures.only.state h) in
+returns-clause-way g c =
     let way = c.in_ok-path.field-0 in
-    let leads : LeadsTo c.args.layout pages c.args.key.now levels way.path.items way.page way.right =
-    c.in_ok-path.ensures.way h a levels tree in
-    let read : node_at c.args.layout pages way.page ≡ Some c.in_ok-leaf.leaf =
-    subst (λ (p : List (Option Sector)). node_at c.args.layout p way.page ≡ Some c.in_ok-leaf.leaf) same
-    (c.in_ok-leaf.ensures.node (c.follow.ensures.only.honest.0 h) (c.follow.ensures.agrees h a)) in
-    let rows : leads.rows ≡ c.in_ok-leaf.leaf.rows = rows_read c.args.layout pages Leaf (node_with way.page leads.rows)
-    way.page c.in_ok-leaf.leaf refl leads.stands read in
-    subst (λ (list : List (List ℕ)). EndsAt c.args.layout c.args.key.now levels way.path.items way.page list way.right)
-    rows leads.ends
+    ends_read g.D.Device _ c.args.pages.now c.follow.new.pages c.args.device.now c.follow.new.device
+    c.args.layout c.args.root c.args.key.now way.path.items way.page way.right c.in_ok-leaf.leaf
+    c.follow.ensures.unchanged c.follow.ensures.only c.follow.ensures.agrees c.in_ok-path.ensures.way
+    c.in_ok-leaf.ensures.node
 
 pub returns-clause-unchanged : goal.returns-clause-unchanged
 returns-clause-unchanged g c =

@@ -1,18 +1,18 @@
-use Rattle.std.proofs.Common.{◌≡◌, ◌≤◌, ◌+◌, ℕ, List, length, false, sym, ap, subst, ◌∙◌, arith}
-use Rattle.std.specs.Prelude.{Some, None}
-use Rattle.std.proofs.lemmas.List.{length-append}
-use Rattle.station.proofs.Calls.{reads_nothing, reads_then}
+use Rattle.std.proofs.Common.{◌≡◌, ◌≤◌, length, false, ap, ◌∙◌, arith}
+use Rattle.std.specs.Prelude.{None}
+use Rattle.station.proofs.Calls.{reads_nothing}
 use Rattle.pages.specs.Pages.{map_now, is_spent, page_count}
 use Rattle.pages.specs.declared.error.PagesError.TheVariants.{Damaged}
 use Rattle.btree.specs.Calls.{pages_on}
 use Rattle.btree.specs.Reading.{NoneStands}
 use Rattle.btree.specs.Results.{ReturnsDamaged}
-use Rattle.btree.specs.Path.{PathStep}
-use Rattle.btree.proofs.Descents.{Along, start_along, too_deep, along_stands}
+use Rattle.btree.proofs.Descents.{start_along, too_deep, along_stands}
 use Rattle.btree.proofs.Frames.{unchanged_still, unchanged_on}
 use Rattle.btree.proofs.Passing.{pages_before, unspent_before, unspent_damaged, was_error}
-use Rattle.btree.proofs.Stepping.{step_on, step_ends, stepped_before}
+use Rattle.btree.proofs.Stepping.{step_ends, stepped_before}
 use Rattle.btree.proofs.TreeNodes.{few_pages}
+use Rattle.btree.proofs.DescentCalls.{along_on, one_more, still_reads}
+use Rattle.btree.proofs.ReadMaps.{small_map}
 use Rattle.btree.proofs.descend.follow.Goals as goal
 
 pub loop-depth-init : goal.loop-depth-init
@@ -24,12 +24,11 @@ loop-depth-init g c = record {
   spent = λ low. absurd (omega arith);
   room = c.new-path.ensures.capacity;
   steps = ap length c.new-path.ensures.items;
-  way = λ unspent h a levels. start_along c.args.layout (pages_on g.D.Device c.args.pages.now c.args.device.now)
+  way = λ live h a levels. start_along c.args.layout (pages_on g.D.Device c.args.pages.now c.args.device.now)
       c.args.root levels c.args.key.now _ c.new-path.ensures.items
-      (few_pages (pages_on g.D.Device c.args.pages.now c.args.device.now) (page_count c.args.pages.now)
-      c.page_count-page_count.result
-      (c.page_count-page_count.ensures.pages (g.D.Device.state c.args.device.now).disk.present)
-      c.page_count-page_count.ensures.count (c.page_count-page_count.ensures.few c.requires.open unspent));
+      (small_map c.args.pages.now (g.D.Device.state c.args.device.now).disk.present c.page_count-page_count.result
+      c.page_count-page_count.ensures.pages c.page_count-page_count.ensures.count c.page_count-page_count.ensures.few
+      c.requires.open live);
 }
 
 pub returns-in_err-child-clause-unchanged : goal.returns-in_err-child-clause-unchanged
@@ -65,29 +64,18 @@ returns-in-None-clause-way g c = λ h a levels tree.
     at.invariant.agrees c.in-None.is c.in_ok-child.ensures.step h a)
 
 pub loop-depth-preserved : goal.loop-depth-preserved
-loop-depth-preserved g c =
-    let at = c.loop-depth in
-    record {
-      only = reads_then g.D.Device ⊥ _ ⊥ c.args.device.now at.device c.step_at.new.device (λ e. absurd e)
-          at.invariant.only c.step_at.ensures.only;
-      unchanged = unchanged_on c.args.pages.now at.pages c.step_at.new.pages at.invariant.unchanged
-          c.step_at.ensures.unchanged;
-      agrees = λ h a. c.step_at.ensures.agrees (at.invariant.only.honest.0 h) (at.invariant.agrees h a);
-      is_open = c.step_at.ensures.open;
-      spent = λ low. unspent_before c.args.pages.now at.pages at.invariant.unchanged c.in_ok-child.ensures.spent;
-      room = c.push_reserved.ensures.capacity ∙ at.invariant.room;
-      steps = ap length c.push_reserved.ensures.items ∙ length-append at.path.items _
-          ∙ ap (λ (n : ℕ). n + 1) at.invariant.steps;
-      way = λ unspent h a levels tree.
-          subst (λ (path_steps : List PathStep). Along c.args.layout (pages_on g.D.Device c.args.pages.now
-          c.args.device.now) levels c.args.key.now path_steps c.in-Some.child.page c.step_at.new.right)
-          (sym c.push_reserved.ensures.items) (step_on c.args.layout (pages_on g.D.Device c.args.pages.now
-          c.args.device.now) levels c.args.key.now at.path.items at.page at.right c.step_at.new.right c.in-Some.child
-          (at.invariant.way unspent h a levels tree)
-          (stepped_before g.D.Device c.args.pages.now at.pages c.args.device.now at.device c.args.layout at.page
-          c.args.key.now at.right c.step_at.new.right c.in_ok-child.field-0 (Some c.in-Some.child)
-          at.invariant.unchanged at.invariant.only at.invariant.agrees c.in-Some.is c.in_ok-child.ensures.step h a));
-    }
+loop-depth-preserved g c = let at = c.loop-depth.invariant in record {
+  only = still_reads g.D.Device at.only c.step_at.ensures.only;
+  unchanged = unchanged_on _ _ _ at.unchanged c.step_at.ensures.unchanged;
+  agrees = λ h a. c.step_at.ensures.agrees (at.only.honest.0 h) (at.agrees h a);
+  is_open = c.step_at.ensures.open;
+  spent = λ low. unspent_before _ _ at.unchanged c.in_ok-child.ensures.spent;
+  room = c.push_reserved.ensures.capacity ∙ at.room;
+  steps = one_more _ _ _ _ c.push_reserved.ensures.items at.steps;
+  way = λ live h a levels tree. along_on g.D.Device _ _ _ _ c.args.layout levels c.args.key.now _ _ _ _ _ _
+      c.in-Some.child at.unchanged at.only at.agrees c.in-Some.is c.push_reserved.ensures.items
+      c.in_ok-child.ensures.step h a (at.way live h a levels tree);
+}
 
 pub returns-clause-damaged : goal.returns-clause-damaged
 returns-clause-damaged g c = λ h a is levels tree.

@@ -6,19 +6,16 @@ use Rattle.btree_pages.specs.Edits.{node_with_row}
 use Rattle.btree.proofs.enter_leaf.spell_entered.Goals as goal
 
 pub returns : goal.returns
-returns c = λ _.
-    let node = c.in-Ok.node in
-    let place = c.in-Err-find.place in
-    let row = c.args.key.now ++ c.args.value.now in
-    record {
-      node = node;
-      place = place;
-      read = c.in-Ok.ensures.node;
-      layout_is = c.in-Ok.ensures.shape.0;
-      kind_is = search rules;
-      some = omega (arith, c.if-place-eq0.false);
-      low = c.in-Err-find.ensures.missing;
-      around = c.in-Err-find.ensures.around;
-      spelled = subst (λ (layout : RowLayout). node_in layout c.spell_inserted.new.spelled
-          ≡ Some (node_with_row node place row)) c.in-Ok.ensures.shape.0 c.spell_inserted.ensures.reads;
-    }
+returns c = λ _. record {
+  node = c.in-Ok.node;
+  place = c.in-Err-find.place;
+  read = c.in-Ok.ensures.node;
+  layout_is = c.in-Ok.ensures.shape.0;
+  kind_is = search rules;
+  some = omega (arith, c.if-place-eq0.false);
+  low = c.in-Err-find.ensures.missing;
+  around = c.in-Err-find.ensures.around;
+  spelled = subst (λ (layout : RowLayout). node_in layout c.spell_inserted.new.spelled
+      ≡ Some (node_with_row c.in-Ok.node c.in-Err-find.place (c.args.key.now ++ c.args.value.now)))
+      c.in-Ok.ensures.shape.0 c.spell_inserted.ensures.reads;
+}

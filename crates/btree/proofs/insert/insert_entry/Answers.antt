@@ -1,13 +1,14 @@
 use Rattle.std.proofs.Common.{◌≡◌, List, [], length, sym, ap, subst, ◌∙◌, arith, true}
 use Rattle.std.specs.Prelude.{Option, Ok, IfOk}
 use Rattle.station.specs.Disk.{Sector}
-use Rattle.station.specs.State.{State}
 use Rattle.pages.specs.Image.{Map}
 use Rattle.pages.specs.declared.page_map.PageMap.{PageMap}
 use Rattle.pages.specs.Pages.{IsUnchanged, changed_pages_of, filled_of}
-use Rattle.btree.specs.Tree.{IsTreeOrEmpty}
-use Rattle.btree.specs.Changes.{pages_of_map, Inserts}
+use Rattle.btree.specs.Tree.{TreeNode, IsTreeOrEmpty}
+use Rattle.btree.specs.Changes.{Inserts}
+use Rattle.btree.specs.Calls.{OnChange}
 use Rattle.btree.specs.Entering.{EntersOn}
+use Rattle.btree.proofs.Changing.{change_read}
 use Rattle.btree.proofs.Frames.{holds_tree, pages_yet, unchanged_on}
 use Rattle.btree.proofs.InPlace.{came_in_place}
 use Rattle.std.specs.Prelude.{IfErr, Err}
@@ -43,43 +44,29 @@ returns-clause-catalog g c = c.insert_slowly-2.ensures.catalog ∙ c.enter_leaf.
 
 pub returns-then-branch-clause-inserted : goal.returns-then-branch-clause-inserted
 returns-then-branch-clause-inserted g c = λ honest agrees levels holds.
-    let image = (g.D.Device.state c.args.device.now).disk.present in
-    let before = pages_of_map c.args.pages.now image in
-    let after = pages_of_map c.enter_leaf.new.pages image in
     let way = c.in_ok-way.way in
-    let tree = holds_tree c.args.layout before c.args.root levels holds c.if-root-eq0.false in
-    let done : c.enter_leaf.result ≡ Ok true = c.in_ok-enter_leaf.was ∙ ap Ok c.if-branch.true in
-    let raw = c.enter_leaf.ensures.done done (g.D.Device.state c.follow.new.device).disk
-    (c.follow.ensures.agrees honest agrees) in
-    let at_state = subst (λ (s : State). EntersOn c.args.layout way.page c.args.key.now c.args.value.now
-    (pages_of_map c.follow.new.pages s.disk.present) (pages_of_map c.enter_leaf.new.pages s.disk.present))
-    (c.follow.ensures.only.state honest) raw in
-    let on = subst (λ (pages : List (Option Sector)). EntersOn c.args.layout way.page c.args.key.now c.args.value.now
-    pages after) (ap (λ (m : Map). m.pages) (c.follow.ensures.unchanged.map image)) at_state in
-    came_in_place c.args.layout before after way.page c.args.key.now c.args.value.now on c.args.root levels
-    way.path.items way.right c.requires.key c.requires.value tree (c.in_ok-way.ensures.way honest agrees levels tree)
-
-pub returns-clause-inserted : goal.returns-clause-inserted
-returns-clause-inserted g c = λ honest agrees levels holds.
-    let result = c.insert_slowly-2.result in
     let key = c.args.key.now in
     let value = c.args.value.now in
-    let old = g.D.Device.state c.args.device.now in
-    let now = g.D.Device.state c.follow.new.device in
-    let state = c.follow.ensures.only.state honest in
-    let before = pages_of_map c.args.pages.now old.disk.present in
+    let tree = holds_tree c.args.layout _ c.args.root levels holds c.if-root-eq0.false in
+    let done : c.enter_leaf.result ≡ Ok true = c.in_ok-enter_leaf.was ∙ ap Ok c.if-branch.true in
+    let on = change_read g.D.Device _ c.args.pages.now c.follow.new.pages c.enter_leaf.new.pages c.args.device.now
+    c.follow.new.device (λ before after. EntersOn c.args.layout way.page key value before after)
+    c.follow.ensures.unchanged c.follow.ensures.only c.follow.ensures.agrees
+    (λ h a. c.enter_leaf.ensures.done done (g.D.Device.state c.follow.new.device).disk a) honest agrees in
+    came_in_place c.args.layout _ _ way.page key value on c.args.root levels way.path.items way.right c.requires.key
+    c.requires.value tree (c.in_ok-way.ensures.way honest agrees levels tree)
+
+pub returns-clause-inserted : goal.returns-clause-inserted
+returns-clause-inserted g c =
     let same : c.enter_leaf.new.pages ≡ c.follow.new.pages =
     c.enter_leaf.ensures.same (c.in_ok-enter_leaf.was ∙ ap Ok c.if-branch.false) in
-    let pages_are = pages_yet c.args.pages.now c.follow.new.pages c.enter_leaf.new.pages old now
-    c.follow.ensures.unchanged same state in
-    let agreed = c.enter_leaf.ensures.keeps.agrees now.disk (c.follow.ensures.agrees honest agrees) in
-    let held = subst (λ (pages : List (Option Sector)). IsTreeOrEmpty c.args.layout pages c.args.root levels)
-    (sym pages_are) holds in
-    let raw = c.insert_slowly-2.ensures.inserted (c.follow.ensures.only.honest.0 honest) agreed levels held in
-    let from_before = subst (λ (pages : List (Option Sector)). IfOk result (Inserts c.args.layout pages levels
-    (pages_of_map c.insert_slowly-2.new.pages now.disk.present) key value)) pages_are raw in
-    subst (λ (s : State). IfOk result (Inserts c.args.layout before levels
-    (pages_of_map c.insert_slowly-2.new.pages s.disk.present) key value)) state from_before
+    let P : List (Option Sector) → List (Option Sector) → Type 0 = λ before after. (levels : List (List TreeNode))
+    → IsTreeOrEmpty c.args.layout before c.args.root levels → IfOk c.insert_slowly-2.result
+    (Inserts c.args.layout before levels after c.args.key.now c.args.value.now) in
+    change_read g.D.Device _ c.args.pages.now c.follow.new.pages c.insert_slowly-2.new.pages c.args.device.now
+    c.follow.new.device P c.follow.ensures.unchanged c.follow.ensures.only c.follow.ensures.agrees
+    (subst (λ (p : PageMap). OnChange g.D.Device p c.insert_slowly-2.new.pages c.follow.new.device P) same
+    c.insert_slowly-2.ensures.inserted)
 
 pub returns-clause-damaged : goal.returns-clause-damaged
 returns-clause-damaged g c = λ honest agrees is levels holds.

@@ -10,6 +10,7 @@ use Rattle.btree.specs.Path.{PathStep, EndsAt}
 use Rattle.btree.specs.Changes.{pages_of_map, InsertsIntoLeaf}
 use Rattle.pages.specs.Pages.{is_spent, page_count}
 use Rattle.pages.specs.declared.error.PagesError.TheVariants.{Spent}
+use Rattle.btree.proofs.Changing.{change_read}
 use Rattle.btree.proofs.Frames.{holds_tree, false_unless, ok_or_err}
 use Rattle.btree.proofs.TreeNodes.{few_pages}
 use Rattle.btree.proofs.Depth.{few_levels}
@@ -83,27 +84,18 @@ returns-in_err-entered-clause-damaged g c = λ honest agrees is levels holds.
 
 pub returns-clause-inserted : goal.returns-clause-inserted
 returns-clause-inserted g c = λ honest agrees levels holds.
-    let image = (g.D.Device.state c.args.device.now).disk.present in
-    let before = pages_of_map c.args.pages.now image in
-    let after = pages_of_map c.insert_into_leaf.new.pages image in
     let d = c.in_ok-descent.descent in
     let place = c.in-Err.place in
     let new = c.in_ok-entered.entered in
-    let tree = holds_tree c.args.layout before c.args.root levels holds c.if-root-eq0.false in
-    let layout_is = c.in_ok-descent.ensures.leaf.0 in
-    let raw =
-    c.in_ok-entered.ensures.entered (c.descend.ensures.only.honest.0 honest) (c.descend.ensures.agrees honest agrees) in
-    let at_state = subst (λ (s : State). InsertsIntoLeaf c.args.layout c.args.root
-    (pages_of_map c.descend.new.pages s.disk.present) (pages_of_map c.insert_into_leaf.new.pages s.disk.present)
-    d.path.items d.page d.leaf.rows d.right place c.args.key.now c.args.value.now new)
-    (c.descend.ensures.only.state honest) raw in
-    let enters = subst (λ (pages : List (Option Sector)). InsertsIntoLeaf c.args.layout c.args.root
-    pages after d.path.items d.page d.leaf.rows d.right place c.args.key.now c.args.value.now new)
-    (ap (λ (m : Map). m.pages) (c.descend.ensures.unchanged.map image)) at_state in
-    came c.args.layout before after c.args.root levels d.path.items d.page d.leaf.rows d.right place c.args.key.now
+    let tree = holds_tree c.args.layout _ c.args.root levels holds c.if-root-eq0.false in
+    let enters = change_read g.D.Device _ c.args.pages.now c.descend.new.pages c.insert_into_leaf.new.pages
+    c.args.device.now c.descend.new.device (λ before after. InsertsIntoLeaf c.args.layout c.args.root before after
+    d.path.items d.page d.leaf.rows d.right place c.args.key.now c.args.value.now new) c.descend.ensures.unchanged
+    c.descend.ensures.only c.descend.ensures.agrees c.in_ok-entered.ensures.entered honest agrees in
+    came c.args.layout _ _ c.args.root levels d.path.items d.page d.leaf.rows d.right place c.args.key.now
     c.args.value.now new tree (c.in_ok-descent.ensures.way honest agrees levels tree)
-    c.in-Err.ensures.missing (subst (λ (f : RowLayout). FindsGap f c.args.key.now d.leaf.rows place) layout_is
-    c.in-Err.ensures.around) enters
+    c.in-Err.ensures.missing (subst (λ (f : RowLayout). FindsGap f c.args.key.now d.leaf.rows place)
+    c.in_ok-descent.ensures.leaf.0 c.in-Err.ensures.around) enters
 
 -- the steps of a descent down a tree of the map
 few_steps : (layout : RowLayout) (key : List ℕ) (pages : List (Option Sector)) (root : ℕ)

@@ -1,17 +1,15 @@
 use Rattle.std.proofs.Common.{◌≡◌, List, [], sym, ap, subst, ◌∙◌}
-use Rattle.std.specs.Prelude.{Option, Some, None, slice_index_or}
+use Rattle.std.specs.Prelude.{Option, Some, None}
 use Rattle.std.proofs.lemmas.List.{nil_from_length}
-use Rattle.byteorder.specs.Endian.{big_bytes}
-use Rattle.station.specs.Disk.{Sector}
-use Rattle.station.specs.State.{State}
 use Rattle.pages.specs.Image.{Map}
-use Rattle.btree_pages.specs.Keys.{rest_of}
 use Rattle.btree.specs.declared.split_result.SplitResult.{SplitResult}
-use Rattle.btree.specs.Tree.{node_at, IsOnPage}
+use Rattle.btree_pages.specs.declared.row_layout.Kind.{Kind}
+use Rattle.btree.specs.Tree.{TreeNode, node_at, IsOnPage}
 use Rattle.btree.specs.Path.{PathStep}
-use Rattle.btree.specs.Propagates.{run_of}
-use Rattle.btree.specs.Changes.{pages_of_map, IsIn, CanStand, UpdatesParent, PropagatesBy, NeverPropagates}
-use Rattle.btree.proofs.Upward.{propagates_none, propagates_on, propagates_more, never_read, never_updated, never_below}
+use Rattle.btree.specs.Changes.{pages_of_map, PropagatesBy, NeverPropagates}
+use Rattle.btree.proofs.Changing.{pages_at}
+use Rattle.btree.proofs.StepsUp.{more_way, never_read_way, never_updated_way}
+use Rattle.btree.proofs.Upward.{propagates_none, propagates_on, never_below}
 use Rattle.std.specs.Prelude.{IfErr, Err}
 use Rattle.std.proofs.Common.{inr, true}
 use Rattle.station.specs.Calls.{OnlyReads}
@@ -57,24 +55,14 @@ returns-in-None-2-clause-propagates g t c = λ honest agrees.
 
 pub returns-in_err-node-clause-damaged : goal.returns-in_err-node-clause-damaged
 returns-in_err-node-clause-damaged g t c = λ honest agrees is.
-    let image = (g.D.Device.state c.args.device.now).disk.present in
-    let before = pages_of_map c.args.pages.now image in
-    let two = pages_of_map c.propagate_split.new.pages image in
     let step = c.in-Some.pair.0.now in
-    let rest = c.in-Some.pair.1.now in
     let told = rw is at c.from_residual-in_err-node.ensures.1 in
-    let propagated =
-    subst (λ (up : Option SplitResult). PropagatesBy c.args.layout rest before two (Some c.args.split) up)
-    c.in-Some-2.is (c.in_ok-told.ensures.propagates honest agrees) in
-    let same = ap (λ (s : State). pages_of_map c.propagate_split.new.pages s.disk.present)
-    (c.propagate_split.ensures.only.state honest) in
-    let none = c.in_err-node.ensures.damaged (c.propagate_split.ensures.only.honest.0 honest)
-    (c.propagate_split.ensures.agrees honest agrees) (cc told) in
-    subst (λ (path : List PathStep). NeverPropagates c.args.layout path before (Some c.args.split))
-    (sym c.in-Some.ensures.cases.0)
-    (never_read c.args.layout before two step rest (Some c.args.split) c.in-Some-2.told propagated
-    (λ kind node page stands. none kind node page
-    (subst (λ (pages : List (Option Sector)). IsOnPage c.args.layout pages kind node) (sym same) stands)))
+    let none = pages_at g.D.Device _ c.propagate_split.new.pages c.args.device.now c.propagate_split.new.device
+    (λ pages. (kind : Kind) (node : TreeNode) → node.page ≡ step.page → IsOnPage c.args.layout pages kind node → ⊥)
+    c.propagate_split.ensures.only honest (c.propagate_split.ensures.agrees honest agrees)
+    (λ h a. c.in_err-node.ensures.damaged h a (cc told)) in
+    never_read_way c.args.layout c.args.path.now _ _ step c.in-Some.pair.1.now (Some c.args.split) _ c.in-Some-2.told
+    c.in-Some.ensures.cases.0 c.in-Some-2.is (c.in_ok-told.ensures.propagates honest agrees) none
 
 pub returns-in_err-node-clause-catalog : goal.returns-in_err-node-clause-catalog
 returns-in_err-node-clause-catalog g t c =
@@ -91,61 +79,30 @@ returns-clause-catalog g t c = c.update_parent_at.ensures.keeps.catalog
 pub returns-in_err-up-clause-damaged : goal.returns-in_err-up-clause-damaged
 returns-in_err-up-clause-damaged g t c = λ honest agrees is.
     let image = (g.D.Device.state c.args.device.now).disk.present in
-    let before = pages_of_map c.args.pages.now image in
-    let two = pages_of_map c.propagate_split.new.pages image in
     let step = c.in-Some.pair.0.now in
-    let rest = c.in-Some.pair.1.now in
     let node = c.in_ok-node.node in
     let told = rw is at c.from_residual-in_err-up.ensures.1 in
-    let propagated =
-    subst (λ (up : Option SplitResult). PropagatesBy c.args.layout rest before two (Some c.args.split) up)
-    c.in-Some-2.is (c.in_ok-told.ensures.propagates honest agrees) in
-    let same = ap (λ (s : State). pages_of_map c.propagate_split.new.pages s.disk.present)
-    (c.propagate_split.ensures.only.state honest) in
-    let still = ap (λ (m : Map). m.pages) (c.read_node.ensures.unchanged.map image) in
-    let read = c.in_ok-node.ensures.node (c.propagate_split.ensures.only.honest.0 honest)
-    (c.propagate_split.ensures.agrees honest agrees) in
-    let none = c.in_err-up.ensures.damaged (cc told) image in
-    subst (λ (path : List PathStep). NeverPropagates c.args.layout path before (Some c.args.split))
-    (sym c.in-Some.ensures.cases.0)
-    (never_updated c.args.layout before two step rest (Some c.args.split) c.in-Some-2.told node propagated
-    (record {
-      layout_is = c.in_ok-node.ensures.shape.0;
-      read = subst (λ (pages : List (Option Sector)). node_at c.args.layout pages step.page ≡ Some node) same read;
-    })
-    (λ inner low some is_in.
-    none inner low some (subst (λ (pages : List (Option Sector)). IsIn pages step.page) (sym still) is_in)))
+    let read = pages_at g.D.Device _ c.propagate_split.new.pages c.args.device.now c.propagate_split.new.device
+    (λ pages. node_at c.args.layout pages step.page ≡ Some node) c.propagate_split.ensures.only honest
+    (c.propagate_split.ensures.agrees honest agrees) c.in_ok-node.ensures.node in
+    never_updated_way c.args.layout c.args.path.now _ _ _ step c.in-Some.pair.1.now (Some c.args.split) _
+    c.in-Some-2.told node c.in-Some.ensures.cases.0 c.in-Some-2.is (c.in_ok-told.ensures.propagates honest agrees)
+    (record { layout_is = c.in_ok-node.ensures.shape.0; read = read })
+    (ap (λ (m : Map). m.pages) (c.read_node.ensures.unchanged.map image)) (c.in_err-up.ensures.damaged (cc told) image)
 
 pub returns-clause-propagates : goal.returns-clause-propagates
 returns-clause-propagates g t c = λ honest agrees.
     let image = (g.D.Device.state c.args.device.now).disk.present in
-    let before = pages_of_map c.args.pages.now image in
-    let two = pages_of_map c.propagate_split.new.pages image in
-    let three = pages_of_map c.update_parent_at.new.pages image in
     let step = c.in-Some.pair.0.now in
-    let rest = c.in-Some.pair.1.now in
     let node = c.in_ok-node.node in
-    let up = c.in_ok-up.up in
-    let propagated =
-    subst (λ (up : Option SplitResult). PropagatesBy c.args.layout rest before two (Some c.args.split) up)
-    c.in-Some-2.is (c.in_ok-told.ensures.propagates honest agrees) in
-    let same = ap (λ (s : State). pages_of_map c.propagate_split.new.pages s.disk.present)
-    (c.propagate_split.ensures.only.state honest) in
-    let still = ap (λ (m : Map). m.pages) (c.read_node.ensures.unchanged.map image) in
-    let read = c.in_ok-node.ensures.node (c.propagate_split.ensures.only.honest.0 honest)
-    (c.propagate_split.ensures.agrees honest agrees) in
-    let updates = subst (λ (pages : List (Option Sector)). CanStand pages step.page node
-    → rest_of node.layout (slice_index_or node.rows step.place []) ≡ big_bytes 4 c.in-Some-2.told.page
-    → UpdatesParent node.layout pages three step.page node.rows step.place (run_of c.in-Some-2.told) up) still
-    (c.in_ok-up.ensures.pages image) in
-    subst (λ (path : List PathStep). PropagatesBy c.args.layout path before three (Some c.args.split) up)
-    (sym c.in-Some.ensures.cases.0)
-    (propagates_more c.args.layout before two three step rest (Some c.args.split) c.in-Some-2.told up node propagated
-    (record {
-      layout_is = c.in_ok-node.ensures.shape.0;
-      read = subst (λ (pages : List (Option Sector)). node_at c.args.layout pages step.page ≡ Some node) same read;
-    })
-    updates)
+    let read = pages_at g.D.Device _ c.propagate_split.new.pages c.args.device.now c.propagate_split.new.device
+    (λ pages. node_at c.args.layout pages step.page ≡ Some node) c.propagate_split.ensures.only honest
+    (c.propagate_split.ensures.agrees honest agrees) c.in_ok-node.ensures.node in
+    more_way c.args.layout c.args.path.now _ _ _ (pages_of_map c.update_parent_at.new.pages image) step
+    c.in-Some.pair.1.now (Some c.args.split) _ c.in-Some-2.told c.in_ok-up.up node c.in-Some.ensures.cases.0
+    c.in-Some-2.is (c.in_ok-told.ensures.propagates honest agrees)
+    (record { layout_is = c.in_ok-node.ensures.shape.0; read = read })
+    (ap (λ (m : Map). m.pages) (c.read_node.ensures.unchanged.map image)) (c.in_ok-up.ensures.pages image)
 
 pub returns-in_err-told-clause-full : goal.returns-in_err-told-clause-full
 returns-in_err-told-clause-full g t c = λ is.

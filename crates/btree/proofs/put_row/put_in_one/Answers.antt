@@ -18,8 +18,8 @@ returns-clause-pages c = λ image can.
     c.args.page c.bytes-spelled.result node.rows c.insert.new.self.rows
     (c.in_ok-edit.ensures.map image) (is_low (pages_of_map c.args.pages.now image) c.args.page can.is_in)
     (spells_inserted (pages_of_map c.args.pages.now image) c.args.page node c.insert.new.self c.args.place
-    c.args.key.now c.args.rest.now c.bytes-spelled.result can c.insert.ensures c.requires.place c.requires.key
-    c.requires.rest c.bytes-spelled.ensures.reads)
+    c.args.key.now c.args.rest.now c.bytes-spelled.result can c.insert.ensures c.requires.place c.requires.row.0
+    c.requires.row.1 c.bytes-spelled.ensures.reads)
 
 pub returns-in_err-edit-clause-changed_pages : goal.returns-in_err-edit-clause-changed_pages
 returns-in_err-edit-clause-changed_pages c =

@@ -1,10 +1,8 @@
-use Rattle.std.proofs.Common.{◌++◌, List, length, set, ◌∙◌, ap, arith, replicate}
-use Rattle.std.specs.Prelude.{Option, Some}
-use Rattle.station.specs.Disk.{Sector}
+use Rattle.std.proofs.Common.{length, ◌∙◌, ap, arith, replicate}
 use Rattle.pages.specs.Pages.{changed_pages_of}
 use Rattle.btree.specs.Changes.{pages_of_map}
 use Rattle.btree.proofs.SplitNodes.{three_fit}
-use Rattle.btree.proofs.Writes.{write_two, is_low, spells_left, spells_right}
+use Rattle.btree.proofs.PutTwo.{puts_two}
 use Rattle.btree.proofs.ChangedPages.{changes_count, changes_again, changes_has, changes_keeps}
 use Rattle.btree.proofs.Refused.{each_used}
 use Rattle.std.specs.Prelude.{IfErr, Err}
@@ -25,30 +23,16 @@ split_node-right-requires-clause-full c =
     omega (arith, c.requires.full, three_fit c.args.node.layout c.args.node.kind c.count-count.ensures.node.layout)
 
 pub returns-clause-pages : goal.returns-clause-pages
-returns-clause-pages c = λ image can.
-    let node = c.args.node in
-    let old = pages_of_map c.args.pages.now image in
-    let row = c.args.key.now ++ c.args.rest.now in
-    write_two node.layout node.kind old (pages_of_map c.edit-2.new.self image) c.args.page c.in_ok-new.new
-    c.bytes-lower.result c.bytes-upper.result node.rows c.split_node-right.new.node.rows c.split_node-right.result.rows
-    (record {
-      zeros = replicate 4096 0;
-      is = c.in_ok-edit-2.ensures.map image
-          ∙ ap (λ (l : List (Option Sector)). set l c.in_ok-new.new (Some c.bytes-upper.result))
-          (c.in_ok-edit.ensures.map image ∙ ap (λ (l : List (Option Sector)).
-          set l c.args.page (Some c.bytes-lower.result)) (c.in_ok-new.ensures.map image));
-      page_low = is_low old c.args.page can.is_in;
-      new_low = omega (arith, c.in_ok-new.ensures.page.1, c.page_count-page_count.ensures.pages image);
-      some = c.in_ok-new.ensures.page.0;
-      there = can.is_in;
-      none = c.in_ok-new.ensures.unused image;
-    })
-    (spells_left old c.args.page node c.split_node-right.new.node c.split_node-right.result c.args.place c.args.key.now
-    c.args.rest.now c.bytes-lower.result can c.split_node-right.ensures.rows c.requires.key c.requires.rest
-    c.split_node-right.ensures.left c.split_node-right.ensures.left_enough c.bytes-lower.ensures.reads)
-    (spells_right old c.args.page node c.split_node-right.new.node c.split_node-right.result c.args.place c.args.key.now
-    c.args.rest.now c.bytes-upper.result can c.split_node-right.ensures.rows c.requires.key c.requires.rest
-    c.split_node-right.ensures.right c.split_node-right.ensures.right_enough c.bytes-upper.ensures.reads)
+returns-clause-pages c = λ image can. puts_two (pages_of_map c.args.pages.now image)
+    (pages_of_map c.allocate.new.self image) (pages_of_map c.edit.new.self image)
+    (pages_of_map c.edit-2.new.self image) c.args.page c.in_ok-new.new c.args.place (replicate 4096 0)
+    c.bytes-lower.result c.bytes-upper.result c.args.key.now c.args.rest.now c.args.node c.split_node-right.new.node
+    c.split_node-right.result can (c.in_ok-new.ensures.map image) (c.in_ok-edit.ensures.map image)
+    (c.in_ok-edit-2.ensures.map image)
+    (omega (arith, c.in_ok-new.ensures.page.1, c.page_count-page_count.ensures.pages image)) c.in_ok-new.ensures.page.0
+    (c.in_ok-new.ensures.unused image) c.split_node-right.ensures.rows c.requires.row.0 c.requires.row.1
+    c.split_node-right.ensures.left c.split_node-right.ensures.left_enough c.bytes-lower.ensures.reads
+    c.split_node-right.ensures.right c.split_node-right.ensures.right_enough c.bytes-upper.ensures.reads
 
 pub returns-clause-changed_pages : goal.returns-clause-changed_pages
 returns-clause-changed_pages c =

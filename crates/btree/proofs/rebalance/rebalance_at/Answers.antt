@@ -1,29 +1,24 @@
-use Rattle.std.proofs.Common.{◌≡◌, ◌-◌, ◌++◌, false, refl, sym, ◌∙◌, ap, subst}
+use Rattle.std.proofs.Common.{◌≡◌, ◌-◌, false, sym, ◌∙◌, ap, subst}
 use Rattle.pages.specs.declared.error.PagesError.TheVariants.{Spent}
 use Rattle.pages.specs.Image.{Map}
 use Rattle.pages.specs.Pages.{is_spent, page_count}
-use Rattle.btree_pages.specs.declared.row_layout.Kind.{Kind}
-use Rattle.btree.specs.Tree.{IsOnPage}
 use Rattle.btree.specs.Changes.{pages_of_map}
-use Rattle.btree.specs.Outcomes.{Joins}
-use Rattle.btree.proofs.Frames.{false_unless, ok_or_err}
-use Rattle.btree.proofs.TreeNodes.{few_pages}
 use Rattle.btree.proofs.Lessening.{has_room, true_or_false}
-use Rattle.btree.proofs.Pairing.{first_near, other_near, rows_read, rebalanced_so, never_joined, together_first}
-use Rattle.btree.proofs.Pairing.{together_other}
-use Rattle.std.specs.Prelude.{Err}
+use Rattle.btree.proofs.Pairing.{first_near, other_near, never_joined}
+use Rattle.std.specs.Prelude.{Ok, Err}
 use Rattle.std.proofs.Common.{◌≢◌, ◌≤◌, ◌+◌, true, List, ℕ, length}
 use Rattle.station.specs.Calls.{OnlyReads}
 use Rattle.station.proofs.Calls.{reads_nothing}
 use Rattle.pages.specs.Pages.{changed_pages_of, filled_of}
-use Rattle.pages.specs.declared.error.PagesError.TheVariants.{Device, Full, ForeignMark}
+use Rattle.pages.specs.declared.error.PagesError.TheVariants.{Device, Full, Damaged, ForeignMark}
 use Rattle.btree_pages.specs.declared.row_layout.RowLayout.{RowLayout}
 use Rattle.btree.specs.Refusals.{IsRestRefusal}
 use Rattle.btree.specs.Reading.{IsReadRefusal}
 use Rattle.btree.specs.Outcomes.{FitsAbove, spare}
 use Rattle.btree.proofs.Passing.{passed, never_ok, same_error, still_error, damaged_not_device}
 use Rattle.btree.proofs.Passing.{rest_not_device}
-use Rattle.btree.proofs.Passing.{reads_where, committed_on}
+use Rattle.btree.proofs.Passing.{reads_where, committed_on, damaged_not_spent, was_error}
+use Rattle.btree.proofs.NeighbourCalls.{above_at, never_missing, rebalanced_first, rebalanced_other}
 use Rattle.btree.proofs.rebalance.rebalance_at.Goals as goal
 
 pub returns-then-not-leads-clause-damaged : goal.returns-then-not-leads-clause-damaged
@@ -39,145 +34,87 @@ returns-then-not-leads-clause-damaged g c = λ honest agrees is left right inner
 -- The child is the first one.
 pub returns-in_err-right-clause-damaged : goal.returns-in_err-right-clause-damaged
 returns-in_err-right-clause-damaged g c = λ honest agrees is left right inner low some left_some right_some pair.
-    let image = (g.D.Device.state c.args.device.now).disk.present in
-    let told = rw is at c.from_residual.ensures.1 in
-    let unspent : is_spent c.args.pages.now ≡ false = false_unless (is_spent c.args.pages.now) (λ spent. let clash =
-    sym c.in_err-right.was ∙ c.neighbour.ensures.spent.1 spent in cc (told, clash)) in
-    let near = first_near (pages_of_map c.args.pages.now image) c.args.layout c.args.lone.node.kind c.args.node
-    c.args.step.page c.args.step.place c.args.lone.page left right
-    (record {
-      few = few_pages (pages_of_map c.args.pages.now image) (page_count c.args.pages.now) (page_count c.args.pages.now)
-          (c.leads.ensures.count image) refl (c.leads.ensures.few c.requires.open unspent);
-      layout_is = c.requires.node;
-      inner = inner;
-      is_node = c.count.ensures.node;
-    }) c.if-step-eq0.true pair in
-    c.in_err-right.ensures.damaged honest agrees (cc told) right (sym (c.child.ensures ∙ near.near_is))
-    (subst (λ (kind : Kind). IsOnPage c.args.layout (pages_of_map c.args.pages.now image) kind right)
-    (sym c.kind-kind.ensures) near.stands)
+    let step = c.args.step in
+    let damaged = was_error c.from_residual.result c.neighbour.result c.in_err-right.field-0.0 Damaged
+    c.from_residual.ensures.1 c.in_err-right.was is in
+    let above = above_at c.neighbour.result c.args.pages.now (g.D.Device.state c.args.device.now).disk.present
+    c.args.layout c.args.node c.leads.ensures.count c.leads.ensures.few c.requires.open c.neighbour.ensures.spent
+    (λ spent. damaged_not_spent (sym damaged ∙ spent)) c.requires.node inner c.count.ensures.node in
+    never_missing _ c.args.layout c.args.lone.node.kind c.kind-kind.result c.args.node step.page step.place 0 1
+    c.args.lone.page c.child.result left right left right
+    (first_near _ c.args.layout c.args.lone.node.kind c.args.node step.page step.place c.args.lone.page left right above
+    c.if-step-eq0.true pair) c.kind-kind.ensures c.child.ensures (c.neighbour.ensures.damaged honest agrees damaged)
 
 pub returns-in_err-first-clause-damaged : goal.returns-in_err-first-clause-damaged
 returns-in_err-first-clause-damaged g c = λ honest agrees is left right inner low some left_some right_some pair.
     let image = (g.D.Device.state c.args.device.now).disk.present in
     let told = rw is at c.from_residual-in_err-first.ensures.1 in
-    let beside = c.in_ok-right.right in
-    let unspent : is_spent c.args.pages.now ≡ false = false_unless (is_spent c.args.pages.now)
-    (λ spent. ok_or_err beside Spent (sym c.in_ok-right.was ∙ c.neighbour.ensures.spent.1 spent)) in
-    let near = first_near (pages_of_map c.args.pages.now image) c.args.layout c.args.lone.node.kind c.args.node
-    c.args.step.page c.args.step.place c.args.lone.page left right
-    (record {
-      few = few_pages (pages_of_map c.args.pages.now image) (page_count c.args.pages.now) (page_count c.args.pages.now)
-          (c.leads.ensures.count image) refl (c.leads.ensures.few c.requires.open unspent);
-      layout_is = c.requires.node;
-      inner = inner;
-      is_node = c.count.ensures.node;
-    }) c.if-step-eq0.true pair in
-    never_joined (pages_of_map c.args.pages.now image) (pages_of_map c.neighbour.new.pages image) left.page right.page
-    c.args.lone.page beside.page (ap (λ (m : Map). m.pages) (c.neighbour.ensures.unchanged.map image))
-    near.child_is (sym (c.in_ok-right.ensures.shape.0 ∙ c.child.ensures ∙ near.near_is)) near.are.two left_some
-    right_some (c.in_err-first.ensures.damaged (cc told) image)
+    let above = above_at (Ok c.in_ok-right.right) c.args.pages.now image c.args.layout c.args.node
+    c.leads.ensures.count c.leads.ensures.few c.requires.open c.in_ok-right.ensures.spent (λ spent. never_ok spent)
+    c.requires.node inner c.count.ensures.node in
+    let near = first_near _ c.args.layout c.args.lone.node.kind c.args.node c.args.step.page c.args.step.place
+    c.args.lone.page left right above c.if-step-eq0.true pair in
+    never_joined _ (pages_of_map c.neighbour.new.pages image) left.page right.page c.args.lone.page
+    c.in_ok-right.right.page (ap (λ (m : Map). m.pages) (c.neighbour.ensures.unchanged.map image)) near.child_is
+    (sym (c.in_ok-right.ensures.shape.0 ∙ c.child.ensures ∙ near.near_is)) near.are.two left_some right_some
+    (c.in_err-first.ensures.damaged (cc told) image)
 
 pub returns-then-step-eq0-clause-rebalances : goal.returns-then-step-eq0-clause-rebalances
 returns-then-step-eq0-clause-rebalances g c = λ honest agrees left right can pair.
-    let place = c.args.step.place in
-    let lone = c.args.lone.node.rows in
+    let step = c.args.step in
     let image = (g.D.Device.state c.args.device.now).disk.present in
-    let before = pages_of_map c.args.pages.now image in
-    let beside = c.in_ok-right.right in
-    let unspent : is_spent c.args.pages.now ≡ false = false_unless (is_spent c.args.pages.now)
-    (λ spent. ok_or_err beside Spent (sym c.in_ok-right.was ∙ c.neighbour.ensures.spent.1 spent)) in
-    let near = first_near (pages_of_map c.args.pages.now image) c.args.layout c.args.lone.node.kind c.args.node
-    c.args.step.page place c.args.lone.page left right
-    (record {
-      few = few_pages (pages_of_map c.args.pages.now image) (page_count c.args.pages.now) (page_count c.args.pages.now)
-          (c.leads.ensures.count image) refl (c.leads.ensures.few c.requires.open unspent);
-      layout_is = c.requires.node;
-      inner = (c.leads.ensures.is.0 c.if-not-leads.false).0;
-      is_node = c.count.ensures.node;
-    }) c.if-step-eq0.true pair in
-    let page_is = c.child.ensures ∙ near.near_is in
-    rebalanced_so c.args.layout c.args.lone.node.kind before (pages_of_map c.neighbour.new.pages image)
-    (pages_of_map c.rebalance_pair.new.pages image) c.args.step.page place 0 c.args.node lone (lone ++ beside.node.rows)
-    left right c.in_ok-first.first
-    c.requires.node (ap (λ (m : Map). m.pages) (c.neighbour.ensures.unchanged.map image)) near.are near.place_is
-    (together_first place lone beside.node.rows left right c.if-step-eq0.true
-    (rows_read c.args.layout c.args.lone.node.kind before c.child.result beside.node right page_is
-    (c.in_ok-right.ensures.node honest agrees) near.stands))
-    (λ these. c.in_ok-first.ensures.joins image left right these near.child_is
-    (sym (c.in_ok-right.ensures.shape.0 ∙ page_is)))
+    let above = above_at (Ok c.in_ok-right.right) c.args.pages.now image c.args.layout c.args.node
+    c.leads.ensures.count c.leads.ensures.few c.requires.open c.in_ok-right.ensures.spent (λ spent. never_ok spent)
+    c.requires.node (c.leads.ensures.is.0 c.if-not-leads.false).0 c.count.ensures.node in
+    rebalanced_first c.args.pages.now c.neighbour.new.pages c.rebalance_pair.new.pages image c.args.layout c.args.node
+    step c.args.lone c.in_ok-right.right c.child.result left right c.in_ok-first.first
+    (first_near _ c.args.layout c.args.lone.node.kind c.args.node step.page step.place c.args.lone.page left right above
+    c.if-step-eq0.true pair) c.neighbour.ensures.unchanged c.requires.node c.if-step-eq0.true c.child.ensures
+    (c.in_ok-right.ensures.node honest agrees) c.in_ok-right.ensures.shape.0 c.in_ok-first.ensures.joins
 
 -- It has a neighbour to its left.
 pub returns-in_err-left-clause-damaged : goal.returns-in_err-left-clause-damaged
 returns-in_err-left-clause-damaged g c = λ honest agrees is left right inner low some left_some right_some pair.
-    let image = (g.D.Device.state c.args.device.now).disk.present in
-    let told = rw is at c.from_residual-in_err-left.ensures.1 in
-    let unspent : is_spent c.args.pages.now ≡ false = false_unless (is_spent c.args.pages.now) (λ spent. let clash =
-    sym c.in_err-left.was ∙ c.neighbour-2.ensures.spent.1 spent in cc (told, clash)) in
-    let near = other_near (pages_of_map c.args.pages.now image) c.args.layout c.args.lone.node.kind c.args.node
-    c.args.step.page c.args.step.place c.args.lone.page left right
-    (record {
-      few = few_pages (pages_of_map c.args.pages.now image) (page_count c.args.pages.now) (page_count c.args.pages.now)
-          (c.leads.ensures.count image) refl (c.leads.ensures.few c.requires.open unspent);
-      layout_is = c.requires.node;
-      inner = inner;
-      is_node = c.count.ensures.node;
-    }) c.if-step-eq0.false pair in
-    c.in_err-left.ensures.damaged honest agrees (cc told) left (sym (c.child-2.ensures ∙ near.near_is))
-    (subst (λ (kind : Kind). IsOnPage c.args.layout (pages_of_map c.args.pages.now image) kind left)
-    (sym c.kind-kind.ensures) near.stands)
+    let step = c.args.step in
+    let damaged = was_error c.from_residual-in_err-left.result c.neighbour-2.result c.in_err-left.field-0.0 Damaged
+    c.from_residual-in_err-left.ensures.1 c.in_err-left.was is in
+    let above = above_at c.neighbour-2.result c.args.pages.now (g.D.Device.state c.args.device.now).disk.present
+    c.args.layout c.args.node c.leads.ensures.count c.leads.ensures.few c.requires.open c.neighbour-2.ensures.spent
+    (λ spent. damaged_not_spent (sym damaged ∙ spent)) c.requires.node inner c.count.ensures.node in
+    never_missing _ c.args.layout c.args.lone.node.kind c.kind-kind.result c.args.node step.page step.place
+    (step.place - 1) (step.place - 1) c.args.lone.page c.child-2.result left right right left
+    (other_near _ c.args.layout c.args.lone.node.kind c.args.node step.page step.place c.args.lone.page left right above
+    c.if-step-eq0.false pair) c.kind-kind.ensures c.child-2.ensures
+    (c.neighbour-2.ensures.damaged honest agrees damaged)
 
 pub returns-in_err-outcome-clause-damaged : goal.returns-in_err-outcome-clause-damaged
 returns-in_err-outcome-clause-damaged g c = λ honest agrees is left right inner low some left_some right_some pair.
     let image = (g.D.Device.state c.args.device.now).disk.present in
     let told = rw is at c.from_residual-in_err-outcome.ensures.1 in
-    let beside = c.in_ok-left.left in
-    let unspent : is_spent c.args.pages.now ≡ false = false_unless (is_spent c.args.pages.now)
-    (λ spent. ok_or_err beside Spent (sym c.in_ok-left.was ∙ c.neighbour-2.ensures.spent.1 spent)) in
-    let near = other_near (pages_of_map c.args.pages.now image) c.args.layout c.args.lone.node.kind c.args.node
-    c.args.step.page c.args.step.place c.args.lone.page left right
-    (record {
-      few = few_pages (pages_of_map c.args.pages.now image) (page_count c.args.pages.now) (page_count c.args.pages.now)
-          (c.leads.ensures.count image) refl (c.leads.ensures.few c.requires.open unspent);
-      layout_is = c.requires.node;
-      inner = inner;
-      is_node = c.count.ensures.node;
-    }) c.if-step-eq0.false pair in
-    never_joined (pages_of_map c.args.pages.now image) (pages_of_map c.neighbour-2.new.pages image) left.page right.page
-    beside.page c.args.lone.page (ap (λ (m : Map). m.pages) (c.neighbour-2.ensures.unchanged.map image))
+    let above = above_at (Ok c.in_ok-left.left) c.args.pages.now image c.args.layout c.args.node
+    c.leads.ensures.count c.leads.ensures.few c.requires.open c.in_ok-left.ensures.spent (λ spent. never_ok spent)
+    c.requires.node inner c.count.ensures.node in
+    let near = other_near _ c.args.layout c.args.lone.node.kind c.args.node c.args.step.page c.args.step.place
+    c.args.lone.page left right above c.if-step-eq0.false pair in
+    never_joined _ (pages_of_map c.neighbour-2.new.pages image) left.page right.page c.in_ok-left.left.page
+    c.args.lone.page (ap (λ (m : Map). m.pages) (c.neighbour-2.ensures.unchanged.map image))
     (sym (c.in_ok-left.ensures.shape.0 ∙ c.child-2.ensures ∙ near.near_is)) near.child_is near.are.two left_some
     right_some (c.in_err-outcome.ensures.damaged (cc told) image)
 
 pub returns-clause-rebalances : goal.returns-clause-rebalances
 returns-clause-rebalances g c = λ honest agrees left right can pair.
-    let place = c.args.step.place in
-    let lone = c.args.lone.node.rows in
+    let step = c.args.step in
+    let other = c.in_ok-left.left in
     let image = (g.D.Device.state c.args.device.now).disk.present in
-    let before = pages_of_map c.args.pages.now image in
-    let beside = c.in_ok-left.left in
-    let unspent : is_spent c.args.pages.now ≡ false = false_unless (is_spent c.args.pages.now)
-    (λ spent. ok_or_err beside Spent (sym c.in_ok-left.was ∙ c.neighbour-2.ensures.spent.1 spent)) in
-    let near = other_near (pages_of_map c.args.pages.now image) c.args.layout c.args.lone.node.kind c.args.node
-    c.args.step.page place c.args.lone.page left right
-    (record {
-      few = few_pages (pages_of_map c.args.pages.now image) (page_count c.args.pages.now) (page_count c.args.pages.now)
-          (c.leads.ensures.count image) refl (c.leads.ensures.few c.requires.open unspent);
-      layout_is = c.requires.node;
-      inner = (c.leads.ensures.is.0 c.if-not-leads.false).0;
-      is_node = c.count.ensures.node;
-    }) c.if-step-eq0.false pair in
-    let page_is = c.child-2.ensures ∙ near.near_is in
-    let after = pages_of_map c.rebalance_pair-2.new.pages image in
-    let kind_is = c.in_ok-left.ensures.shape.2 ∙ c.kind-kind.ensures in
-    rebalanced_so c.args.layout c.args.lone.node.kind before (pages_of_map c.neighbour-2.new.pages image) after
-    c.args.step.page place (place - 1) c.args.node lone (beside.node.rows ++ lone) left right c.in_ok-outcome.outcome
-    c.requires.node (ap (λ (m : Map). m.pages) (c.neighbour-2.ensures.unchanged.map image)) near.are near.place_is
-    (together_other place lone beside.node.rows left right c.if-step-eq0.false
-    (rows_read c.args.layout c.args.lone.node.kind before c.child-2.result beside.node left page_is
-    (c.in_ok-left.ensures.node honest agrees) near.stands))
-    (λ these. subst (λ (kind : Kind). Joins c.args.node.layout kind (pages_of_map c.neighbour-2.new.pages image) after
-    c.args.step.page c.args.node.rows (place - 1) (beside.node.rows ++ lone) left right c.in_ok-outcome.outcome)
-    kind_is
-    (c.in_ok-outcome.ensures.joins image left right these (sym (c.in_ok-left.ensures.shape.0 ∙ page_is)) near.child_is))
+    let above = above_at (Ok other) c.args.pages.now image c.args.layout c.args.node c.leads.ensures.count
+    c.leads.ensures.few c.requires.open c.in_ok-left.ensures.spent (λ spent. never_ok spent)
+    c.requires.node (c.leads.ensures.is.0 c.if-not-leads.false).0 c.count.ensures.node in
+    rebalanced_other c.args.pages.now c.neighbour-2.new.pages c.rebalance_pair-2.new.pages image c.args.layout
+    c.args.node step other c.args.lone c.child-2.result left right c.in_ok-outcome.outcome
+    (other_near _ c.args.layout c.args.lone.node.kind c.args.node step.page step.place c.args.lone.page left right above
+    c.if-step-eq0.false pair) c.neighbour-2.ensures.unchanged c.requires.node c.if-step-eq0.false c.child-2.ensures
+    (c.in_ok-left.ensures.node honest agrees) c.in_ok-left.ensures.shape.0
+    (c.in_ok-left.ensures.shape.2 ∙ c.kind-kind.ensures) c.in_ok-outcome.ensures.joins
 
 pub returns-then-step-eq0-clause-agrees : goal.returns-then-step-eq0-clause-agrees
 returns-then-step-eq0-clause-agrees g c = λ honest agrees. c.rebalance_pair.ensures.keeps.agrees

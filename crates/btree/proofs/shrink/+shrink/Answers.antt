@@ -8,7 +8,7 @@ use Rattle.btree.specs.declared.removal_outcome.RemovalOutcome.TheVariants.{Kept
 use Rattle.btree.specs.Path.{PathStep}
 use Rattle.btree.specs.Changes.{pages_of_map}
 use Rattle.btree.specs.Outcomes.{spare}
-use Rattle.btree.specs.Shrinks.{ShrinksBy, NeverShrinks, ShrinksOn, NeverShrinksOn}
+use Rattle.btree.specs.Shrinks.{ShrinksBy, NeverShrinks, NeverShrinksOn}
 use Rattle.btree.proofs.Downward.{shrinks_none, kept_on, never_below, changed_on}
 use Rattle.std.specs.Prelude.{IfErr, Err}
 use Rattle.std.proofs.Common.{◌≡◌, inr, true, ◌∙◌}
@@ -19,6 +19,7 @@ use Rattle.pages.specs.declared.error.PagesError.TheVariants.{Device, Spent}
 use Rattle.btree.specs.Refusals.{IsChangeRefusal}
 use Rattle.btree.proofs.Passing.{passed, never_ok, still_error}
 use Rattle.btree.proofs.Passing.{reads_where, committed_on}
+use Rattle.btree.proofs.ShrinkCalls.{shrinks_more}
 use Rattle.btree.proofs.shrink.+shrink.Goals as goal
 
 pub returns-in-None-clause-shrinks : goal.returns-in-None-clause-shrinks
@@ -49,21 +50,10 @@ returns-in-Kept-clause-shrinks g t c = λ honest agrees.
     (sym c.in-Some.ensures.cases.0) (kept_on c.args.layout two step rest before c.args.outcome below)
 
 pub returns-in_default-clause-shrinks : goal.returns-in_default-clause-shrinks
-returns-in_default-clause-shrinks g t c = λ honest agrees.
-    let image = (g.D.Device.state c.args.device.now).disk.present in
-    let before = pages_of_map c.args.pages.now image in
-    let three = pages_of_map c.shrink_at.new.pages image in
-    let step = c.in-Some.pair.0.now in
-    let rest = c.in-Some.pair.1.now in
-    let told = c.in_ok-below.below in
-    let below = c.in_ok-below.ensures.shrinks honest agrees in
-    IfOk-weaker c.shrink_at.result _ _
-    (λ up shrinks.
-    let on = subst (λ (s : State). ShrinksOn c.args.layout step (pages_of_map c.shrink.new.pages s.disk.present)
-    (pages_of_map c.shrink_at.new.pages s.disk.present) told up) (c.shrink.ensures.only.state honest) shrinks in
-    subst (λ (path : List PathStep). ShrinksBy c.args.layout path before three c.args.outcome up)
-    (sym c.in-Some.ensures.cases.0) (on rest before c.args.outcome below))
-    (c.shrink_at.ensures.shrinks (c.shrink.ensures.only.honest.0 honest) (c.shrink.ensures.agrees honest agrees))
+returns-in_default-clause-shrinks g t c = shrinks_more g.D.Device _ c.args.pages.now c.shrink.new.pages
+    c.shrink_at.new.pages c.args.device.now c.shrink.new.device c.args.layout c.in-Some.pair.0.now c.args.path.now
+    c.in-Some.pair.1.now c.args.outcome c.in_ok-below.below c.shrink_at.result c.shrink.ensures.only
+    c.shrink.ensures.agrees c.in-Some.ensures.cases.0 c.in_ok-below.ensures.shrinks c.shrink_at.ensures.shrinks
 
 pub returns-in_default-clause-damaged : goal.returns-in_default-clause-damaged
 returns-in_default-clause-damaged g t c = λ honest agrees is.

@@ -1,22 +1,13 @@
-use Rattle.std.proofs.Common.{◌≡◌, ◌+◌, List, [], ◌∷◌, ◌++◌, take, drop, sym, ◌∙◌, ap, subst}
-use Rattle.std.specs.Prelude.{Option, slice_index_or}
-use Rattle.std.proofs.lemmas.Result.{IfOk-weaker}
-use Rattle.byteorder.specs.Endian.{big_bytes}
+use Rattle.std.proofs.Common.{◌≡◌, List, [], sym, ◌∙◌, ap, subst}
+use Rattle.std.specs.Prelude.{Option}
 use Rattle.station.specs.Disk.{Sector}
-use Rattle.station.specs.State.{State}
 use Rattle.pages.specs.Image.{Map}
-use Rattle.btree_pages.specs.declared.row_layout.Kind.TheVariants.{Inner}
-use Rattle.btree_pages.specs.Keys.{rest_of}
 use Rattle.btree.specs.declared.removal_outcome.RemovalOutcome.{RemovalOutcome}
 use Rattle.btree.specs.declared.removal_outcome.RemovalOutcome.TheVariants.{Kept}
-use Rattle.btree.specs.Tree.{row_of}
-use Rattle.btree.specs.Propagates.{node_with}
-use Rattle.btree.specs.Changes.{pages_of_map, IsIn, CanStand}
-use Rattle.btree.specs.Outcomes.{IsRemovalResult, IsPair}
-use Rattle.btree.specs.Shrinks.{ShrinksOn, NeverShrinksOn}
+use Rattle.btree.specs.Changes.{pages_of_map, IsIn}
+use Rattle.btree.specs.Shrinks.{ShrinksOn}
 use Rattle.btree.proofs.Upward.{ReadNode}
-use Rattle.btree.proofs.Downward.{Rebalances, kept_on, renamed_on, gone_on, lone_on, never_read, never_led}
-use Rattle.btree.proofs.Downward.{never_rebalanced}
+use Rattle.btree.proofs.Downward.{kept_on, never_read, never_led}
 use Rattle.std.specs.Prelude.{IfErr, Err}
 use Rattle.std.proofs.Common.{inr, true}
 use Rattle.station.specs.Calls.{OnlyReads}
@@ -27,6 +18,7 @@ use Rattle.btree.specs.Refusals.{IsChangeRefusal}
 use Rattle.btree.proofs.Passing.{passed, never_ok, still_error}
 use Rattle.btree.proofs.Passing.{read_is_change}
 use Rattle.btree.proofs.Passing.{reads_where, committed_on, sectors_on}
+use Rattle.btree.proofs.ShrinkCalls.{renamed_by, gone_by, joined_by, never_joined_by}
 use Rattle.btree.proofs.shrink.shrink_at.Goals as goal
 
 pub returns-in_err-node-clause-damaged : goal.returns-in_err-node-clause-damaged
@@ -52,25 +44,10 @@ pub returns-in-Kept-clause-catalog : goal.returns-in-Kept-clause-catalog
 returns-in-Kept-clause-catalog g c = ap (λ (m : Map). m.catalog) (c.read_node.ensures.unchanged.map [])
 
 pub returns-in-Renamed-clause-shrinks : goal.returns-in-Renamed-clause-shrinks
-returns-in-Renamed-clause-shrinks g c = λ honest agrees.
-    let image = (g.D.Device.state c.args.device.now).disk.present in
-    let two = pages_of_map c.args.pages.now image in
-    let three = pages_of_map c.rename_at.new.pages image in
-    let still = ap (λ (m : Map). m.pages) (c.read_node.ensures.unchanged.map image) in
-    let step = c.args.step in
-    let node = c.in_ok-node.node in
-    let child = c.in-Renamed.child in
-    let read : ReadNode c.args.layout two step node =
-    record { layout_is = c.in_ok-node.ensures.shape.0; read = c.in_ok-node.ensures.node honest agrees } in
-    IfOk-weaker c.rename_at.result _ _
-    (λ up fares.
-    subst (λ (below : RemovalOutcome). ShrinksOn c.args.layout step two three below up) (sym c.in-Renamed.is)
-    (renamed_on c.args.layout two three step child up node read
-    (subst (λ (pages : List (Option Sector)). CanStand pages step.page node
-    → rest_of node.layout (slice_index_or node.rows step.place []) ≡ big_bytes 4 child.page
-    → IsRemovalResult node.layout Inner pages three step.page node.rows (take step.place node.rows ++ (row_of
-    node.layout (node_with child.page child.node.rows) ∷ drop (step.place + 1) node.rows)) up) still (fares image))))
-    c.rename_at.ensures.pages
+returns-in-Renamed-clause-shrinks g c = renamed_by g.D.Device c.args.pages.now c.read_node.new.pages
+    c.rename_at.new.pages c.args.device.now c.args.layout c.args.step c.args.below c.in-Renamed.child c.in_ok-node.node
+    c.rename_at.result c.read_node.ensures.unchanged c.in_ok-node.ensures.shape.0 c.in_ok-node.ensures.node
+    c.in-Renamed.is c.rename_at.ensures.pages
 
 pub returns-in-Renamed-clause-damaged : goal.returns-in-Renamed-clause-damaged
 returns-in-Renamed-clause-damaged g c = λ honest agrees is.
@@ -88,22 +65,9 @@ returns-in-Renamed-clause-catalog g c =
     c.rename_at.ensures.keeps.catalog ∙ ap (λ (m : Map). m.catalog) (c.read_node.ensures.unchanged.map [])
 
 pub returns-in-Gone-clause-shrinks : goal.returns-in-Gone-clause-shrinks
-returns-in-Gone-clause-shrinks g c = λ honest agrees.
-    let image = (g.D.Device.state c.args.device.now).disk.present in
-    let two = pages_of_map c.args.pages.now image in
-    let three = pages_of_map c.lose_at.new.pages image in
-    let still = ap (λ (m : Map). m.pages) (c.read_node.ensures.unchanged.map image) in
-    let step = c.args.step in
-    let node = c.in_ok-node.node in
-    let read : ReadNode c.args.layout two step node =
-    record { layout_is = c.in_ok-node.ensures.shape.0; read = c.in_ok-node.ensures.node honest agrees } in
-    IfOk-weaker c.lose_at.result _ _
-    (λ up fares.
-    subst (λ (below : RemovalOutcome). ShrinksOn c.args.layout step two three below up) (sym c.in-Gone.is)
-    (gone_on c.args.layout two three step up node read
-    (subst (λ (pages : List (Option Sector)). CanStand pages step.page node → IsRemovalResult node.layout Inner
-    pages three step.page node.rows (take step.place node.rows ++ drop (step.place + 1) node.rows) up) still
-    (fares image))))
+returns-in-Gone-clause-shrinks g c = gone_by g.D.Device c.args.pages.now c.read_node.new.pages c.lose_at.new.pages
+    c.args.device.now c.args.layout c.args.step c.args.below c.in_ok-node.node c.lose_at.result
+    c.read_node.ensures.unchanged c.in_ok-node.ensures.shape.0 c.in_ok-node.ensures.node c.in-Gone.is
     c.lose_at.ensures.pages
 
 pub returns-in-Gone-clause-damaged : goal.returns-in-Gone-clause-damaged
@@ -122,45 +86,18 @@ returns-in-Gone-clause-catalog g c =
     c.lose_at.ensures.keeps.catalog ∙ ap (λ (m : Map). m.catalog) (c.read_node.ensures.unchanged.map [])
 
 pub returns-in-Underfull-clause-shrinks : goal.returns-in-Underfull-clause-shrinks
-returns-in-Underfull-clause-shrinks g c = λ honest agrees.
-    let image = (g.D.Device.state c.args.device.now).disk.present in
-    let two = pages_of_map c.args.pages.now image in
-    let three = pages_of_map c.rebalance_at.new.pages image in
-    let still = ap (λ (m : Map). m.pages) (c.read_node.ensures.unchanged.map image) in
-    let step = c.args.step in
-    let node = c.in_ok-node.node in
-    let child = c.in-Underfull.child in
-    let read : ReadNode c.args.layout two step node =
-    record { layout_is = c.in_ok-node.ensures.shape.0; read = c.in_ok-node.ensures.node honest agrees } in
-    IfOk-weaker c.rebalance_at.result _ _
-    (λ up rebalances.
-    let at_state =
-    subst (λ (s : State). Rebalances c.args.layout (pages_of_map c.read_node.new.pages s.disk.present) (pages_of_map
-    c.rebalance_at.new.pages s.disk.present) step child node up) (c.read_node.ensures.only.state honest) rebalances in
-    subst (λ (below : RemovalOutcome). ShrinksOn c.args.layout step two three below up) (sym c.in-Underfull.is)
-    (lone_on c.args.layout two three step child up node read (subst
-    (λ (pages : List (Option Sector)). Rebalances c.args.layout pages three step child node up) still at_state)))
-    (c.rebalance_at.ensures.rebalances (c.read_node.ensures.only.honest.0 honest)
-    (c.read_node.ensures.agrees honest agrees))
+returns-in-Underfull-clause-shrinks g c = joined_by g.D.Device _ c.args.pages.now c.read_node.new.pages
+    c.rebalance_at.new.pages c.args.device.now c.read_node.new.device c.args.layout c.args.step c.args.below
+    c.in-Underfull.child c.in_ok-node.node c.rebalance_at.result c.read_node.ensures.unchanged c.read_node.ensures.only
+    c.read_node.ensures.agrees c.in_ok-node.ensures.shape.0 c.in_ok-node.ensures.node c.in-Underfull.is
+    c.rebalance_at.ensures.rebalances
 
 pub returns-in-Underfull-clause-damaged : goal.returns-in-Underfull-clause-damaged
-returns-in-Underfull-clause-damaged g c = λ honest agrees is.
-    let image = (g.D.Device.state c.args.device.now).disk.present in
-    let two = pages_of_map c.args.pages.now image in
-    let same =
-    ap (λ (s : State). pages_of_map c.read_node.new.pages s.disk.present) (c.read_node.ensures.only.state honest)
-    ∙ ap (λ (m : Map). m.pages) (c.read_node.ensures.unchanged.map image) in
-    let step = c.args.step in
-    let node = c.in_ok-node.node in
-    let child = c.in-Underfull.child in
-    let read : ReadNode c.args.layout two step node =
-    record { layout_is = c.in_ok-node.ensures.shape.0; read = c.in_ok-node.ensures.node honest agrees } in
-    subst (λ (below : RemovalOutcome). NeverShrinksOn c.args.layout step two below) (sym c.in-Underfull.is)
-    (never_rebalanced c.args.layout two step child node read (λ left right kind place some one other pair.
-    c.rebalance_at.ensures.damaged (c.read_node.ensures.only.honest.0 honest) (c.read_node.ensures.agrees honest agrees)
-    is left right kind place some one other
-    (subst (λ (pages : List (Option Sector)). IsPair c.args.layout child.node.kind pages step.page node.rows step.place
-    child.page left right) (sym same) pair)))
+returns-in-Underfull-clause-damaged g c = λ honest agrees is. never_joined_by g.D.Device _ c.args.pages.now
+    c.read_node.new.pages c.args.device.now c.read_node.new.device c.args.layout c.args.step c.args.below
+    c.in-Underfull.child c.in_ok-node.node c.read_node.ensures.unchanged c.read_node.ensures.only
+    c.read_node.ensures.agrees c.in_ok-node.ensures.shape.0 c.in_ok-node.ensures.node c.in-Underfull.is
+    (λ h a. c.rebalance_at.ensures.damaged h a is) honest agrees
 
 pub returns-in-Underfull-clause-catalog : goal.returns-in-Underfull-clause-catalog
 returns-in-Underfull-clause-catalog g c =

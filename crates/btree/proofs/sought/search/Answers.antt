@@ -20,6 +20,7 @@ use Rattle.pages.specs.declared.error.PagesError.TheVariants.{Device}
 use Rattle.btree.specs.Reading.{IsReadRefusal}
 use Rattle.btree.proofs.Passing.{passed, never_ok, still_error, damaged_not_device}
 use Rattle.btree.proofs.Passing.{reads_where, sectors_on, pages_before, unspent_before, unspent_damaged, was_error}
+use Rattle.btree.proofs.DescentCalls.{still_reads}
 use Rattle.btree.proofs.sought.search.Goals as goal
 
 pub loop-depth-init : goal.loop-depth-init
@@ -87,23 +88,18 @@ returns-in-Missing-clause-finds g c = λ h a levels tree.
     looks
 
 pub loop-depth-preserved : goal.loop-depth-preserved
-loop-depth-preserved g c =
-    let at = c.loop-depth in
-    let unspent = unspent_before c.args.pages.now at.pages at.invariant.unchanged c.in_ok-child.ensures.spent in
-    record {
-      only = reads_then g.D.Device ⊥ _ ⊥ c.args.device.now at.device c.look_at.new.device (λ e. absurd e)
-          at.invariant.only c.look_at.ensures.only;
-      unchanged = unchanged_on c.args.pages.now at.pages c.look_at.new.pages at.invariant.unchanged
-          c.look_at.ensures.unchanged;
-      agrees = λ h a. c.look_at.ensures.agrees (at.invariant.only.honest.0 h) (at.invariant.agrees h a);
-      is_open = c.look_at.ensures.open;
-      spent = λ low. unspent;
-      way = λ unspent h a levels tree. down_on c.args.layout (pages_on g.D.Device c.args.pages.now c.args.device.now)
-          levels c.args.key.now at.page at._depth c.in-Below.child (at.invariant.way unspent h a levels tree)
-          (looked_before g.D.Device c.args.pages.now at.pages c.args.device.now at.device c.args.layout at.page
-          c.args.key.now c.args.sought c.look_at.new.entry c.in_ok-child.field-0 (Below c.in-Below.child)
-          at.invariant.unchanged at.invariant.only at.invariant.agrees c.in-Below.is c.in_ok-child.ensures.look h a);
-    }
+loop-depth-preserved g c = let at = c.loop-depth.invariant in record {
+  only = still_reads g.D.Device at.only c.look_at.ensures.only;
+  unchanged = unchanged_on _ _ _ at.unchanged c.look_at.ensures.unchanged;
+  agrees = λ h a. c.look_at.ensures.agrees (at.only.honest.0 h) (at.agrees h a);
+  is_open = c.look_at.ensures.open;
+  spent = λ low. unspent_before _ _ at.unchanged c.in_ok-child.ensures.spent;
+  way = λ live h a levels tree. down_on c.args.layout (pages_on g.D.Device c.args.pages.now c.args.device.now) levels
+      c.args.key.now c.loop-depth.page c.loop-depth._depth c.in-Below.child (at.way live h a levels tree)
+      (looked_before g.D.Device c.args.pages.now c.loop-depth.pages c.args.device.now c.loop-depth.device c.args.layout
+      c.loop-depth.page c.args.key.now c.args.sought c.look_at.new.entry c.in_ok-child.field-0 (Below c.in-Below.child)
+      at.unchanged at.only at.agrees c.in-Below.is c.in_ok-child.ensures.look h a);
+}
 
 pub returns-clause-damaged : goal.returns-clause-damaged
 returns-clause-damaged g c = λ h a is levels tree.

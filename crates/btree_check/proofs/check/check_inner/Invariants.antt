@@ -1,24 +1,15 @@
-use Rattle.std.proofs.Common.{◌≤◌, List, length, take}
-use Rattle.station.specs.Calls.{OnlyReads}
-use Rattle.pages.specs.Pages.{map_now, Agrees, IsOpen, IsUnchanged}
-use Rattle.btree_pages.specs.declared.row_layout.Kind.TheVariants.{Inner}
-use Rattle.btree.specs.Tree.{TreeNode, rows_of}
-use Rattle.btree_check.specs.Walks.{separator_pages, Marks, IsLevel, Lists}
+use Rattle.std.proofs.Common.{◌≤◌, length, take}
+use Rattle.btree.specs.Calls.{OnPages}
+use Rattle.btree_check.specs.Walks.{separator_pages, FindsInner}
+use Rattle.btree_check.proofs.LevelReads.{ReadsPages}
 use Rattle.btree_check.proofs.check.check_inner.Given as goal
 
 abbrev pub invariant-loop-place : goal.invariant-loop-place
 invariant-loop-place g l = record {
-  only : OnlyReads g.D.Device ⊥ l.fn.device l.device;
-  unchanged : IsUnchanged l.fn.pages l.pages;
-  agrees : g.D.Device.is_honest l.fn.device → Agrees l.fn.pages (g.D.Device.state l.fn.device).disk
-      → Agrees l.pages (g.D.Device.state l.device).disk;
-  is_open : IsOpen l.pages;
-  marks : Marks l.fn.seen (separator_pages (take l.place l.separators)) l.seen;
+  reads : ReadsPages g.D.Device l.fn.pages l.pages l.fn.device l.device l.fn.seen l.seen
+      (separator_pages (take l.place l.separators));
   more : l.place ≤ length l.lower.items;
   few : length l.lower.items ≤ length l.fn.seen;
-  level : g.D.Device.is_honest l.fn.device → Agrees l.fn.pages (g.D.Device.state l.fn.device).disk
-      → (level : List TreeNode) ×
-      IsLevel l.fn.layout (map_now l.fn.pages (g.D.Device.state l.fn.device).disk.present).pages Inner
-      (take l.place l.separators) level ×
-      Lists l.fn.layout (rows_of level) l.lower.items;
+  level : OnPages g.D.Device l.fn.pages l.fn.device
+      (λ pages. FindsInner l.fn.layout pages (take l.place l.separators) l.lower.items);
 }

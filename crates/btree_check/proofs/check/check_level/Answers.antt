@@ -1,15 +1,16 @@
-use Rattle.std.proofs.Common.{◌≡◌, List, Err, sym, ap, subst, ◌∙◌, rules}
+use Rattle.std.proofs.Common.{◌≡◌, List, Err, sym, ap, subst, rules}
 use Rattle.std.specs.Prelude.{Option, slice_index_or}
 use Rattle.std.proofs.lemmas.Result.{err_from_is_err_and}
 use Rattle.station.specs.Disk.{Sector}
 use Rattle.pages.specs.Pages.{map_now}
 use Rattle.pages.specs.declared.error.PagesError.TheVariants.{Damaged}
-use Rattle.btree_pages.specs.declared.row_layout.Kind.{Kind}
 use Rattle.btree_pages.specs.declared.row_layout.Kind.TheVariants.{Leaf, Inner}
+use Rattle.btree.specs.Calls.{pages_on}
 use Rattle.btree_check.specs.Walks.{IsLevel}
 use Rattle.btree_check.specs.declared.separator.Separator.{Separator}
 use Rattle.btree.proofs.Frames.{unchanged_on, same_pages}
-use Rattle.btree_check.proofs.Walking.{named_node, level_kind}
+use Rattle.btree_check.proofs.Descending.{first_kind}
+use Rattle.btree_check.proofs.Walking.{named_node}
 use Rattle.btree_check.proofs.check.check_level.Goals as goal
 
 pub returns-in_err-first-clause-damaged : goal.returns-in_err-first-clause-damaged
@@ -33,23 +34,15 @@ returns-in_err-check_leaves-in-Leaf-clause-damaged g c = λ honest agrees is can
     let from = err_from_is_err_and c.from_residual-in_err-check_leaves-in-Leaf.result
     c.from_residual-in_err-check_leaves-in-Leaf.ensures.1 in
     let damaged : c.check_leaves.result ≡ Err Damaged = cc in
-    let pages : List (Option Sector) =
-    (map_now c.args.pages.now (g.D.Device.state c.args.device.now).disk.present).pages in
-    let first = c.in_ok-first.first in
-    let same = same_pages c.args.pages.now c.read_node.new.pages (g.D.Device.state c.args.device.now)
-    (g.D.Device.state c.read_node.new.device) c.read_node.ensures.unchanged (c.read_node.ensures.only.state honest) in
-    let leaf : first.kind ≡ Leaf = search rules in
-    let separator = slice_index_or c.args.separators.now 0 c.index-separators-0.result in
-    let kind_is : kind ≡ Leaf =
-    level_kind c.args.layout pages kind c.args.separators.now separator level first
-    c.requires.some (ap (λ (n : Separator). slice_index_or c.args.separators.now 0 n) c.index-separators-0.is) are
-    (c.in_ok-first.ensures.node honest agrees) ∙ leaf in
-    let level_is : IsLevel c.args.layout pages Leaf c.args.separators.now level =
-    subst (λ (k : Kind). IsLevel c.args.layout pages k c.args.separators.now level) kind_is are in
-    c.check_leaves.ensures.damaged (c.read_node.ensures.only.honest.0 honest) (c.read_node.ensures.agrees honest agrees)
-    damaged can level
-    (subst (λ (p : List (Option Sector)). IsLevel c.args.layout p Leaf c.args.separators.now level) (sym same) level_is)
-    (up kind_is)
+    let read = c.read_node.ensures in
+    let leaf : c.in_ok-first.first.kind ≡ Leaf = search rules in
+    let here = first_kind c.args.layout (pages_on g.D.Device c.args.pages.now c.args.device.now) kind Leaf
+    c.args.separators.now c.index-separators-0.result level c.in_ok-first.first c.requires.some c.index-separators-0.is
+    are (c.in_ok-first.ensures.node honest agrees) leaf in
+    c.check_leaves.ensures.damaged (read.only.honest.0 honest) (read.agrees honest agrees) damaged can level
+    (subst (λ (p : List (Option Sector)). IsLevel c.args.layout p Leaf c.args.separators.now level)
+    (sym (same_pages c.args.pages.now c.read_node.new.pages _ _ read.unchanged (read.only.state honest))) here.1)
+    (up here.0)
 
 pub returns-in_err-lower-in-Inner-clause-unchanged : goal.returns-in_err-lower-in-Inner-clause-unchanged
 returns-in_err-lower-in-Inner-clause-unchanged g c = unchanged_on c.args.pages.now c.read_node.new.pages
@@ -60,23 +53,15 @@ returns-in_err-lower-in-Inner-clause-damaged g c = λ honest agrees is can kind 
     let from =
     err_from_is_err_and c.from_residual-in_err-lower-in-Inner.result c.from_residual-in_err-lower-in-Inner.ensures.1 in
     let damaged : c.check_inner.result ≡ Err Damaged = cc in
-    let pages : List (Option Sector) =
-    (map_now c.args.pages.now (g.D.Device.state c.args.device.now).disk.present).pages in
-    let first = c.in_ok-first.first in
-    let same = same_pages c.args.pages.now c.read_node.new.pages (g.D.Device.state c.args.device.now)
-    (g.D.Device.state c.read_node.new.device) c.read_node.ensures.unchanged (c.read_node.ensures.only.state honest) in
-    let inner : first.kind ≡ Inner = search rules in
-    let separator = slice_index_or c.args.separators.now 0 c.index-separators-0.result in
-    let kind_is : kind ≡ Inner =
-    level_kind c.args.layout pages kind c.args.separators.now separator level first
-    c.requires.some (ap (λ (n : Separator). slice_index_or c.args.separators.now 0 n) c.index-separators-0.is) are
-    (c.in_ok-first.ensures.node honest agrees) ∙ inner in
-    let level_is : IsLevel c.args.layout pages Inner c.args.separators.now level =
-    subst (λ (k : Kind). IsLevel c.args.layout pages k c.args.separators.now level) kind_is are in
-    c.check_inner.ensures.damaged (c.read_node.ensures.only.honest.0 honest) (c.read_node.ensures.agrees honest agrees)
-    damaged can level
-    (subst (λ (p : List (Option Sector)). IsLevel c.args.layout p Inner c.args.separators.now level) (sym same)
-    level_is) (few kind_is)
+    let read = c.read_node.ensures in
+    let inner : c.in_ok-first.first.kind ≡ Inner = search rules in
+    let here = first_kind c.args.layout (pages_on g.D.Device c.args.pages.now c.args.device.now) kind Inner
+    c.args.separators.now c.index-separators-0.result level c.in_ok-first.first c.requires.some c.index-separators-0.is
+    are (c.in_ok-first.ensures.node honest agrees) inner in
+    c.check_inner.ensures.damaged (read.only.honest.0 honest) (read.agrees honest agrees) damaged can level
+    (subst (λ (p : List (Option Sector)). IsLevel c.args.layout p Inner c.args.separators.now level)
+    (sym (same_pages c.args.pages.now c.read_node.new.pages _ _ read.unchanged (read.only.state honest))) here.1)
+    (few here.0)
 
 pub returns-in_ok-check_leaves-in-Leaf-clause-unchanged : goal.returns-in_ok-check_leaves-in-Leaf-clause-unchanged
 returns-in_ok-check_leaves-in-Leaf-clause-unchanged g c = unchanged_on c.args.pages.now c.read_node.new.pages

@@ -7,11 +7,10 @@ use Rattle.btree.specs.Results.{FullIfUsed}
 use Rattle.btree.specs.Refusals.{IsWriteRefusal}
 use Rattle.std.specs.Prelude.{IfErr}
 use Rattle.btree.proofs.Passing.{passed, never_ok, still_error}
-use Rattle.btree.proofs.Frames.{false_unless}
 use Rattle.btree.proofs.Clearing.{keeps_still, keeps_on}
 use Rattle.chains.specs.Chain.{pages_for}
 use Rattle.chains.proofs.Loops.{lays_start, lays_step, lays_end}
-use Rattle.chains.proofs.Refusing.{some_pages}
+use Rattle.chains.proofs.Refusing.{some_pages, never_was}
 use Rattle.chains.proofs.laying.lay.Goals as goal
 
 pub parts-init : goal.parts-init
@@ -30,22 +29,17 @@ parts-init c =
 pub parts-preserved : goal.parts-preserved
 parts-preserved c =
     let loop = c.parts in
-    let some = c.parts-test.true in
     let put = c.put_link.ensures in
-    let changed = put.changed_pages in
-    let filled = put.filled in
     record {
-      within = let low = loop.invariant.within in omega (arith, low);
-      laid = λ image. lays_step (pages_of_map c.args.pages.now image) (pages_of_map loop.pages image)
-          (pages_of_map c.put_link.new.pages image) c.args.bytes.now c.part_of.result.now loop.place (loop.place - 1)
-          c.in_ok-page.page loop.next (omega arith) (loop.invariant.laid image) c.part_of.ensures
+      within = omega (arith, loop.invariant.within);
+      laid = λ image. lays_step _ _ _ c.args.bytes.now _ loop.place (loop.place - 1) c.in_ok-page.page loop.next
+          (omega (arith, c.parts-test.true)) (loop.invariant.laid image) c.part_of.ensures
           (c.in_ok-page.ensures.pages image);
-      changed_pages = let few = loop.invariant.changed_pages in omega (arith, few, changed);
-      filled = let few = loop.invariant.filled in omega (arith, few, filled);
+      changed_pages = omega (arith, loop.invariant.changed_pages, c.parts-test.true, put.changed_pages);
+      filled = omega (arith, loop.invariant.filled, c.parts-test.true, put.filled);
       keeps = keeps_on c.args.pages.now loop.pages c.put_link.new.pages loop.invariant.keeps put.keeps;
       is_open = put.keeps.is_open loop.invariant.is_open;
-      unspent = λ low. false_unless (is_spent c.args.pages.now) (λ was. never_ok (sym c.in_ok-page.was
-          ∙ put.spent.1 (loop.invariant.keeps.committed.spent ∙ was)));
+      unspent = λ low. never_was c.in_ok-page.was loop.invariant.keeps.committed.spent put.spent;
     }
 
 pub returns-in_err-page-clause-changed_pages : goal.returns-in_err-page-clause-changed_pages

@@ -1,16 +1,15 @@
-use Rattle.std.proofs.Common.{◌≡◌, ◌<◌, ◌+◌, ◌-◌, ◌*◌, ℕ, length, sym, subst, ◌∙◌, arith}
+use Rattle.std.proofs.Common.{◌≡◌, ◌<◌, ◌≤◌, ◌+◌, ◌-◌, ◌*◌, ℕ, length, take, refl, sym, subst, arith}
 use Rattle.std.specs.Prelude.{Err}
 use Rattle.std.proofs.lemmas.Result.{err_from_is_err_and}
 use Rattle.station.specs.State.{State}
 use Rattle.station.proofs.Calls.{reads_then}
-use Rattle.pages.specs.Pages.{is_spent, Agrees}
+use Rattle.pages.specs.Pages.{Agrees}
 use Rattle.pages.specs.declared.error.PagesError.TheVariants.{Damaged}
 use Rattle.btree.specs.Changes.{pages_of_map}
-use Rattle.btree.proofs.Frames.{false_unless}
-use Rattle.btree.proofs.Passing.{never_ok}
-use Rattle.chains.specs.Chain.{IsLink, Stands, page_at, pages_for}
+use Rattle.chains.specs.Chain.{IsLink, Stands, page_at, pages_for, chain_bytes}
 use Rattle.chains.specs.Links.{AddsPart}
-use Rattle.chains.proofs.Parts.{follows_next, record_step, record_whole, stops_at, part_ends}
+use Rattle.chains.proofs.Parts.{follows_added, record_step, record_whole, stops_at, part_ends}
+use Rattle.chains.proofs.Refusing.{never_was}
 use Rattle.chains.proofs.Unwritten.{still_agrees}
 use Rattle.chains.proofs.reading.read_record.Given.{Over}
 use Rattle.chains.proofs.reading.read_record.Goals as goal
@@ -29,29 +28,44 @@ added g c honest agrees =
     c.in_ok-next.next) same
     (c.in_ok-next.ensures.part (only.honest.0 honest) (still_agrees c.args.pages.now _ _ same agrees))
 
+-- the bytes after it
+grown : (g : Over) (c : goal.In_ok-next g) → g.D.Device.is_honest c.args.device.now
+    → Agrees c.args.pages.now (g.D.Device.state c.args.device.now).disk
+    → c.add_part.new.bytes.items ≡ take c.args.size (chain_bytes
+    (pages_of_map c.args.pages.now (g.D.Device.state c.args.device.now).disk.present) (c.loop-place.place + 1)
+    c.args.first)
+grown g c honest agrees =
+    let loop = c.loop-place in
+    let bounds = c.part_end.ensures in
+    record_step (pages_of_map c.args.pages.now (g.D.Device.state c.args.device.now).disk.present) loop.bytes.items
+    c.add_part.new.bytes.items c.args.size loop.place c.part_end.result c.args.first loop.page c.in_ok-next.next
+    (loop.invariant.follows honest agrees) bounds.low bounds.within bounds.last (loop.invariant.bytes honest agrees)
+    (added g c honest agrees)
+
+-- and their number
+ends : (g : Over) (c : goal.In_ok-next g) → (c.loop-place.place + 1 < pages_for c.args.size
+    → length c.add_part.new.bytes.items ≡ (c.loop-place.place + 1) * 4080)
+    × (pages_for c.args.size ≤ c.loop-place.place + 1 → length c.add_part.new.bytes.items ≡ c.args.size)
+ends g c =
+    let bounds = c.part_end.ensures in
+    let low : c.loop-place.place < pages_for c.args.size =
+    omega (arith, c.loop-place-test.true, c.page_count-count.ensures) in
+    part_ends c.args.size c.loop-place.place c.part_end.result (length c.loop-place.bytes.items)
+    (length c.add_part.new.bytes.items) low bounds.low bounds.high bounds.within bounds.last
+    (c.loop-place.invariant.some low) c.in_ok-next.ensures.long
+
 pub loop-place-preserved : goal.loop-place-preserved
 loop-place-preserved g c =
     let loop = c.loop-place in
-    let pages = pages_of_map c.args.pages.now (g.D.Device.state c.args.device.now).disk.present in
-    let bounds = c.part_end.ensures in
-    let low : loop.place < pages_for c.args.size =
-    let test = c.loop-place-test.true in let count = c.page_count-count.ensures in omega arith in
-    let ends = part_ends c.args.size loop.place c.part_end.result (length loop.bytes.items)
-    (length c.add_part.new.bytes.items) low bounds.low bounds.high bounds.within bounds.last
-    (loop.invariant.some low) c.in_ok-next.ensures.long in
     record {
       only = reads_then g.D.Device ⊥ _ ⊥ c.args.device.now loop.device c.add_part.new.device (λ e. absurd e)
           loop.invariant.only c.add_part.ensures.only;
-      follows = λ h a. let links = (added g c h a).links in
-          follows_next pages loop.place c.args.first loop.page c.in_ok-next.next (loop.invariant.follows h a) links.some
-          links.link links.next_is links.long;
-      bytes = λ h a. record_step pages loop.bytes.items c.add_part.new.bytes.items c.args.size loop.place
-          c.part_end.result c.args.first loop.page c.in_ok-next.next (loop.invariant.follows h a) bounds.low
-          bounds.within bounds.last (loop.invariant.bytes h a) (added g c h a);
-      some = ends.0;
-      unspent = λ some. false_unless (is_spent c.args.pages.now)
-          (λ was. never_ok (sym c.in_ok-next.was ∙ c.add_part.ensures.spent.1 was));
-      whole = ends.1;
+      follows = λ h a. follows_added _ loop.place c.args.first loop.page c.in_ok-next.next _ _ _
+          (loop.invariant.follows h a) (added g c h a);
+      bytes = λ h a. grown g c h a;
+      some = (ends g c).0;
+      unspent = λ some. never_was c.in_ok-next.was refl c.add_part.ensures.spent;
+      whole = (ends g c).1;
     }
 
 pub returns-in_err-next-clause-damaged : goal.returns-in_err-next-clause-damaged

@@ -1,86 +1,52 @@
-use Rattle.std.proofs.Common.{◌≡◌, ◌≢◌, ◌<◌, ◌≤◌, ◌+◌, ◌-◌, true, ℕ, suc, List, length, refl, sym}
-use Rattle.std.proofs.Common.{ap, subst, ◌∙◌}
-use Rattle.std.proofs.Common.{arith, inr}
-use Rattle.std.specs.Prelude.{◌↔◌, Option, Err, IfErr}
-use Rattle.station.specs.Disk.{Sector}
+use Rattle.std.proofs.Common.{◌≡◌, ◌≢◌, ◌<◌, ◌≤◌, ◌+◌, ◌-◌, true, ℕ, List, length, sym, subst, ◌∙◌, arith, inr}
+use Rattle.std.specs.Prelude.{◌↔◌, Err, IfErr}
 use Rattle.station.specs.Calls.{OnlyReads}
-use Rattle.station.proofs.Calls.{reads_then, reads_nothing}
+use Rattle.station.proofs.Calls.{reads_then}
 use Rattle.pages.specs.Pages.{changed_pages_of, is_spent}
 use Rattle.pages.specs.declared.error.PagesError.TheVariants.{Device, Damaged, Spent}
 use Rattle.btree.specs.Changes.{pages_of_map}
 use Rattle.btree.specs.Refusals.{IsChangeRefusal}
-use Rattle.btree.proofs.Frames.{false_unless}
 use Rattle.btree.proofs.Passing.{passed, never_ok, still_error, reads_where, sectors_on, committed_on}
 use Rattle.btree.proofs.Passing.{read_is_change, edit_is_put, put_is_rest, rest_is_change, put_not_device}
-use Rattle.chains.specs.Chain.{Stands, pages_for}
+use Rattle.chains.specs.Chain.{pages_for}
 use Rattle.chains.proofs.Unwritten.{still_agrees}
-use Rattle.chains.proofs.Refusing.{some_bytes, changed_more, few_of_all, edit_not_damaged}
-use Rattle.station.specs.State.{State}
-use Rattle.chains.specs.Chain.{next_at}
-use Rattle.chains.proofs.Parts.{link_low}
-use Rattle.chains.proofs.Loops.{releases_start, releases_here, releases_step, releases_end}
+use Rattle.chains.proofs.Refusing.{some_bytes, few_of_all, edit_not_damaged}
+use Rattle.chains.proofs.Loops.{releases_start, releases_end}
+use Rattle.chains.proofs.Keeping.{over, keeps_nothing, keeps_next, releases_next, releases_stop}
 use Rattle.chains.proofs.releasing.release.Goals as goal
 
 pub loop-place-init : goal.loop-place-init
 loop-place-init g c = record {
-  only = reads_nothing g.D.Device c.args.device.now;
-  committed = record { volume = refl; mark = refl; spent = refl };
-  catalog = refl;
-  agrees = λ honest agrees. agrees;
-  is_open = c.requires.open;
+  keeps = keeps_nothing g.D.Device c.args.pages.now c.args.device.now c.requires.open;
   rest = λ honest agrees stands.
-      releases_start (pages_of_map c.args.pages.now (g.D.Device.state c.args.device.now).disk.present)
-      (pages_for c.args.size) c.args.first stands;
-  changed_pages = omega arith;
+      releases_start (over g.D.Device c.args.pages.now c.args.device.now) (pages_for c.args.size) c.args.first stands;
   filled = omega arith;
-  unspent = λ some. absurd (omega (arith, some));
 }
 
 pub loop-place-preserved : goal.loop-place-preserved
 loop-place-preserved g c =
     let loop = c.loop-place in
-    let next = c.page_after.ensures in
-    let image = (g.D.Device.state c.args.device.now).disk.present in
     record {
-      only = reads_then g.D.Device ⊥ _ ⊥ c.args.device.now loop.device c.page_after.new.device (λ e. absurd e)
-          loop.invariant.only next.only;
-      committed = committed_on c.args.pages.now loop.pages c.release.new.self loop.invariant.committed
-          c.release.ensures.keeps.committed;
-      catalog = c.release.ensures.keeps.catalog ∙ loop.invariant.catalog;
-      agrees = λ h a. c.release.ensures.keeps.agrees (g.D.Device.state c.page_after.new.device).disk
-          (still_agrees loop.pages _ _ (next.only.state (loop.invariant.only.honest.0 h)) (loop.invariant.agrees h a));
-      is_open = c.release.ensures.keeps.is_open loop.invariant.is_open;
-      rest = λ h a stands.
-          let now = pages_of_map loop.pages image in
-          let test = c.loop-place-test.true in
-          let count = c.page_count-count.ensures in
-          let before = loop.invariant.rest h a stands in
-          let more : loop.place + suc (c.page_count-count.result - 1 - loop.place) ≡ pages_for c.args.size =
-          omega arith in
-          let here = releases_here (pages_of_map c.args.pages.now image) (pages_for c.args.size) c.args.first now
-          loop.place loop.page
-          (c.page_count-count.result - 1 - loop.place) more before in
-          let there = ap (λ (s : State). pages_of_map loop.pages s.disk.present) (loop.invariant.only.state h) in
-          let is : next_at now loop.page ≡ c.in_ok-next.next =
-          sym (subst (λ (p : List (Option Sector)). c.in_ok-next.next ≡ next_at p loop.page) there
-          (c.in_ok-next.ensures.next (loop.invariant.only.honest.0 h) (loop.invariant.agrees h a)
-          (subst (λ (p : List (Option Sector)). Stands p (suc (c.page_count-count.result - 1 - loop.place)) loop.page)
-          (sym there) here))) in
-          let low = link_low now loop.page here.1 in
-          releases_step (pages_of_map c.args.pages.now image) (pages_for c.args.size) c.args.first now
-          (pages_of_map c.release.new.self image) loop.place loop.page (c.page_count-count.result - 1 - loop.place)
-          c.in_ok-next.next more is low (c.in_ok-release.ensures.map image) before;
-      changed_pages = changed_more (changed_pages_of c.args.pages.now) (changed_pages_of loop.pages) loop.page
-          (changed_pages_of c.release.new.self) loop.place loop.invariant.changed_pages
-          c.in_ok-release.ensures.changes_page;
-      filled = (let few = loop.invariant.filled in let gone = c.release.ensures.filled in omega arith);
-      unspent = λ some. false_unless (is_spent c.args.pages.now) (λ was. never_ok (sym c.in_ok-next.was
-          ∙ next.spent.1 (loop.invariant.committed.spent ∙ was)));
+      keeps = keeps_next g.D.Device c.args.pages.now loop.pages c.release.new.self _ loop.device _ loop.page loop.place
+          _ loop.invariant.keeps c.page_after.ensures.only c.release.ensures.keeps c.in_ok-release.ensures.changes_page
+          (λ was. never_ok (sym c.in_ok-next.was ∙ c.page_after.ensures.spent.1 was));
+      rest = releases_next g.D.Device c.args.pages.now loop.pages c.args.device.now loop.device c.args.first loop.place
+          loop.page (c.page_count-count.result - 1 - loop.place) loop.invariant.keeps c.release.new.self
+          (pages_for c.args.size) c.in_ok-next.next
+          (omega (arith, c.loop-place-test.true, c.page_count-count.ensures)) c.in_ok-next.ensures.next
+          c.in_ok-release.ensures.map loop.invariant.rest;
+      filled = omega (arith, loop.invariant.filled, c.release.ensures.filled);
     }
+
+pub page_after-requires-clause-open : goal.page_after-requires-clause-open
+page_after-requires-clause-open g c = c.loop-place.invariant.keeps.is_open
+
+pub release-requires-clause-open : goal.release-requires-clause-open
+release-requires-clause-open g c = c.loop-place.invariant.keeps.is_open
 
 pub page_after-requires-clause-sectors : goal.page_after-requires-clause-sectors
 page_after-requires-clause-sectors g c = sectors_on c.args.pages.now c.loop-place.pages _ _
-    c.loop-place.invariant.committed.volume c.loop-place.invariant.only.sectors c.requires.sectors
+    c.loop-place.invariant.keeps.committed.volume c.loop-place.invariant.keeps.only.sectors c.requires.sectors
 
 pub release-requires-clause-page : goal.release-requires-clause-page
 release-requires-clause-page g c = c.in_ok-next.ensures.page
@@ -89,26 +55,17 @@ release-requires-clause-page g c = c.in_ok-next.ensures.page
 pub returns-in_err-next-clause-only : goal.returns-in_err-next-clause-only
 returns-in_err-next-clause-only g c = passed c.from_residual.result c.in_err-next.field-0.0 c.from_residual.ensures.1
     (λ r. OnlyReads g.D.Device (r ≡ Err Device) c.args.device.now c.page_after.new.device)
-    (reads_then g.D.Device _ _ _ _ _ _ (λ is. inr (still_error is)) c.loop-place.invariant.only
+    (reads_then g.D.Device _ _ _ _ _ _ (λ is. inr (still_error is)) c.loop-place.invariant.keeps.only
     c.in_err-next.ensures.only)
 
 pub returns-in_err-next-clause-damaged : goal.returns-in_err-next-clause-damaged
 returns-in_err-next-clause-damaged g c = λ honest agrees is stands.
     let loop = c.loop-place in
-    let here =
-    let image = (g.D.Device.state c.args.device.now).disk.present in
-    let test = c.loop-place-test.true in
-    let count = c.page_count-count.ensures in
-    let more : loop.place + suc (c.page_count-count.result - 1 - loop.place) ≡ pages_for c.args.size = omega arith in
-    subst (λ (s : State). Stands (pages_of_map loop.pages s.disk.present)
-    (suc (c.page_count-count.result - 1 - loop.place)) loop.page) (sym (loop.invariant.only.state honest))
-    (releases_here (pages_of_map c.args.pages.now image) (pages_for c.args.size) c.args.first
-    (pages_of_map loop.pages image)
-    loop.place loop.page (c.page_count-count.result - 1 - loop.place) more
-    (loop.invariant.rest honest agrees stands)) in
     passed c.from_residual.result c.in_err-next.field-0.0 c.from_residual.ensures.1 (λ r. r ≡ Err Damaged → ⊥)
-    (λ told. c.in_err-next.ensures.damaged (loop.invariant.only.honest.0 honest) (loop.invariant.agrees honest agrees)
-    (still_error told) here) is
+    (λ told. releases_stop g.D.Device c.args.pages.now loop.pages c.args.device.now loop.device c.args.first loop.place
+    loop.page (c.page_count-count.result - 1 - loop.place) loop.invariant.keeps (pages_for c.args.size) _
+    (omega (arith, c.loop-place-test.true, c.page_count-count.ensures)) loop.invariant.rest (still_error told)
+    c.in_err-next.ensures.damaged honest agrees stands) is
 
 pub returns-in_err-next-clause-changed_pages : goal.returns-in_err-next-clause-changed_pages
 returns-in_err-next-clause-changed_pages g c =
@@ -116,7 +73,7 @@ returns-in_err-next-clause-changed_pages g c =
     let count = c.page_count-count.ensures in
     few_of_all (length (changed_pages_of c.args.pages.now)) (length (changed_pages_of c.loop-place.pages))
     c.loop-place.place (pages_for c.args.size)
-    c.loop-place.invariant.changed_pages (omega arith)
+    c.loop-place.invariant.keeps.changed_pages (omega arith)
 
 pub returns-in_err-next-clause-filled : goal.returns-in_err-next-clause-filled
 returns-in_err-next-clause-filled g c =
@@ -124,19 +81,20 @@ returns-in_err-next-clause-filled g c =
     omega arith
 
 pub returns-in_err-next-clause-committed : goal.returns-in_err-next-clause-committed
-returns-in_err-next-clause-committed g c = c.loop-place.invariant.committed
+returns-in_err-next-clause-committed g c = c.loop-place.invariant.keeps.committed
 
 pub returns-in_err-next-clause-catalog : goal.returns-in_err-next-clause-catalog
-returns-in_err-next-clause-catalog g c = c.loop-place.invariant.catalog
+returns-in_err-next-clause-catalog g c = c.loop-place.invariant.keeps.catalog
 
 pub returns-in_err-next-clause-agrees : goal.returns-in_err-next-clause-agrees
 returns-in_err-next-clause-agrees g c = λ honest agrees.
-    still_agrees c.loop-place.pages _ _ (c.page_after.ensures.only.state (c.loop-place.invariant.only.honest.0 honest))
-    (c.loop-place.invariant.agrees honest agrees)
+    still_agrees c.loop-place.pages _ _
+    (c.page_after.ensures.only.state (c.loop-place.invariant.keeps.only.honest.0 honest))
+    (c.loop-place.invariant.keeps.agrees honest agrees)
 
 pub returns-in_err-next-clause-spent : goal.returns-in_err-next-clause-spent
 returns-in_err-next-clause-spent g c =
-    let same = c.loop-place.invariant.committed.spent in
+    let same = c.loop-place.invariant.keeps.committed.spent in
     let test = c.loop-place-test.true in
     let count = c.page_count-count.ensures in
     passed c.from_residual.result c.in_err-next.field-0.0 c.from_residual.ensures.1
@@ -152,6 +110,9 @@ pub returns-in_err-next-clause-cause : goal.returns-in_err-next-clause-cause
 returns-in_err-next-clause-cause g c = passed c.from_residual.result c.in_err-next.field-0.0 c.from_residual.ensures.1
     (λ r. IfErr r IsChangeRefusal) (read_is_change c.in_err-next.field-0.0 c.in_err-next.ensures.cause)
 
+pub returns-in_err-next-clause-open : goal.returns-in_err-next-clause-open
+returns-in_err-next-clause-open g c = c.loop-place.invariant.keeps.is_open
+
 -- A page that isn't changed.
 pub returns-in_err-release-clause-only : goal.returns-in_err-release-clause-only
 returns-in_err-release-clause-only g c =
@@ -159,7 +120,7 @@ returns-in_err-release-clause-only g c =
     passed c.from_residual-in_err-release.result x c.from_residual-in_err-release.ensures.1
     (λ r. OnlyReads g.D.Device (r ≡ Err Device) c.args.device.now c.page_after.new.device)
     (reads_then g.D.Device _ _ _ _ _ _ (λ is. put_not_device x (edit_is_put x c.in_err-release.ensures.cause) is)
-    c.loop-place.invariant.only c.page_after.ensures.only)
+    c.loop-place.invariant.keeps.only c.page_after.ensures.only)
 
 pub returns-in_err-release-clause-damaged : goal.returns-in_err-release-clause-damaged
 returns-in_err-release-clause-damaged g c = λ honest agrees is stands.
@@ -175,7 +136,7 @@ returns-in_err-release-clause-changed_pages g c =
     c.loop-place.place (pages_for c.args.size)
     (subst (λ (l : List ℕ). length l ≤ length (changed_pages_of c.args.pages.now) + c.loop-place.place)
     (sym c.in_err-release.ensures.unchanged)
-    c.loop-place.invariant.changed_pages) (omega arith)
+    c.loop-place.invariant.keeps.changed_pages) (omega arith)
 
 pub returns-in_err-release-clause-filled : goal.returns-in_err-release-clause-filled
 returns-in_err-release-clause-filled g c =
@@ -185,25 +146,26 @@ returns-in_err-release-clause-filled g c =
 
 pub returns-in_err-release-clause-committed : goal.returns-in_err-release-clause-committed
 returns-in_err-release-clause-committed g c = committed_on c.args.pages.now c.loop-place.pages c.release.new.self
-    c.loop-place.invariant.committed c.release.ensures.keeps.committed
+    c.loop-place.invariant.keeps.committed c.release.ensures.keeps.committed
 
 pub returns-in_err-release-clause-catalog : goal.returns-in_err-release-clause-catalog
 returns-in_err-release-clause-catalog g c = c.release.ensures.keeps.catalog
-    ∙ c.loop-place.invariant.catalog
+    ∙ c.loop-place.invariant.keeps.catalog
 
 pub returns-in_err-release-clause-agrees : goal.returns-in_err-release-clause-agrees
 returns-in_err-release-clause-agrees g c = λ honest agrees.
     c.release.ensures.keeps.agrees (g.D.Device.state c.page_after.new.device).disk
-    (still_agrees c.loop-place.pages _ _ (c.page_after.ensures.only.state (c.loop-place.invariant.only.honest.0 honest))
-    (c.loop-place.invariant.agrees honest agrees))
+    (still_agrees c.loop-place.pages _ _
+    (c.page_after.ensures.only.state (c.loop-place.invariant.keeps.only.honest.0 honest))
+    (c.loop-place.invariant.keeps.agrees honest agrees))
 
 pub returns-in_err-release-clause-open : goal.returns-in_err-release-clause-open
-returns-in_err-release-clause-open g c = c.release.ensures.keeps.is_open c.loop-place.invariant.is_open
+returns-in_err-release-clause-open g c = c.release.ensures.keeps.is_open c.loop-place.invariant.keeps.is_open
 
 pub returns-in_err-release-clause-spent : goal.returns-in_err-release-clause-spent
 returns-in_err-release-clause-spent g c =
     let x = c.in_err-release.field-0.0 in
-    let same = c.loop-place.invariant.committed.spent in
+    let same = c.loop-place.invariant.keeps.committed.spent in
     let test = c.loop-place-test.true in
     let count = c.page_count-count.ensures in
     passed c.from_residual-in_err-release.result x c.from_residual-in_err-release.ensures.1
@@ -233,7 +195,7 @@ returns-clause-released g c = λ honest agrees stands.
     loop.place loop.page (omega arith) (loop.invariant.rest honest agrees stands)
 
 pub returns-clause-only : goal.returns-clause-only
-returns-clause-only g c = reads_where g.D.Device _ _ _ _ (λ is. never_ok is) c.loop-place.invariant.only
+returns-clause-only g c = reads_where g.D.Device _ _ _ _ (λ is. never_ok is) c.loop-place.invariant.keeps.only
 
 pub returns-clause-damaged : goal.returns-clause-damaged
 returns-clause-damaged g c = λ honest agrees is stands. never_ok is
@@ -243,7 +205,7 @@ returns-clause-changed_pages g c =
     let bound = c.loop-place.auto.place-end in
     let count = c.page_count-count.ensures in
     few_of_all (length (changed_pages_of c.args.pages.now)) (length (changed_pages_of c.loop-place.pages))
-    c.loop-place.place (pages_for c.args.size) c.loop-place.invariant.changed_pages (omega arith)
+    c.loop-place.place (pages_for c.args.size) c.loop-place.invariant.keeps.changed_pages (omega arith)
 
 pub returns-clause-filled : goal.returns-clause-filled
 returns-clause-filled g c = c.loop-place.invariant.filled
@@ -256,7 +218,19 @@ returns-clause-spent g c = (
       let test = c.loop-place-test.false in
       let some = was.1 in
       let low : 0 < c.loop-place.place = omega arith in
-      let never = c.loop-place.invariant.unspent low in
+      let never = c.loop-place.invariant.keeps.unspent low in
       let is = was.0 in
       absurd (cc (never, is)),
 )
+
+pub returns-clause-committed : goal.returns-clause-committed
+returns-clause-committed g c = c.loop-place.invariant.keeps.committed
+
+pub returns-clause-catalog : goal.returns-clause-catalog
+returns-clause-catalog g c = c.loop-place.invariant.keeps.catalog
+
+pub returns-clause-agrees : goal.returns-clause-agrees
+returns-clause-agrees g c = λ honest agrees. c.loop-place.invariant.keeps.agrees honest agrees
+
+pub returns-clause-open : goal.returns-clause-open
+returns-clause-open g c = c.loop-place.invariant.keeps.is_open

@@ -58,7 +58,6 @@ returns-in-Some c =
     negative (10 * c.in-Some.front + c.from.result)
     (ap (λ d. Some (signed_integer negative (10 * c.in-Some.front + d))) c.from.ensures
     ∙ last_both c.args.bytes.now c.unmarked-digit.result c.in-Some.front
-    (trailing_some c.args.item c.requires.item c.requires.trailing c.args.bytes.now c.requires.length)
+    (trailing_some c.args.item c.requires.item c.requires.trailing _ c.requires.length)
     c.unmarked-digit.ensures c.in-Some.ensures.value (sym c.if-not-is_ascii_digit.ensures.value))
-    (last_small c.args.item c.requires.item c.requires.trailing c.args.bytes.now c.requires.length
-    c.in-Some.front c.from.result c.in-Some.ensures.bound digit)
+    (last_small c.args.item c.requires.item c.requires.trailing _ c.requires.length _ _ c.in-Some.ensures.bound digit)

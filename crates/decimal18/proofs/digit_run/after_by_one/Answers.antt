@@ -1,7 +1,7 @@
-use Rattle.std.proofs.Common.{rules, ◌≡◌, ◌<◌, ◌≤◌, ◌+◌, ◌-◌, ◌*◌, ◌^◌, length, ap, sym, ◌∙◌, drop, subst, arith}
+use Rattle.std.proofs.Common.{rules, ◌<◌, ◌≤◌, ◌+◌, ◌-◌, ◌*◌, ◌^◌, length, ap, sym, ◌∙◌, drop, arith}
 use Rattle.decimal18.specs.Digits.{digits_after}
 use Rattle.decimal18.proofs.DigitRuns.{one_more}
-use Rattle.decimal18.proofs.DigitRunParts.{next_room, room_now, digits_next}
+use Rattle.decimal18.proofs.DigitRunParts.{next_room, room_after, room_now, digits_next}
 use Rattle.decimal18.proofs.digit_run.after_by_one.Goals as goal
 
 pub overflow_mul-number : goal.overflow_mul-number
@@ -35,11 +35,8 @@ loop-digit-preserved c =
     let i = c.loop-digit.digit-index in
     let n = c.loop-digit.number in
     let digit : c.from.result ≤ 9 = omega (arith, c.if-not-is_ascii_digit.ensures.cases) in
-    let left : length cs - i - 1 ≡ length cs - (i + 1) = omega arith in
-    let next : (10 * n + c.from.result + 1) * 10 ^ (length cs - i - 1) ≤ (c.args.front + 1) * 10 ^ length cs =
-    next_room n c.from.result (length cs - i) _ digit (omega arith) c.loop-digit.invariant.room in
     record {
-      room = subst (λ k. (10 * n + c.from.result + 1) * 10 ^ k ≤ (c.args.front + 1) * 10 ^ length cs) left next;
+      room = room_after n c.from.result (length cs) i _ digit c.loop-digit-test.true c.loop-digit.invariant.room;
       number = ap (λ d. digits_after (10 * n + d) (drop (i + 1) cs)) c.from.ensures
           ∙ sym (one_more n i cs c.loop-digit-test.true) ∙ c.loop-digit.invariant.number;
       digits = digits_next cs i c.loop-digit-test.true (sym c.if-not-is_ascii_digit.ensures.value)

@@ -1,15 +1,13 @@
 use Rattle.std.proofs.Common.{max, None, true, ap, sym, ◌∙◌, arith}
 use Rattle.std.proofs.lemmas.Result.{err_from_is_err_and}
 use Rattle.source_tree.specs.Clauses.{nothing_around}
-use Rattle.source_tree.specs.EntryRules as rules
 use Rattle.source_tree.specs.EntryRules.{forest_rules, outermost}
 use Rattle.source_tree.specs.Levels.{leading_conditions, forest_of}
 use Rattle.source_tree.specs.Rooms.{longest}
 use Rattle.entry_rules.specs.Checks.{fault_of}
-use Rattle.entry_rules.specs.Trees.{extent}
 use Rattle.entry_rules.specs.Walk.{redefinable_of}
 use Rattle.entry_rules.proofs.FileEntries.{longest_tree}
-use Rattle.entry_rules.proofs.Forests.{found_in, none_in, known_remembered}
+use Rattle.entry_rules.proofs.Forests.{found_in, none_at, extent_at, known_after}
 use Rattle.entry_rules.proofs.LevelLaws.{levels_tree}
 use Rattle.entry_rules.proofs.descriptions.check_records.Goals as goal
 
@@ -25,29 +23,16 @@ returns-in_err-bytes-clause-rules c =
 
 pub items-preserved : goal.items-preserved
 items-preserved c =
-    let one = c.in-Some.one in
-    let e = c.in-Some.ensures.0 in
-    let parts = levels_tree (forest_of c.items.rest.now) one.entry.now (leading_conditions one.inner.now)
-    (forest_of one.inner.now) (forest_of one.next.now) e c.items.invariant.levels in
-    let around = ap (λ (at : rules.Position). at.around) c.outermost.ensures in
-    let bytes = c.in_ok-bytes.ensures.bytes ∙ ap (λ a. extent a one.entry.now (forest_of one.inner.now)) around in
+    let inv = c.items.invariant in
+    let bytes = extent_at c.outermost.result (outermost true) c.in-Some.one.entry.now (forest_of c.in-Some.one.inner.now)
+    c.in_ok-bytes.bytes c.outermost.ensures c.in_ok-bytes.ensures.bytes in
     record {
-      levels = parts.2;
-      last = known_remembered one.entry.now c.in_ok-bytes.bytes (redefinable_of c.items.last)
-          (redefinable_of c.remembered-last.result) parts.0 c.items.invariant.last c.remembered-last.ensures;
-      shorter = omega (arith, c.in-Some.ensures.1, c.items.invariant.shorter);
-      rules = none_in c.outermost.result (redefinable_of c.items.last) (redefinable_of c.remembered-last.result)
-          (forest_of c.items.rest.now) one.entry.now (leading_conditions one.inner.now) (forest_of one.inner.now)
-          (forest_of one.next.now) (forest_rules (outermost true) None (forest_of c.args.entries.now))
-          c.in_ok-bytes.bytes
-          e (c.items.invariant.rules ∙ ap (λ at.
-          forest_rules at (redefinable_of c.items.last) (forest_of c.items.rest.now)) (sym c.outermost.ensures))
-          c.in_ok-bytes.ensures.rules c.in_ok-bytes.ensures.bytes c.remembered-last.ensures
-          ∙ ap (λ at. forest_rules at (redefinable_of c.remembered-last.result) (forest_of one.next.now))
-          c.outermost.ensures;
-      longest = longest_tree (longest nothing_around (forest_of c.args.entries.now)) c.items.longest c.in_ok-bytes.bytes
-          (forest_of c.items.rest.now) one.entry.now (leading_conditions one.inner.now) (forest_of one.inner.now)
-          (forest_of one.next.now) e c.items.invariant.longest bytes
-          ∙ ap (λ n. max n (longest nothing_around (forest_of one.next.now))) (sym c.max-longest.ensures);
-      bound = omega (arith, c.items.invariant.bound, c.in_ok-bytes.ensures.bound, c.max-longest.ensures);
+      levels = (levels_tree _ _ _ _ _ c.in-Some.ensures.0 inv.levels).2;
+      last = known_after _ _ _ _ _ _ _ _ c.in-Some.ensures.0 inv.levels inv.last c.remembered-last.ensures;
+      shorter = omega (arith, c.in-Some.ensures.1, inv.shorter);
+      rules = none_at _ _ _ _ _ _ _ _ _ _ _ c.outermost.ensures c.in-Some.ensures.0 inv.rules
+          c.in_ok-bytes.ensures.rules c.in_ok-bytes.ensures.bytes c.remembered-last.ensures;
+      longest = longest_tree _ _ _ _ _ _ _ _ c.in-Some.ensures.0 inv.longest bytes
+          ∙ ap (λ n. max n (longest nothing_around (forest_of c.in-Some.one.next.now))) (sym c.max-longest.ensures);
+      bound = omega (arith, inv.bound, c.in_ok-bytes.ensures.bound, c.max-longest.ensures);
     }

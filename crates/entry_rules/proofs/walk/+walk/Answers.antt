@@ -4,7 +4,7 @@ use Rattle.source_tree.specs.Levels.{leading_conditions, forest_of}
 use Rattle.entry_rules.specs.Checks.{fault_of}
 use Rattle.entry_rules.specs.Trees.{own_bytes}
 use Rattle.entry_rules.specs.Walk.{redefinable_of}
-use Rattle.entry_rules.proofs.Forests.{found_in, none_in, known_remembered, room_tree, item_within}
+use Rattle.entry_rules.proofs.Forests.{found_in, none_in, known_after, room_tree, item_within}
 use Rattle.entry_rules.proofs.LevelLaws.{levels_tree}
 use Rattle.entry_rules.proofs.walk.+walk.Goals as goal
 
@@ -19,30 +19,18 @@ check_group-returns-in_err-extent-clause-rules t c =
 
 pub check_group-items-preserved : goal.check_group-items-preserved
 check_group-items-preserved t c =
-    let one = c.in-Some.one in
+    let inv = c.items.invariant in
     let e = c.in-Some.ensures.0 in
-    let parts = levels_tree (forest_of c.items.rest.now) one.entry.now (leading_conditions one.inner.now)
-    (forest_of one.inner.now) (forest_of one.next.now) e c.items.invariant.levels in
-    let split = room_tree c.args.at.around (forest_of c.items.rest.now) one.entry.now (leading_conditions one.inner.now)
-    (forest_of one.inner.now) (forest_of one.next.now) e in
-    let same = c.taken-bytes.ensures.value ∙ ap (own_bytes one.entry.now) c.in_ok-extent.ensures.bytes in
+    let split = room_tree c.args.at.around _ _ _ _ _ e in
+    let same = c.taken-bytes.ensures.value ∙ ap (own_bytes c.in-Some.one.entry.now) c.in_ok-extent.ensures.bytes in
     record {
-      levels = parts.2;
-      last = known_remembered one.entry.now c.in_ok-extent.extent (redefinable_of c.items.last)
-          (redefinable_of c.remembered-last.result) parts.0 c.items.invariant.last c.remembered-last.ensures;
-      shorter = omega (arith, c.in-Some.ensures.1, c.items.invariant.shorter);
-      rules = none_in c.args.at (redefinable_of c.items.last) (redefinable_of c.remembered-last.result)
-          (forest_of c.items.rest.now) one.entry.now (leading_conditions one.inner.now) (forest_of one.inner.now)
-          (forest_of one.next.now) _ c.in_ok-extent.extent
-          e c.items.invariant.rules c.in_ok-extent.ensures.rules c.in_ok-extent.ensures.bytes c.remembered-last.ensures;
-      sum = omega (arith, split, same, c.items.invariant.sum);
-      bound = omega (
-        arith,
-        c.in-Some.ensures.1,
-        c.items.invariant.bound,
-        c.taken-bytes.ensures.bound,
-        c.in_ok-extent.ensures.bound,
-      );
+      levels = (levels_tree _ _ _ _ _ e inv.levels).2;
+      last = known_after _ _ _ _ _ _ _ _ e inv.levels inv.last c.remembered-last.ensures;
+      shorter = omega (arith, c.in-Some.ensures.1, inv.shorter);
+      rules = none_in _ _ _ _ _ _ _ _ _ _ e inv.rules c.in_ok-extent.ensures.rules c.in_ok-extent.ensures.bytes
+          c.remembered-last.ensures;
+      sum = omega (arith, split, same, inv.sum);
+      bound = omega (arith, c.in-Some.ensures.1, inv.bound, c.taken-bytes.ensures.bound, c.in_ok-extent.ensures.bound);
     }
 
 pub check_item-returns-in_err-within-clause-rules : goal.check_item-returns-in_err-within-clause-rules

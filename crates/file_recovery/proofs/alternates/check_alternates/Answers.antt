@@ -1,16 +1,19 @@
-use Rattle.std.proofs.Common.{◌≡◌, inr, ℕ, List, Err, length, sym, ap, subst, ◌∙◌, arith}
+use Rattle.std.proofs.Common.{◌≡◌, ◌<◌, inr, ℕ, List, Err, length, sym, ap, subst, ◌∙◌, arith}
 use Rattle.std.specs.Prelude.{Option}
 use Rattle.station.specs.Disk.{Sector}
 use Rattle.pages.specs.Pages.{map_now}
+use Rattle.btree.specs.Calls.{pages_on}
 use Rattle.records.specs.declared.fault.StoreFault.TheVariants.{Device, Damaged}
 use Rattle.records.specs.Stores.{spec_of}
 use Rattle.volume_format.proofs.Small.{few_alternates}
-use Rattle.file_recovery.specs.Found.{FindsIndex, FindsIndexes, NoIndex}
+use Rattle.file_recovery.specs.Found.{FindsIndexes, NoIndex}
 use Rattle.file_bytes.specs.Stored.{rows_of}
 use Rattle.volume_format.proofs.Looks.{looks_nowhere, looks_then}
-use Rattle.file_recovery.proofs.Calling.{pages_kept}
-use Rattle.file_recovery.proofs.Indexes.{no_indexes, one_more_index, at_first, goes_on, none_here}
+use Rattle.file_recovery.proofs.Calling.{on_pages_before, looks_on}
+use Rattle.file_recovery.proofs.Indexes.{no_indexes, index_more, indexes_go_on, at_first, none_here}
+use Rattle.file_recovery.proofs.alternates.check_alternates.Given.{Over}
 use Rattle.file_recovery.proofs.alternates.check_alternates.Goals as goal
+use Rattle.file_recovery.proofs.alternates.check_alternates.Goals.{After-check_alternate}
 
 pub loop-key-init : goal.loop-key-init
 loop-key-init g c = record {
@@ -23,41 +26,26 @@ loop-key-init g c = record {
       c.args.seen.now;
 }
 
+-- the key is one of the file
+key_low : (g : Over) (c : After-check_alternate g) → c.loop-key.key < length c.args.file.now.alternates.items
+key_low g c =
+    let test = c.loop-key-test.true in
+    let short = few_alternates (spec_of c.args.file.now) c.args.file.now.sound in
+    let len = c.len-count.ensures in
+    omega (arith, test, short, len)
+
 pub loop-key-preserved : goal.loop-key-preserved
 loop-key-preserved g c =
-    let loop = c.loop-key in
-    let looks = loop.invariant.looks in
-    let spec = spec_of c.args.file.now in
-    let rows = rows_of c.args.rows.now in
-    let value : List ℕ = c.args.value.now in
-    let before : List (Option Sector) =
-    (map_now c.args.pages.now (g.D.Device.state c.args.device.now).disk.present).pages in
+    let looks = c.loop-key.invariant.looks in
+    let few = (c.map_bounds.ensures.open c.args.pages.now (g.D.Device.state c.args.device.now).disk.present
+    c.requires.open c.requires.unspent).1 in
     record {
-      looks = looks_then g.D.Device ⊥ (c.check_alternate.result ≡ Err Device) ⊥ c.args.pages.now loop.pages
-          c.check_alternate.new.pages c.args.device.now loop.device c.check_alternate.new.device (λ is. absurd is) looks
-          c.check_alternate.ensures.looks;
-      found = λ up honest agrees.
-          let same = pages_kept g.D.Device ⊥ c.args.pages.now loop.pages c.args.device.now loop.device looks honest in
-          let index =
-          c.in_ok-check_alternate.ensures.index up (looks.only.honest.0 honest) (looks.agrees honest agrees) in
-          one_more_index before spec rows value loop.key c.args.seen.now loop.seen c.check_alternate.new.seen
-          (loop.invariant.found up honest agrees)
-          (subst (λ (p : List (Option Sector)).
-          FindsIndex p spec rows value loop.key loop.seen c.check_alternate.new.seen) same index);
-      rest = λ up honest agrees.
-          let same = pages_kept g.D.Device ⊥ c.args.pages.now loop.pages c.args.device.now loop.device looks honest in
-          let index =
-          c.in_ok-check_alternate.ensures.index up (looks.only.honest.0 honest) (looks.agrees honest agrees) in
-          let few = (c.map_bounds.ensures.open c.args.pages.now (g.D.Device.state c.args.device.now).disk.present
-          c.requires.open c.requires.unspent).1 in
-          let test = c.loop-key-test.true in
-          let short = few_alternates spec c.args.file.now.sound in
-          let len = c.len-count.ensures in
-          goes_on before spec rows value (length c.args.file.now.alternates.items) loop.key
-          c.args.seen.now loop.seen c.check_alternate.new.seen (omega (arith, few)) (omega (arith, test, short, len))
-          (loop.invariant.rest up honest agrees)
-          (subst (λ (p : List (Option Sector)).
-          FindsIndex p spec rows value loop.key loop.seen c.check_alternate.new.seen) same index);
+      looks = looks_on g.D.Device looks c.check_alternate.ensures.looks;
+      found = λ up. index_more g.D.Device looks (c.in_ok-check_alternate.ensures.index up)
+          (c.loop-key.invariant.found up);
+      rest = λ up. indexes_go_on g.D.Device looks (c.in_ok-check_alternate.ensures.index up)
+          (λ honest agrees. omega (arith, few)) (key_low g (goal.at.loop-key-preserved g c).After-check_alternate)
+          (c.loop-key.invariant.rest up);
     }
 
 pub returns-in_err-check_alternate-clause-looks : goal.returns-in_err-check_alternate-clause-looks
@@ -76,19 +64,14 @@ returns-in_err-check_alternate-clause-damaged g c = λ up honest agrees refused 
     let fault : c.in_err-check_alternate.field-0.0 ≡ Damaged = sym from in
     let told : c.check_alternate.result ≡ Err Damaged = c.in_err-check_alternate.was ∙ ap Err fault in
     let loop = c.loop-key in
-    let looks = loop.invariant.looks in
     let spec = spec_of c.args.file.now in
     let rows = rows_of c.args.rows.now in
-    let before : List (Option Sector) =
-    (map_now c.args.pages.now (g.D.Device.state c.args.device.now).disk.present).pages in
-    let same = pages_kept g.D.Device ⊥ c.args.pages.now loop.pages c.args.device.now loop.device looks honest in
-    let never = c.check_alternate.ensures.damaged up (looks.only.honest.0 honest) (looks.agrees honest agrees) told in
-    let test = c.loop-key-test.true in
-    let short = few_alternates spec c.args.file.now.sound in
-    let len = c.len-count.ensures in
-    none_here before spec rows c.args.value.now (length c.args.file.now.alternates.items) loop.key c.args.seen.now
-    loop.seen (omega (arith, test, short, len)) (loop.invariant.rest up honest agrees)
-    (subst (λ (p : List (Option Sector)). NoIndex p spec rows c.args.value.now loop.key loop.seen) same never) trees are
+    let low = key_low g (goal.at.returns-in_err-check_alternate-clause-damaged g c).After-check_alternate in
+    none_here (pages_on g.D.Device c.args.pages.now c.args.device.now) spec rows c.args.value.now
+    (length c.args.file.now.alternates.items) loop.key c.args.seen.now loop.seen
+    low (loop.invariant.rest up honest agrees)
+    (on_pages_before g.D.Device (λ pages. NoIndex pages spec rows c.args.value.now loop.key loop.seen)
+    loop.invariant.looks (λ still same. c.check_alternate.ensures.damaged up still same told) honest agrees) trees are
     can
 
 pub returns-clause-indexes : goal.returns-clause-indexes

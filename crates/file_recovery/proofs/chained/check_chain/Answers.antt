@@ -1,12 +1,10 @@
-use Rattle.std.proofs.Common.{◌≡◌, inr, List, Err, sym, ap, subst, ◌∙◌, arith}
-use Rattle.std.specs.Prelude.{Option}
-use Rattle.station.specs.Disk.{Sector}
+use Rattle.std.proofs.Common.{◌≡◌, inr, Err, sym, ap, ◌∙◌, arith}
 use Rattle.btree.specs.Calls.{pages_on}
 use Rattle.chains.specs.Chain.{pages_for}
 use Rattle.records.specs.declared.fault.StoreFault.TheVariants.{Device, Damaged}
 use Rattle.volume_format.proofs.Looks.{looks_nowhere, looks_blamed, looks_then}
 use Rattle.file_recovery.specs.Chained.{MarksLink, NoMarkedLink}
-use Rattle.file_recovery.proofs.Calling.{pages_kept}
+use Rattle.file_recovery.proofs.Calling.{on_pages_before, looks_on}
 use Rattle.file_recovery.proofs.Following.{marked_start, marked_next, marked_all, no_more, no_end}
 use Rattle.file_recovery.proofs.chained.check_chain.Goals as goal
 
@@ -22,16 +20,13 @@ loop-place-preserved g c =
     let loop = c.loop-place in
     let looks = loop.invariant.looks in
     record {
-      looks = looks_then g.D.Device ⊥ (c.mark_link.result ≡ Err Device) ⊥ c.args.pages.now loop.pages
-          c.mark_link.new.pages c.args.device.now loop.device c.mark_link.new.device (λ is. absurd is) looks
-          c.mark_link.ensures.looks;
+      looks = looks_on g.D.Device looks c.mark_link.ensures.looks;
       marked = λ honest agrees.
-          let same = pages_kept g.D.Device ⊥ c.args.pages.now loop.pages c.args.device.now loop.device looks honest in
           marked_next (pages_on g.D.Device c.args.pages.now c.args.device.now) loop.place c.args.first loop.page
           c.in_ok-next.next c.args.seen.now loop.seen c.mark_link.new.seen (loop.invariant.marked honest agrees)
-          (subst (λ (p : List (Option Sector)).
-          MarksLink p loop.page loop.seen c.mark_link.new.seen c.in_ok-next.next) same
-          (c.in_ok-next.ensures.link (looks.only.honest.0 honest) (looks.agrees honest agrees)));
+          (on_pages_before g.D.Device (λ pages.
+          MarksLink pages loop.page loop.seen c.mark_link.new.seen c.in_ok-next.next) looks c.in_ok-next.ensures.link
+          honest agrees);
     }
 
 pub returns-in_err-next-clause-looks : goal.returns-in_err-next-clause-looks
@@ -49,14 +44,12 @@ returns-in_err-next-clause-damaged g c = λ honest agrees refused stands can.
     let fault : c.in_err-next.field-0.0 ≡ Damaged = sym from in
     let told : c.mark_link.result ≡ Err Damaged = c.in_err-next.was ∙ ap Err fault in
     let loop = c.loop-place in
-    let looks = loop.invariant.looks in
-    let same = pages_kept g.D.Device ⊥ c.args.pages.now loop.pages c.args.device.now loop.device looks honest in
     let test = c.loop-place-test.true in
     let count = c.page_count-count.ensures in
     no_more (pages_on g.D.Device c.args.pages.now c.args.device.now) (pages_for c.args.size) loop.place c.args.first
     loop.page c.args.seen.now loop.seen (omega arith) (loop.invariant.marked honest agrees)
-    (subst (λ (p : List (Option Sector)). NoMarkedLink p loop.page loop.seen) same
-    (c.mark_link.ensures.damaged (looks.only.honest.0 honest) (looks.agrees honest agrees) told)) stands can
+    (on_pages_before g.D.Device (λ pages. NoMarkedLink pages loop.page loop.seen) loop.invariant.looks
+    (λ still same. c.mark_link.ensures.damaged still same told) honest agrees) stands can
 
 pub returns-then-page-ne0-clause-damaged : goal.returns-then-page-ne0-clause-damaged
 returns-then-page-ne0-clause-damaged g c = λ honest agrees told stands can.

@@ -4,18 +4,14 @@ use Rattle.file_recovery.proofs.listing.read_roots.Goals as goal
 
 pub loop-key-preserved : goal.loop-key-preserved
 loop-key-preserved c =
-    let k = c.loop-key.key in
-    let value : List ℕ = c.args.value.now in
     let next : List ℕ = c.alternate_root.result ∷ [] in
-    let one : suc k ≡ k + 1 = omega arith in
+    let one : suc c.loop-key.key ≡ c.loop-key.key + 1 = omega arith in
     let many = length-append c.loop-key.roots.items next in
-    let was = c.loop-key.invariant.long in
     let pushed : length c.push.new.self.items ≡ length (c.loop-key.roots.items ++ next) =
     ap (λ (l : List ℕ). length l) c.in_ok-push.ensures.items in
     record {
-      roots = c.in_ok-push.ensures.items
-          ∙ ap (λ (l : List ℕ). l ++ next) c.loop-key.invariant.roots
-          ∙ ap (λ (n : ℕ). roots_in k value ++ n ∷ []) c.alternate_root.ensures
-          ∙ ap (λ (n : ℕ). roots_in n value) one;
-      long = omega (arith, many, was, pushed);
+      roots = c.in_ok-push.ensures.items ∙ ap (λ (l : List ℕ). l ++ next) c.loop-key.invariant.roots
+          ∙ ap (λ (n : ℕ). roots_in c.loop-key.key c.args.value.now ++ n ∷ []) c.alternate_root.ensures
+          ∙ ap (λ (n : ℕ). roots_in n c.args.value.now) one;
+      long = omega (arith, many, c.loop-key.invariant.long, pushed);
     }

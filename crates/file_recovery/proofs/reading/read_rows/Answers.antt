@@ -1,27 +1,26 @@
-use Rattle.std.proofs.Common.{◌≡◌, ◌+◌, ◌++◌, inr, ℕ, suc, List, [], ◌∷◌, Err, take, sym, ap, subst, ◌∙◌, arith}
+use Rattle.std.proofs.Common.{◌≡◌, inr, List, Err, take, sym, ap, subst, ◌∙◌}
 use Rattle.std.proofs.Common.{rules}
-use Rattle.std.specs.Prelude.{map, Option, Some, None, IfSome}
-use Rattle.std.specs.List.{AllByRecursion}
-use Rattle.std.proofs.lemmas.List.{map-append}
+use Rattle.std.specs.Prelude.{Option, None, IfSome}
 use Rattle.station.specs.Disk.{Sector}
 use Rattle.btree_pages.specs.declared.row_layout.RowLayout.{RowLayout}
 use Rattle.btree.specs.Calls.{pages_on}
 use Rattle.btree.specs.Entries.{Entry, HasLengths, entries_of}
-use Rattle.btree.specs.Tree.{IsTreeOrEmpty}
-use Rattle.btree.proofs.There.{tree_ascends}
 use Rattle.records.specs.declared.fault.StoreFault.TheVariants.{Device, Damaged}
 use Rattle.records.specs.Files.{IsRow}
 use Rattle.records.specs.Rows.{Row}
 use Rattle.records.specs.Stores.{spec_of}
-use Rattle.file_bytes.specs.Stored.{row_of, rows_of}
+use Rattle.file_bytes.specs.Stored.{rows_of}
+use Rattle.volume_format.specs.Calls.{LooksAt}
 use Rattle.volume_format.proofs.Looks.{looks_blamed, looks_then}
-use Rattle.file_recovery.specs.Rows.{FindsRow, FindsRows, NoRow}
-use Rattle.file_recovery.proofs.Calling.{pages_kept}
-use Rattle.file_recovery.proofs.Entered.{all_behind}
+use Rattle.file_recovery.specs.Rows.{FindsRows}
+use Rattle.file_recovery.proofs.Calling.{on_tree_before, looks_on}
 use Rattle.file_recovery.proofs.Faults.{memory_not_device}
-use Rattle.btree.proofs.Ascending.{entry_at, first_at, next_at}
-use Rattle.file_recovery.proofs.ChainedRows.{found_none, found_more, found_all, none_found}
+use Rattle.btree.proofs.Ascending.{entry_at, first_at}
+use Rattle.file_recovery.proofs.ChainedRows.{rows_added, rows_are_so, found_none, found_all}
+use Rattle.file_recovery.proofs.Walked.{next_entry, row_here, no_row_here}
+use Rattle.file_recovery.proofs.reading.read_rows.Given.{Over}
 use Rattle.file_recovery.proofs.reading.read_rows.Goals as goal
+use Rattle.file_recovery.proofs.reading.read_rows.Goals.{After-read_row}
 
 pub loop-turn-init : goal.loop-turn-init
 loop-turn-init g c = record {
@@ -45,50 +44,23 @@ read_row-requires-clause-lengths g c =
     (subst (λ (o : Option Entry). IfSome o (HasLengths c.args.tree.now.layout)) c.in-Some.is
     c.loop-turn.invariant.lengths)
 
+-- the calls so far
+row_looks : (g : Over) (c : After-read_row g)
+    → LooksAt g.D.Device ⊥ c.args.pages.now c.args.device.now c.read_row.new.pages c.read_row.new.device
+row_looks g c = looks_on g.D.Device c.loop-turn.invariant.looks c.read_row.ensures.looks
+
 pub loop-turn-preserved : goal.loop-turn-preserved
 loop-turn-preserved g c =
     let loop = c.loop-turn in
-    let looks = loop.invariant.looks in
-    let spec = spec_of c.args.file.now in
-    let P : Row → Type 0 = IsRow spec c.args.next_arrival in
-    let before : List (Option Sector) = pages_on g.D.Device c.args.pages.now c.args.device.now in
-    let layout = c.args.tree.now.layout in
-    let root = c.args.tree.now.root in
-    let row = c.in_ok-row-in-Some.row in
-    let one = c.read_row.ensures.looks in
-    let till = looks_then g.D.Device ⊥ (c.read_row.result ≡ Err Device) ⊥ c.args.pages.now loop.pages
-    c.read_row.new.pages c.args.device.now loop.device c.read_row.new.device (λ is. absurd is) looks one in
-    let added : rows_of c.push.new.self.items ≡ rows_of loop.rows.items ++ row_of row ∷ [] =
-    ap (map row_of) c.in_ok-push-in-Some.ensures.items ∙ map-append row_of loop.rows.items (row ∷ []) in
+    let till = row_looks g (goal.at.loop-turn-preserved g c).After-read_row in
     record {
-      looks = looks_then g.D.Device ⊥ (c.next_in.result ≡ Err Device) ⊥ c.args.pages.now c.read_row.new.pages
-          c.next_in.new.pages c.args.device.now c.read_row.new.device c.next_in.new.device (λ is. absurd is) till
-          c.next_in.ensures.looks;
-      are = subst (λ (l : List Row). AllByRecursion P l) (sym added)
-          (all_behind P (rows_of loop.rows.items) (row_of row) loop.invariant.are c.in_ok-row-in-Some.ensures.is);
+      looks = looks_on g.D.Device till c.next_in.ensures.looks;
+      are = rows_are_so (IsRow (spec_of c.args.file.now) c.args.next_arrival) _ _ c.in_ok-push-in-Some.ensures.items
+          loop.invariant.are c.in_ok-row-in-Some.ensures.is;
       lengths = c.in_ok-next-in-Some.ensures.lengths;
-      next_is = λ honest agrees levels holds.
-          let entries : List Entry = entries_of layout levels in
-          let same = pages_kept g.D.Device ⊥ c.args.pages.now c.read_row.new.pages c.args.device.now
-          c.read_row.new.device till honest in
-          let there_now = subst (λ (p : List (Option Sector)). IsTreeOrEmpty layout p root levels) (sym same) holds in
-          let is : entry_at loop._turn entries ≡ Some c.in-Some.entry =
-          sym (loop.invariant.next_is honest agrees levels holds) ∙ c.in-Some.is in
-          let ascend = tree_ascends layout before root levels holds in
-          c.in_ok-next-in-Some.ensures.entry (till.only.honest.0 honest) (till.agrees honest agrees) levels there_now
-          ∙ next_at entries loop._turn c.in-Some.entry ascend is
-          ∙ ap (λ (n : ℕ). entry_at n entries) (let e : suc loop._turn ≡ loop._turn + 1 = omega arith in e);
-      found = λ honest agrees levels holds.
-          let entries : List Entry = entries_of layout levels in
-          let same = pages_kept g.D.Device ⊥ c.args.pages.now loop.pages c.args.device.now loop.device looks honest in
-          let is : entry_at loop._turn entries ≡ Some c.in-Some.entry =
-          sym (loop.invariant.next_is honest agrees levels holds) ∙ c.in-Some.is in
-          let finds = subst (λ (p : List (Option Sector)).
-          FindsRow spec p c.in-Some.entry (row_of row) loop.seen c.read_row.new.seen) same
-          (c.in_ok-row-in-Some.ensures.row (looks.only.honest.0 honest) (looks.agrees honest agrees)) in
-          found_more spec before entries loop._turn c.in-Some.entry (rows_of loop.rows.items)
-          (rows_of c.push.new.self.items) (row_of row) c.args.seen.now loop.seen c.read_row.new.seen is
-          (loop.invariant.found honest agrees levels holds) finds added;
+      next_is = next_entry g.D.Device till loop.invariant.next_is c.in-Some.is c.in_ok-next-in-Some.ensures.entry;
+      found = row_here g.D.Device loop.invariant.looks loop.invariant.next_is c.in-Some.is loop.invariant.found
+          (rows_added _ _ c.in_ok-push-in-Some.ensures.items) c.in_ok-row-in-Some.ensures.row;
     }
 
 pub returns-in-None-clause-rows : goal.returns-in-None-clause-rows
@@ -123,17 +95,8 @@ returns-in_err-row-in-Some-clause-damaged g c = λ honest agrees levels holds re
     let fault : c.in_err-row-in-Some.field-0.0 ≡ Damaged = sym from in
     let told : c.read_row.result ≡ Err Damaged = c.in_err-row-in-Some.was ∙ ap Err fault in
     let loop = c.loop-turn in
-    let looks = loop.invariant.looks in
-    let spec = spec_of c.args.file.now in
-    let entries : List Entry = entries_of c.args.tree.now.layout levels in
-    let same = pages_kept g.D.Device ⊥ c.args.pages.now loop.pages c.args.device.now loop.device looks honest in
-    let is : entry_at loop._turn entries ≡ Some c.in-Some.entry =
-    sym (loop.invariant.next_is honest agrees levels holds) ∙ c.in-Some.is in
-    none_found spec (pages_on g.D.Device c.args.pages.now c.args.device.now) c.args.next_arrival entries loop._turn
-    c.in-Some.entry (rows_of loop.rows.items) c.args.seen.now loop.seen is
-    (loop.invariant.found honest agrees levels holds)
-    (subst (λ (p : List (Option Sector)). NoRow spec c.args.next_arrival p c.in-Some.entry loop.seen) same
-    (c.read_row.ensures.damaged (looks.only.honest.0 honest) (looks.agrees honest agrees) told))
+    no_row_here g.D.Device loop.invariant.looks loop.invariant.next_is c.in-Some.is loop.invariant.found
+    (λ still same. c.read_row.ensures.damaged still same told) honest agrees levels holds
 
 pub returns-in_err-push-in-Some-clause-looks : goal.returns-in_err-push-in-Some-clause-looks
 returns-in_err-push-in-Some-clause-looks g c =
@@ -146,10 +109,7 @@ returns-in_err-push-in-Some-clause-looks g c =
 
 pub returns-in_err-next-in-Some-clause-looks : goal.returns-in_err-next-in-Some-clause-looks
 returns-in_err-next-in-Some-clause-looks g c =
-    let loop = c.loop-turn in
-    let till = looks_then g.D.Device ⊥ (c.read_row.result ≡ Err Device) ⊥ c.args.pages.now loop.pages
-    c.read_row.new.pages c.args.device.now loop.device c.read_row.new.device (λ is. absurd is) loop.invariant.looks
-    c.read_row.ensures.looks in
+    let till = row_looks g (goal.at.returns-in_err-next-in-Some-clause-looks g c).After-read_row in
     looks_then g.D.Device ⊥ (c.next_in.result ≡ Err Device) _ c.args.pages.now c.read_row.new.pages
     c.next_in.new.pages c.args.device.now c.read_row.new.device c.next_in.new.device
     (λ is. let from =
@@ -162,12 +122,6 @@ returns-in_err-next-in-Some-clause-damaged g c = λ honest agrees levels holds r
     let from = rw refused at c.from_residual-in_err-next-in-Some.ensures.1 in
     let fault : c.in_err-next-in-Some.field-0.0 ≡ Damaged = sym from in
     let told : c.next_in.result ≡ Err Damaged = c.in_err-next-in-Some.was ∙ ap Err fault in
-    let loop = c.loop-turn in
-    let till = looks_then g.D.Device ⊥ (c.read_row.result ≡ Err Device) ⊥ c.args.pages.now loop.pages
-    c.read_row.new.pages c.args.device.now loop.device c.read_row.new.device (λ is. absurd is) loop.invariant.looks
-    c.read_row.ensures.looks in
-    let same = pages_kept g.D.Device ⊥ c.args.pages.now c.read_row.new.pages c.args.device.now c.read_row.new.device
-    till honest in
-    let there_now = subst (λ (p : List (Option Sector)).
-    IsTreeOrEmpty c.args.tree.now.layout p c.args.tree.now.root levels) (sym same) holds in
-    c.next_in.ensures.damaged (till.only.honest.0 honest) (till.agrees honest agrees) told levels there_now
+    on_tree_before g.D.Device (λ pages l. ⊥)
+    (row_looks g (goal.at.returns-in_err-next-in-Some-clause-damaged g c).After-read_row)
+    (λ still same l there. c.next_in.ensures.damaged still same told l there) honest agrees levels holds

@@ -1,6 +1,5 @@
 use Rattle.std.proofs.Common.{◌≡◌, ◌≤◌, ◌^◌, false, Bool, List, Err, length, refl, sym, ap, subst, ◌∙◌, arith}
 use Rattle.std.proofs.lemmas.List.{length-replicate, with_items_is}
-use Rattle.std.specs.Vec.{with_items}
 use Rattle.pages.specs.Image.{Map}
 use Rattle.pages.specs.Pages.{map_now}
 use Rattle.records.specs.declared.fault.StoreFault.TheVariants.{Damaged}
@@ -10,7 +9,29 @@ use Rattle.file_bytes.specs.declared.stored.StoredFile.{StoredFile}
 use Rattle.file_bytes.specs.Stored.{files_of}
 use Rattle.file_recovery.proofs.Covering.{NoneMarked}
 use Rattle.file_recovery.proofs.ReadTrees.{none_marked, catalog_is_held, none_is_held, stray_is_held, long_is_held}
+use Rattle.file_recovery.proofs.recovering.read_volume.Given.{Over}
 use Rattle.file_recovery.proofs.recovering.read_volume.Goals as goal
+use Rattle.file_recovery.proofs.recovering.read_volume.Goals.{After-read_catalog, After-are_covered}
+
+-- no page is marked before the catalog is read
+none_yet : (g : Over) (c : After-read_catalog g) → NoneMarked c.deref_mut.result.now
+none_yet g c = subst NoneMarked
+    (sym (c.deref_mut.ensures.value ∙ c.in_ok-seen.ensures.items_if_clones_equal (λ y is. is)))
+    (none_marked c.page_count.result)
+
+-- how many pages there are
+small_map : (g : Over) (c : After-read_catalog g)
+    → length (map_now c.args.pages.now (g.D.Device.state c.args.device.now).disk.present).pages ≤ 2 ^ 20
+small_map g c =
+    let few = c.page_count.ensures.few c.requires.open c.requires.unspent in
+    let counted = c.page_count.ensures.count in
+    let many = c.page_count.ensures.pages (g.D.Device.state c.args.device.now).disk.present in
+    omega (arith, few, counted, many)
+
+-- the marks that the catalog's files left
+marks_after : (g : Over) (c : After-are_covered g) → c.deref.result.now ≡ c.read_catalog.new.seen
+marks_after g c = c.deref.ensures.value
+    ∙ with_items_is c.in_ok-seen.seen c.read_catalog.new.seen (c.read_catalog.auto.seen ∙ c.deref_mut.ensures.len)
 
 pub returns-in_err-files-clause-damaged : goal.returns-in_err-files-clause-damaged
 returns-in_err-files-clause-damaged g c = λ honest agrees told files holds.
@@ -19,56 +40,35 @@ returns-in_err-files-clause-damaged g c = λ honest agrees told files holds.
     let from = rw told at c.from_residual-in_err-files.ensures.1 in
     let fault : c.in_err-files.field-0.0 ≡ Damaged = sym from in
     let refused : c.read_catalog.result ≡ Err Damaged = c.in_err-files.was ∙ ap Err fault in
-    let filled = c.in_ok-seen.ensures.items_if_clones_equal (λ y is. is) in
-    let old : List Bool = c.deref_mut.result.now in
-    let none : NoneMarked old =
-    subst NoneMarked (sym (c.deref_mut.ensures.value ∙ filled)) (none_marked c.page_count.result) in
-    let many : length old ≡ length m.pages =
-    ap (λ (l : List Bool). length l) (c.deref_mut.ensures.value ∙ filled) ∙ length-replicate c.page_count.result false
-    ∙ c.page_count.ensures.count ∙ sym (c.page_count.ensures.pages image) in
-    none_is_held m m refl c.generation.result (c.generation.ensures.is image) old none many
+    let many : length c.deref_mut.result.now ≡ length m.pages = ap (λ (l : List Bool). length l)
+    (c.deref_mut.ensures.value ∙ c.in_ok-seen.ensures.items_if_clones_equal (λ y is. is))
+    ∙ length-replicate c.page_count.result false ∙ c.page_count.ensures.count
+    ∙ sym (c.page_count.ensures.pages image) in
+    none_is_held m m refl c.generation.result (c.generation.ensures.is image) c.deref_mut.result.now
+    (none_yet g (goal.at.returns-in_err-files-clause-damaged g c).After-read_catalog) many
     (c.read_catalog.ensures.damaged honest agrees refused) files holds
 
 pub returns-then-not-are_covered-clause-damaged : goal.returns-then-not-are_covered-clause-damaged
 returns-then-not-are_covered-clause-damaged g c = λ honest agrees told files holds.
+    let to = goal.at.returns-then-not-are_covered-clause-damaged g c in
     let image = (g.D.Device.state c.args.device.now).disk.present in
-    let m : Map = map_now c.args.pages.now image in
     let after : Map = map_now c.read_catalog.new.pages image in
-    let filled = c.in_ok-seen.ensures.items_if_clones_equal (λ y is. is) in
-    let old : List Bool = c.deref_mut.result.now in
-    let new : List Bool = c.read_catalog.new.seen in
-    let none : NoneMarked old =
-    subst NoneMarked (sym (c.deref_mut.ensures.value ∙ filled)) (none_marked c.page_count.result) in
-    let few = c.page_count.ensures.few c.requires.open c.requires.unspent in
-    let counted = c.page_count.ensures.count in
-    let many = c.page_count.ensures.pages image in
-    let small : length m.pages ≤ 2 ^ 20 = omega (arith, few, counted, many) in
-    let kept : (with_items c.in_ok-seen.seen new).items ≡ new =
-    with_items_is c.in_ok-seen.seen new (c.read_catalog.auto.seen ∙ c.deref_mut.ensures.len) in
-    let marked : c.deref.result.now ≡ new = c.deref.ensures.value ∙ kept in
-    stray_is_held m after (c.read_catalog.ensures.looks.unchanged.map image)
-    c.generation.result (c.generation.ensures.is image) old none (files_of c.in_ok-files.files.items) new small
+    stray_is_held (map_now c.args.pages.now image) after (c.read_catalog.ensures.looks.unchanged.map image)
+    c.generation.result (c.generation.ensures.is image) c.deref_mut.result.now (none_yet g to.After-read_catalog)
+    (files_of c.in_ok-files.files.items) c.read_catalog.new.seen (small_map g to.After-read_catalog)
     (c.in_ok-files.ensures.files honest agrees)
     (λ covered. c.are_covered.ensures.no c.if-not-are_covered.true image
-    (subst (λ (l : List Bool). IsCovered after.pages l) (sym marked) covered)) files holds
+    (subst (λ (l : List Bool). IsCovered after.pages l) (sym (marks_after g to.After-are_covered)) covered)) files holds
 
 pub returns-then-may_hold-clause-holds : goal.returns-then-may_hold-clause-holds
 returns-then-may_hold-clause-holds g c = λ honest agrees.
+    let to = goal.at.returns-then-may_hold-clause-holds g c in
     let image = (g.D.Device.state c.args.device.now).disk.present in
-    let m : Map = map_now c.args.pages.now image in
     let after : Map = map_now c.read_catalog.new.pages image in
-    let filled = c.in_ok-seen.ensures.items_if_clones_equal (λ y is. is) in
-    let old : List Bool = c.deref_mut.result.now in
-    let new : List Bool = c.read_catalog.new.seen in
-    let none : NoneMarked old =
-    subst NoneMarked (sym (c.deref_mut.ensures.value ∙ filled)) (none_marked c.page_count.result) in
-    let kept : (with_items c.in_ok-seen.seen new).items ≡ new =
-    with_items_is c.in_ok-seen.seen new (c.read_catalog.auto.seen ∙ c.deref_mut.ensures.len) in
-    let marked : c.deref.result.now ≡ new = c.deref.ensures.value ∙ kept in
-    catalog_is_held m after (c.read_catalog.ensures.looks.unchanged.map image)
-    c.generation.result (c.generation.ensures.is image) old none (files_of c.in_ok-files.files.items) new
-    (c.in_ok-files.ensures.files honest agrees)
-    (subst (λ (l : List Bool). IsCovered after.pages l) marked
+    catalog_is_held (map_now c.args.pages.now image) after (c.read_catalog.ensures.looks.unchanged.map image)
+    c.generation.result (c.generation.ensures.is image) c.deref_mut.result.now (none_yet g to.After-read_catalog)
+    (files_of c.in_ok-files.files.items) c.read_catalog.new.seen (c.in_ok-files.ensures.files honest agrees)
+    (subst (λ (l : List Bool). IsCovered after.pages l) (marks_after g to.After-are_covered)
     (c.are_covered.ensures.yes c.if-not-are_covered.false image))
     (λ first. subst (λ (l : List StoredFile). AreShort (files_of l)) c.deref-2.ensures.value
     (c.may_hold.ensures.yes c.if-may_hold.true
@@ -76,20 +76,11 @@ returns-then-may_hold-clause-holds g c = λ honest agrees.
 
 pub returns-clause-damaged : goal.returns-clause-damaged
 returns-clause-damaged g c = λ honest agrees told files holds.
+    let to = (goal.at.returns-clause-damaged g c).After-read_catalog in
     let image = (g.D.Device.state c.args.device.now).disk.present in
-    let m : Map = map_now c.args.pages.now image in
-    let after : Map = map_now c.read_catalog.new.pages image in
-    let filled = c.in_ok-seen.ensures.items_if_clones_equal (λ y is. is) in
-    let old : List Bool = c.deref_mut.result.now in
-    let new : List Bool = c.read_catalog.new.seen in
-    let none : NoneMarked old =
-    subst NoneMarked (sym (c.deref_mut.ensures.value ∙ filled)) (none_marked c.page_count.result) in
-    let few = c.page_count.ensures.few c.requires.open c.requires.unspent in
-    let counted = c.page_count.ensures.count in
-    let many = c.page_count.ensures.pages image in
-    let small : length m.pages ≤ 2 ^ 20 = omega (arith, few, counted, many) in
-    long_is_held m after (c.read_catalog.ensures.looks.unchanged.map image)
-    c.generation.result (c.generation.ensures.is image) old none (files_of c.in_ok-files.files.items) new small
+    long_is_held (map_now c.args.pages.now image) (map_now c.read_catalog.new.pages image)
+    (c.read_catalog.ensures.looks.unchanged.map image) c.generation.result (c.generation.ensures.is image)
+    c.deref_mut.result.now (none_yet g to) (files_of c.in_ok-files.files.items) c.read_catalog.new.seen (small_map g to)
     (c.in_ok-files.ensures.files honest agrees)
     (λ short. c.may_hold.ensures.no c.if-may_hold.false
     (λ first. subst (λ (l : List StoredFile). AreShort (files_of l)) (sym c.deref-2.ensures.value)

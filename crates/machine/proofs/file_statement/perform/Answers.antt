@@ -1,19 +1,21 @@
-use Rattle.std.proofs.Common.{◌≡◌, ◌∙◌, List, ℕ, length, sym, ap, subst, inl, true, Ok, Err, Option}
+use Rattle.std.proofs.Common.{◌≡◌, ◌∙◌, List, ℕ, length, sym, ap, subst, inl, Ok, Err}
 use Rattle.std.specs.Prelude.{slice_set}
 use Rattle.records.specs.declared.status.Status.{Status}
+use Rattle.records.specs.Files.{Files}
 use Rattle.records.specs.Steps.{Step}
-use Rattle.records.specs.FileStep.{makes_file, has_changed, area, entry_at, IsStep, Suits}
-use Rattle.records.specs.Spec.{is_spec}
+use Rattle.records.specs.FileStep.{makes_file, has_changed, entry_at}
 use Rattle.records.specs.Connector.{Entry, Connector}
 use Rattle.records.specs.Calls.{ChangesFiles}
-use Rattle.source_tree.specs.ProgramFiles.{FilePlaces}
+use Rattle.source_tree.specs.ProgramFiles.{FilePlaces, digits_at}
 use Rattle.source_tree.specs.FileStatements.{step_by, area_of}
-use Rattle.file_image.specs.Files.{places_of}
+use Rattle.file_image.specs.Files.{places_of, place_at}
 use Rattle.machine.proofs.Counters.{now_has}
 use Rattle.machine.proofs.Table.{StaysOrFits}
-use Rattle.machine.proofs.Stored.{status_as_long, number_as_long, taken_back, back_lengths, step_of, step_number_fits}
-use Rattle.machine.proofs.Stored.{storage_left, entry_digits}
+use Rattle.machine.proofs.Stored.{status_as_long, number_as_long, taken_back, back_lengths, step_of}
+use Rattle.machine.proofs.Stored.{item_number_fits, step_done}
+use Rattle.machine.proofs.file_statement.perform.Given.{Over}
 use Rattle.machine.proofs.file_statement.perform.Goals as goal
+use Rattle.machine.proofs.file_statement.perform.Goals.{After-exchange-2, After-perform-performed}
 
 pub returns-in-Err-clause-lengths : goal.returns-in-Err-clause-lengths
 returns-in-Err-clause-lengths g c =
@@ -84,41 +86,36 @@ returns-in-Ok-clause-lengths g c =
     c.perform-performed.new.bytes c.exchange.ensures.area takes
     (c.as_mut_slice.ensures.value ∙ c.exchange.ensures.bytes) c.perform-performed.auto.bytes
 
+-- the areas after the record area was taken back
+area_back : (g : Over) (c : After-exchange-2 g) → c.exchange-2.new.self
+    ≡ slice_set c.exchange.new.self c.args.one.now.area c.perform-performed.new.bytes
+area_back g c =
+    let long = c.perform-performed.auto.bytes ∙ ap length c.as_mut_slice.ensures.value in
+    c.exchange-2.ensures.area ∙ ap (slice_set c.exchange.new.self c.args.one.now.area)
+    (now_has c.exchange.new.bytes c.perform-performed.new.bytes long)
+
+-- the number after the step
+number_after : (g : Over) (c : After-perform-performed g) (files : Files)
+    → StaysOrFits (digits_at (place_at c.args.tables.now c.args.one.now.relative_key))
+    (area_of (places_of c.args.tables.now c.args.file.number c.args.one.now) c.args.areas.now).number
+    (step_by (g.F.FileVerbs.entries c.args.verbs.now)
+    (places_of c.args.tables.now c.args.file.number c.args.one.now) c.args.verb files
+    (g.F.FileVerbs.connectors c.args.verbs.now) c.args.areas.now).area.number
+number_after g c files = item_number_fits c.args.tables.now (g.F.FileVerbs.entries c.args.verbs.now) c.args.one.now
+    c.args.file.number c.args.verb files (g.F.FileVerbs.connectors c.args.verbs.now) c.args.areas.now c.requires.entry
+    c.requires.spec c.requires.verb
+
 pub returns-in-Ok-clause-did : goal.returns-in-Ok-clause-did
 returns-in-Ok-clause-did g c = λ files stands.
-    let long = c.perform-performed.auto.bytes ∙ ap length c.as_mut_slice.ensures.value in
-    let takes : c.exchange-2.new.self
-    ≡ slice_set c.exchange.new.self c.args.one.now.area c.perform-performed.new.bytes =
-    c.exchange-2.ensures.area ∙ ap (slice_set c.exchange.new.self c.args.one.now.area)
-    (now_has c.exchange.new.bytes c.perform-performed.new.bytes long) in
-    let entries : List Entry = g.F.FileVerbs.entries c.args.verbs.now in
-    let connectors : List Connector = g.F.FileVerbs.connectors c.args.verbs.now in
-    let places : FilePlaces = places_of c.args.tables.now c.args.file.number c.args.one.now in
-    let is = step_of entries places c.args.verb files connectors c.args.areas.now c.as_mut_slice.result.now
-    c.relative_number-old.result
-    (c.as_mut_slice.ensures.value ∙ c.exchange.ensures.bytes) c.relative_number-old.ensures in
-    let did = step_by entries places c.args.verb files connectors c.args.areas.now in
-    let does = subst (λ (s : Step).
-    IsStep connectors c.args.file.number s c.in-Ok.status (g.F.FileVerbs.connectors c.perform-performed.new.self)
-    (area c.perform-performed.new.bytes c.perform-performed.new.number)) is (c.in-Ok.ensures.step files (inl stands)) in
-    let fits =
-    subst (λ (digits : Option ℕ). StaysOrFits digits (area_of places c.args.areas.now).number did.area.number)
-    (entry_digits c.args.tables.now c.args.one.now (entry_at entries c.args.file.number) c.requires.entry)
-    (step_number_fits entries places c.args.verb files connectors c.args.areas.now
-    (subst (λ (e : Entry). is_spec e.spec ≡ true) (sym c.requires.entry) c.requires.spec)
-    (subst (λ (e : Entry). Suits e c.args.verb) (sym c.requires.entry) c.requires.verb)) in
-    record {
-      status_is = does.status_is;
-      connectors_are = does.connectors_are;
-      storage_is =
-          storage_left places did c.in-Ok.status c.args.areas.now c.exchange-2.new.self c.leave.new.areas
-          c.relative_number-old.result c.perform-performed.new.number
-          c.perform-performed.new.bytes c.relative_number-old.ensures does.area_is does.status_is
-          (taken_back c.args.areas.now c.exchange.new.self c.exchange-2.new.self c.args.one.now.area
-          c.args.bytes.now.items c.as_mut_slice.result.now
-          c.perform-performed.new.bytes c.exchange.ensures.area takes)
-          c.leave.ensures.stores fits;
-    }
+    let to = goal.at.returns-in-Ok-clause-did g c in
+    step_done (step_of (g.F.FileVerbs.entries c.args.verbs.now)
+    (places_of c.args.tables.now c.args.file.number c.args.one.now) c.args.verb files
+    (g.F.FileVerbs.connectors c.args.verbs.now) c.args.areas.now c.as_mut_slice.result.now c.relative_number-old.result
+    (c.as_mut_slice.ensures.value ∙ c.exchange.ensures.bytes) c.relative_number-old.ensures)
+    (c.in-Ok.ensures.step files (inl stands)) c.relative_number-old.ensures
+    (taken_back c.args.areas.now c.exchange.new.self c.exchange-2.new.self c.args.one.now.area c.args.bytes.now.items
+    c.as_mut_slice.result.now c.perform-performed.new.bytes c.exchange.ensures.area (area_back g to.After-exchange-2))
+    c.leave.ensures.stores (number_after g to.After-perform-performed files)
 
 pub returns-in-Ok-clause-turns : goal.returns-in-Ok-clause-turns
 returns-in-Ok-clause-turns g c = λ files stands.

@@ -1,15 +1,15 @@
-use Rattle.std.proofs.Common.{◌≡◌, ◌<◌, ℕ, List, sym, ◌∙◌, ap, subst, arith}
+use Rattle.std.proofs.Common.{◌<◌, ℕ, List, refl, sym, ◌∙◌, ap, subst, arith}
 use Rattle.station.specs.Blocks.{SectorsAre}
 use Rattle.station.specs.declared.blocks.Block.{Block}
 use Rattle.station.proofs.Spans.{stays, weakens}
 use Rattle.pages.specs.Layout.{version_of}
-use Rattle.pages.specs.Image.{names}
 use Rattle.pages.specs.Plan.{IsPlan}
 use Rattle.pages.specs.Changes.{next_map}
-use Rattle.pages.specs.Use.{IsUse, use_after}
+use Rattle.pages.specs.Use.{use_after}
 use Rattle.pages.specs.Image.{map_of}
 use Rattle.pages.specs.Volumes.{volume_of}
 use Rattle.pages.proofs.Committed.{at_rest, amid_maps_as, now_committed, now_is_as}
+use Rattle.pages.proofs.Stages.{sound_marked}
 use Rattle.pages.proofs.commit.commit_volume.Goals as goal
 
 pub two_phase_write-requires-clause-blocks : goal.two_phase_write-requires-clause-blocks
@@ -79,20 +79,7 @@ returns-clause-map g c = λ honest rests.
     (g.D.Device.state c.two_phase_write.new.device).disk (c.in_ok-two_phase_write.ensures.durable honest)
 
 pub returns-clause-sound : goal.returns-clause-sound
-returns-clause-sound g c =
-    let after = c.in_ok-draft.ensures.sound in
-    let marked : c.mark_turns.new.used ≡ use_after c.next_volume.new.volume.used c.in_ok-draft.draft.turns.items =
-    c.mark_turns.ensures.used ∙ ap (use_after c.next_volume.new.volume.used) c.deref-2.ensures.value in
-    record {
-      generation = after.generation;
-      least = after.least;
-      most = after.most;
-      maps_count = after.maps_count;
-      count = after.count;
-      places = after.places;
-      once = after.once;
-      unused = after.unused;
-      in_use = subst (IsUse c.next_volume.new.volume.sectors (names (volume_of c.next_volume.new.volume))) (sym marked)
-          after.in_use;
-      free = c.mark_turns.ensures.free;
-    }
+returns-clause-sound g c = sound_marked c.next_volume.new.volume _ c.in_ok-draft.draft.turns.items
+    c.in_ok-draft.ensures.sound refl refl refl refl
+    (c.mark_turns.ensures.used ∙ ap (use_after c.next_volume.new.volume.used) c.deref-2.ensures.value)
+    c.mark_turns.ensures.free

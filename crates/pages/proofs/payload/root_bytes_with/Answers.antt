@@ -13,7 +13,8 @@ returns c =
       generation = c.args.generation;
       sectors = c.args.sectors;
       payload = payload;
-    }) (version_of c.args.mark) c.args.catalog c.args.maps.now payload c.put_head.new.bytes refl (version_low c.args.mark) refl
+    }) (version_of c.args.mark) c.args.catalog c.args.maps.now payload c.put_head.new.bytes refl
+    (version_low c.args.mark) refl
     c.payload_bytes-bytes.ensures c.requires.generation c.requires.least c.requires.most c.requires.maps
     (c.put_head.ensures
     ∙ ap (λ (m : List ℕ). m ++ big_bytes 8 c.args.generation ++ big_bytes 4 c.args.sectors ++ payload)

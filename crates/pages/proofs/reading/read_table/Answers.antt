@@ -1,10 +1,8 @@
-use Rattle.std.proofs.Common.{◌≡◌, ◌<◌, ◌∙◌, length, get_or, ap, arith, length-append}
+use Rattle.std.proofs.Common.{◌≡◌, ◌<◌, ◌∙◌, length, ap, arith, length-append}
 use Rattle.std.specs.Prelude.{Err, Ok}
-use Rattle.station.specs.State.{State}
 use Rattle.station.proofs.Calls.{reads_then}
-use Rattle.pages.specs.Image.{map_at}
 use Rattle.pages.specs.declared.error.PagesError.TheVariants.{Device}
-use Rattle.pages.proofs.Tables.{table_next}
+use Rattle.pages.proofs.Tables.{table_read}
 use Rattle.pages.proofs.reading.read_table.Goals as goal
 
 pub loop-map-preserved : goal.loop-map-preserved
@@ -17,10 +15,8 @@ loop-map-preserved g c =
           c.read_map.new.device (λ e. absurd e) before.only here.only;
       count = ap length c.in_ok-extend_from_slice.ensures.items
           ∙ omega (arith, before.count, here.count, length-append c.loop-map.table.items c.in_ok-entries.entries);
-      entries = λ h. table_next (g.D.Device.state c.args.device.now).disk.present c.args.maps.now c.loop-map.table.items
-          c.in_ok-entries.entries c.extend_from_slice.new.self.items c.loop-map.map-index 0
-          before.count here.count lt (before.entries h)
-          (here.entries (before.only.honest.0 h)
-          ∙ ap (λ (s : State). map_at s.disk.present (get_or c.args.maps.now c.loop-map.map-index 0))
-          (before.only.state h)) c.in_ok-extend_from_slice.ensures.items;
+      entries = λ h. table_read (g.D.Device.state c.args.device.now) (g.D.Device.state c.loop-map.device)
+          c.args.maps.now c.loop-map.table.items c.in_ok-entries.entries c.extend_from_slice.new.self.items
+          c.loop-map.map-index (before.only.state h) before.count here.count lt (before.entries h)
+          (here.entries (before.only.honest.0 h)) c.in_ok-extend_from_slice.ensures.items;
     }

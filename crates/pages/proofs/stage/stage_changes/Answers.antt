@@ -1,39 +1,25 @@
-use Rattle.std.proofs.Common.{Bool, ◌≡◌, ◌+◌, ◌++◌, ◌∷◌, [], true, get_or, ap, ◌∙◌, ◌<◌, List, take, take_all, length}
-use Rattle.std.proofs.Common.{subst, sym, arith}
-use Rattle.std.proofs.lemmas.List.{take_more}
+use Rattle.std.proofs.Common.{Bool, ◌≡◌, true, get_or, ap, ◌∙◌, ◌<◌, List, take, take_all, length, subst, sym, arith}
 use Rattle.std.specs.Prelude.{is_some}
-use Rattle.pages.specs.Volumes.{unused_below, IsDraft, IsCounted}
+use Rattle.pages.specs.Volumes.{unused_below, IsCounted}
 use Rattle.pages.specs.declared.change.Change.{Change}
 use Rattle.pages.proofs.Drafts.{same_size_then}
 use Rattle.pages.proofs.Counting.{front_lt}
-use Rattle.pages.proofs.Taking.{front_away}
-use Rattle.pages.proofs.Edits.{Away}
+use Rattle.pages.proofs.Stages.{next_change}
 use Rattle.pages.proofs.stage.stage_changes.Goals as goal
 
 pub loop-change-preserved : goal.loop-change-preserved
 loop-change-preserved c =
     let before = c.loop-change.invariant in
     let here = c.in_ok-stage_change.ensures in
-    let i = c.loop-change.change-index in
-    let changes = c.args.changes.now in
-    let item = c.change-item.result in
-    let is : item ≡ get_or changes i item = c.change-item.is in
-    let lt : i < length changes = omega arith in
-    let some : 0 < item.page = omega (arith, ap (λ (x : Change). x.page) is, (c.requires.pages i item lt).0) in
-    let next : take i changes ++ item ∷ [] ≡ take (i + 1) changes =
-    ap (λ (x : Change). take i changes ++ x ∷ []) is ∙ sym (take_more changes i item lt) in
+    let next = next_change c.args.changes.now c.loop-change.change-index _ c.change-item.result (omega arith)
+    c.change-item.is c.requires.pages in
     record {
       size = same_size_then c.args.volume.now c.loop-change.volume c.stage_change.new.volume before.size here.size;
       maps = here.maps ∙ before.maps;
       start = here.start ∙ before.start;
       changed_maps = here.changed_maps ∙ before.changed_maps;
-      staged =
-          λ v draft. subst (λ (l : List Change). IsDraft v c.stage_change.new.volume c.stage_change.new.draft l) next
-          (here.staged v (take i changes) some (before.staged v draft));
-      counted = λ v once start.
-          subst (λ (l : List Change). IsCounted v c.stage_change.new.volume c.stage_change.new.draft l 0) next
-          (here.counted v (take i changes) 0 (subst (λ (x : Change). Away x.page (take i changes)) (sym is)
-          (front_away changes i item once (c.requires.pages i item lt).0 lt)) (before.counted v once start));
+      staged = λ v draft. rw (sym next.is) (here.staged v _ next.some (before.staged v draft));
+      counted = λ v once start. rw (sym next.is) (here.counted v _ 0 (next.away once) (before.counted v once start));
     }
 
 pub returns-clause-counted : goal.returns-clause-counted

@@ -1,6 +1,5 @@
 use Rattle.std.proofs.Common.{◌≡◌, inr, Err, List, [], ℕ, length, sym, ap, subst, ◌∙◌, arith}
-use Rattle.std.specs.Prelude.{Option, Some, None, IfErr, IfSome}
-use Rattle.station.specs.Disk.{Sector}
+use Rattle.std.specs.Prelude.{Option, None, IfErr, IfSome}
 use Rattle.byteorder.specs.Endian.{big_number}
 use Rattle.pages.specs.declared.error.PagesError.TheVariants.{Device}
 use Rattle.btree.specs.Changes.{pages_of_map}
@@ -8,19 +7,18 @@ use Rattle.btree.specs.Entries.{Entry, HasLengths, first_entry_after}
 use Rattle.btree.specs.Moves.{Moves}
 use Rattle.btree.specs.Refusals.{IsChangeRefusal}
 use Rattle.btree.proofs.Passing.{passed, never_ok, still_error, search_is_change, sectors_on, damaged_not_device}
-use Rattle.btree.specs.Tree.{TreeNode, IsTreeOrEmpty}
-use Rattle.chains.specs.Chain.{pages_for}
-use Rattle.chains.specs.Chain as chain
 use Rattle.volume_format.proofs.Looks.{looks_then}
 use Rattle.row_trees.specs.Calls.{EditsPages}
 use Rattle.row_trees.proofs.Among.{chained, chains_alone, stands_alone, stored_in}
-use Rattle.row_trees.proofs.Calling.{looks_by, looks_edits, edits_by, edits_where, edits_last, refused_by_call}
-use Rattle.row_trees.proofs.Calling.{pages_told}
+use Rattle.row_trees.proofs.Calling.{looks_by, looks_edits, edits_by, edits_where, edits_last, edits_more}
+use Rattle.row_trees.proofs.Calling.{refused_by_call}
 use Rattle.row_trees.proofs.Forms.{fits_long}
 use Rattle.row_trees.proofs.Releasing.{Releasing, releases_some, releases_end}
-use Rattle.row_trees.proofs.ReleasedRows.{releases_first, chain_next, chain_gone, tree_next, releases_next}
+use Rattle.row_trees.proofs.ReleasedRows.{NextRow, releases_begin, next_never, gone_never, released_next}
 use Rattle.row_trees.proofs.TakenRows.{read_tells}
+use Rattle.row_trees.proofs.clearing.release_chains.Given.{Over}
 use Rattle.row_trees.proofs.clearing.release_chains.Goals as goal
+use Rattle.row_trees.proofs.clearing.release_chains.Goals.{After-release}
 
 pub loop-place-init : goal.loop-place-init
 loop-place-init g c =
@@ -31,51 +29,47 @@ loop-place-init g c =
     record {
       edits = looks_edits g.D.Device ⊥ _ _ _ _
           (looks_then g.D.Device _ _ ⊥ _ _ _ _ _ _ (λ never. absurd never) counted looked);
-      filled = let a = one.unchanged.filled in let b = two.unchanged.filled in omega (arith, a, b);
+      filled = omega (arith, one.unchanged.filled, two.unchanged.filled);
       lengths = c.in_ok-next.ensures.lengths;
+      rest = releases_begin g.D.Device counted looked c.in_ok-next.ensures.entry;
+    }
+
+-- the chain of the next entry is there
+next_row : (g : Over) (c : After-release g) → NextRow g.D.Device c.args.pages.now c.loop-place.pages c.args.device.now
+    c.loop-place.device (chained c.args.tree.now c.args.record_bytes) c.loop-place.place c.in-Some.entry
+    c.first_page.result
+next_row g c = let invariant = c.loop-place.invariant in
+    record {
+      edits = invariant.edits;
       rest = λ honest agrees planted is.
           let image = (g.D.Device.state c.args.device.now).disk.present in
-          let rows = chained c.args.tree.now c.args.record_bytes in
-          releases_first g.D.Device _ _ c.args.pages.now c.count.new.pages c.first.new.pages c.args.device.now
-          c.count.new.device c.first.new.device rows planted.levels c.in_ok-next.next counted looked
-          c.in_ok-next.ensures.entry honest agrees
-          (stands_alone (pages_of_map c.args.pages.now image) rows planted is);
+          subst (Releasing (pages_of_map c.args.pages.now image) (chained c.args.tree.now c.args.record_bytes)
+          planted.levels (pages_of_map c.loop-place.pages image) c.loop-place.place) c.in-Some.is
+          (invariant.rest honest agrees planted is);
+      first_is = c.first_page.ensures ∙ ap (big_number 4) c.value.ensures;
+      long = c.requires.chains;
     }
+
+-- and what is changed when it is released
+released : (g : Over) (c : After-release g) → EditsPages g.D.Device ⊥ c.args.pages.now c.args.device.now
+    c.release.new.pages c.release.new.device
+released g c = let rel = c.release.ensures in
+    edits_more g.D.Device _ _ _ _ _ _ _ c.loop-place.invariant.edits
+    (edits_by g.D.Device _ _ _ _ _ rel.only rel.committed rel.catalog rel.agrees rel.open)
 
 pub loop-place-preserved : goal.loop-place-preserved
 loop-place-preserved g c =
-    let loop = c.loop-place in
-    let invariant = loop.invariant in
-    let rel = c.release.ensures in
+    let at = (goal.at.loop-place-preserved g c).After-release in
     let nxt = c.next.ensures in
     record {
-      edits = edits_last g.D.Device _ _ ⊥ _ _ _ _ _ _ (λ never. absurd never)
-          (edits_last g.D.Device ⊥ _ ⊥ _ _ _ _ _ _ (λ never. absurd never) invariant.edits
-          (edits_by g.D.Device _ _ _ _ _ rel.only rel.committed rel.catalog rel.agrees rel.open))
-          (looks_edits g.D.Device _ _ _ _ _
+      edits = edits_more g.D.Device _ _ _ _ _ _ _ (released g at) (looks_edits g.D.Device _ _ _ _ _
           (looks_by g.D.Device _ _ _ _ _ nxt.only nxt.unchanged nxt.agrees nxt.open));
-      filled = let a = invariant.filled in let b = rel.filled in let e = nxt.unchanged.filled in omega (arith, a, b, e);
+      filled = omega (arith, c.loop-place.invariant.filled, c.release.ensures.filled, nxt.unchanged.filled);
       lengths = c.in_ok-next-2.ensures.lengths;
-      rest = λ honest agrees planted is.
-          let image = (g.D.Device.state c.args.device.now).disk.present in
-          let before = pages_of_map c.args.pages.now image in
-          let rows = chained c.args.tree.now c.args.record_bytes in
-          let levels = planted.levels in
-          let state : Releasing before rows levels (pages_of_map loop.pages image) loop.place (Some c.in-Some.entry) =
-          subst (Releasing before rows levels (pages_of_map loop.pages image) loop.place) c.in-Some.is
-          (invariant.rest honest agrees planted is) in
-          let first_is = c.first_page.ensures ∙ ap (big_number 4) c.value.ensures in
-          let rel = c.release.ensures in
-          let edits = edits_last g.D.Device ⊥ _ ⊥ _ _ _ _ _ _ (λ never. absurd never) invariant.edits
-          (edits_by g.D.Device _ _ _ _ _ rel.only rel.committed rel.catalog rel.agrees rel.open) in
-          let gone =
-          chain_gone g.D.Device ⊥ before loop.pages c.release.new.pages c.args.device.now loop.device rows levels
-          loop.place c.in-Some.entry c.first_page.result invariant.edits.only c.in_ok-release.ensures.released
-          c.requires.chains first_is honest (invariant.edits.agrees honest agrees) state in
-          releases_next g.D.Device ⊥ before loop.pages c.release.new.pages c.next.new.pages c.args.device.now
-          c.release.new.device rows levels loop.place c.in-Some.entry _ edits.only (λ h a levels tree.
-          c.in_ok-next-2.ensures.entry h a levels tree ∙ ap (first_entry_after (stored_in rows levels)) c.key.ensures)
-          nxt.unchanged c.requires.chains honest (edits.agrees honest agrees) state gone;
+      rest = released_next g.D.Device (next_row g at) c.in_ok-release.ensures.released (released g at)
+          (λ h a levels tree. c.in_ok-next-2.ensures.entry h a levels tree
+          ∙ ap (first_entry_after (stored_in (chained c.args.tree.now c.args.record_bytes) levels)) c.key.ensures)
+          nxt.unchanged;
     }
 
 -- What the calls require.
@@ -200,24 +194,9 @@ returns-in_err-release-clause-edits g c =
     (edits_by g.D.Device _ _ _ _ _ rel.only rel.committed rel.catalog rel.agrees rel.open))
 
 pub returns-in_err-release-clause-damaged : goal.returns-in_err-release-clause-damaged
-returns-in_err-release-clause-damaged g c = λ honest agrees planted is told.
-    let image = (g.D.Device.state c.args.device.now).disk.present in
-    let before = pages_of_map c.args.pages.now image in
-    let rows = chained c.args.tree.now c.args.record_bytes in
-    let levels = planted.levels in
-    let loop = c.loop-place in
-    let invariant = loop.invariant in
-    let state : Releasing before rows levels (pages_of_map loop.pages image) loop.place (Some c.in-Some.entry) =
-    subst (Releasing before rows levels (pages_of_map loop.pages image) loop.place) c.in-Some.is
-    (invariant.rest honest agrees planted is) in
-    let first_is = c.first_page.ensures ∙ ap (big_number 4) c.value.ensures in
-    let damaged = refused_by_call c.in_err-release.was c.from_residual-in_err-release.ensures.1 told in
-    let claim : List (Option Sector) → Type 0 = λ l.
-    chain.Stands l (pages_for c.args.record_bytes) c.first_page.result → ⊥ in
-    pages_told g.D.Device ⊥ loop.pages c.args.device.now loop.device claim honest invariant.edits.only
-    (invariant.edits.agrees honest agrees) (λ h a. c.release.ensures.damaged h a damaged)
-    (chain_next g.D.Device before loop.pages c.args.device.now rows levels loop.place c.in-Some.entry
-    c.first_page.result c.requires.chains first_is state)
+returns-in_err-release-clause-damaged g c =
+    next_never g.D.Device (next_row g (goal.at.returns-in_err-release-clause-damaged g c).After-release)
+    c.release.ensures.damaged (refused_by_call c.in_err-release.was c.from_residual-in_err-release.ensures.1)
 
 pub returns-in_err-release-clause-filled : goal.returns-in_err-release-clause-filled
 returns-in_err-release-clause-filled g c =
@@ -233,41 +212,18 @@ returns-in_err-release-clause-spent g c = λ is.
 -- The next entry is not found.
 pub returns-in_err-next-2-clause-edits : goal.returns-in_err-next-2-clause-edits
 returns-in_err-next-2-clause-edits g c =
-    let invariant = c.loop-place.invariant in
-    let rel = c.release.ensures in
     let nxt = c.in_err-next-2.ensures in
     passed c.from_residual-in_err-next-2.result c.in_err-next-2.field-0.0 c.from_residual-in_err-next-2.ensures.1
     (λ r. EditsPages g.D.Device (r ≡ Err Device) c.args.pages.now c.args.device.now c.next.new.pages c.next.new.device)
     (edits_last g.D.Device _ _ _ _ _ _ _ _ _ (λ is. still_error is)
-    (edits_last g.D.Device ⊥ _ ⊥ _ _ _ _ _ _ (λ never. absurd never) invariant.edits
-    (edits_by g.D.Device _ _ _ _ _ rel.only rel.committed rel.catalog rel.agrees rel.open))
+    (released g (goal.at.returns-in_err-next-2-clause-edits g c).After-release)
     (looks_edits g.D.Device _ _ _ _ _ (looks_by g.D.Device _ _ _ _ _ nxt.only nxt.unchanged nxt.agrees nxt.open)))
 
 pub returns-in_err-next-2-clause-damaged : goal.returns-in_err-next-2-clause-damaged
-returns-in_err-next-2-clause-damaged g c = λ honest agrees planted is told.
-    let image = (g.D.Device.state c.args.device.now).disk.present in
-    let before = pages_of_map c.args.pages.now image in
-    let rows = chained c.args.tree.now c.args.record_bytes in
-    let levels = planted.levels in
-    let loop = c.loop-place in
-    let invariant = loop.invariant in
-    let state : Releasing before rows levels (pages_of_map loop.pages image) loop.place (Some c.in-Some.entry) =
-    subst (Releasing before rows levels (pages_of_map loop.pages image) loop.place) c.in-Some.is
-    (invariant.rest honest agrees planted is) in
-    let first_is = c.first_page.ensures ∙ ap (big_number 4) c.value.ensures in
-    let rel = c.release.ensures in
-    let edits = edits_last g.D.Device ⊥ _ ⊥ _ _ _ _ _ _ (λ never. absurd never) invariant.edits
-    (edits_by g.D.Device _ _ _ _ _ rel.only rel.committed rel.catalog rel.agrees rel.open) in
-    let gone = chain_gone g.D.Device ⊥ before loop.pages c.release.new.pages c.args.device.now loop.device rows levels
-    loop.place c.in-Some.entry c.first_page.result invariant.edits.only c.in_ok-release.ensures.released
-    c.requires.chains first_is honest (invariant.edits.agrees honest agrees) state in
-    let damaged = refused_by_call c.in_err-next-2.was c.from_residual-in_err-next-2.ensures.1 told in
-    let claim : List (Option Sector) → Type 0 = λ l. (levels : List (List TreeNode))
-    → IsTreeOrEmpty rows.tree.layout l rows.tree.root levels → ⊥ in
-    pages_told g.D.Device ⊥ c.release.new.pages c.args.device.now c.release.new.device claim honest edits.only
-    (edits.agrees honest agrees) (λ h a levels tree. c.next.ensures.damaged h a damaged levels tree) levels
-    (tree_next g.D.Device before loop.pages c.release.new.pages c.args.device.now rows levels loop.place
-    c.in-Some.entry c.requires.chains state gone)
+returns-in_err-next-2-clause-damaged g c =
+    let at = (goal.at.returns-in_err-next-2-clause-damaged g c).After-release in
+    gone_never g.D.Device (next_row g at) c.in_ok-release.ensures.released (released g at) c.next.ensures.damaged
+    (refused_by_call c.in_err-next-2.was c.from_residual-in_err-next-2.ensures.1)
 
 pub returns-in_err-next-2-clause-filled : goal.returns-in_err-next-2-clause-filled
 returns-in_err-next-2-clause-filled g c =

@@ -1,6 +1,6 @@
 use Rattle.std.specs.Prelude.{IsTrue}
 use Rattle.station.specs.State.{State}
-use Rattle.station.proofs.Spans.{then, weaker, arrives, told_begins}
+use Rattle.station.proofs.Spans.{then, weaker, arrives}
 use Rattle.station.proofs.laws.moment_laws.Goals as goal
 
 pub returns-clause-composes : goal.returns-clause-composes
@@ -11,6 +11,3 @@ returns-clause-weakens r = λ a b p q. weaker a b (λ (s : State). IsTrue (p s))
 
 pub returns-clause-arrives : goal.returns-clause-arrives
 returns-clause-arrives r = λ a b old new p. arrives a b old new (λ (s : State). IsTrue (p s))
-
-pub returns-clause-told : goal.returns-clause-told
-returns-clause-told r = told_begins

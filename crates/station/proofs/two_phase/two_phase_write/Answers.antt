@@ -1,11 +1,11 @@
 use Rattle.std.proofs.Common.{◌∙◌, inr, sym, ap, subst}
 use Rattle.std.specs.Prelude.{slice_set}
-use Rattle.station.specs.Disk.{Disk, idle_disk, IsSettled, IsCrashImage}
-use Rattle.station.specs.Blocks.{SameOutside, OldOrNew, CrashLeaves}
-use Rattle.station.proofs.Spans.{goes, weakens}
+use Rattle.station.specs.Disk.{Disk, idle_disk, IsCrashImage}
+use Rattle.station.proofs.Spans.{weakens}
 use Rattle.station.proofs.Crash.{settled_image}
 use Rattle.station.proofs.Calls.{writes_then}
-use Rattle.station.proofs.TwoPhase.{early, late, on_ok}
+use Rattle.station.proofs.TwoPhase.{early, on_ok}
+use Rattle.station.proofs.Moments.{two_phase_moments}
 use Rattle.station.proofs.two_phase.two_phase_write.Goals as goal
 
 pub returns-in_err-write_blocks_through-clause-moments : goal.returns-in_err-write_blocks_through-clause-moments
@@ -29,21 +29,14 @@ pub returns-clause-moments : goal.returns-clause-moments
 returns-clause-moments g c = λ honest disk.
     let state = g.D.Device.state in
     let history = g.D.Device.history in
-    let old = state c.args.device.now in
-    let mid = state c.write_blocks_through.new.device in
-    let new = state c.write_through.new.device in
-    let base = old.disk.present in
-    let blocks = c.args.blocks.now in
     let there = c.in_ok-write_blocks_through.ensures.durable honest in
     let honest' = c.write_blocks_through.ensures.only.honest.0 honest in
-    let settled_mid : IsSettled mid.disk = there ∙ sym (ap (λ (d : Disk). idle_disk d.present) there) in
-    goes (history c.args.device.now) (history c.write_blocks_through.new.device) (history c.write_through.new.device)
-    mid new (CrashLeaves old.events (OldOrNew base blocks c.args.root c.args.bytes.now))
-    (weakens _ _ mid (CrashLeaves old.events (SameOutside base blocks)) _ (early old.events base blocks c.args.root
-    c.args.bytes.now) (c.write_blocks_through.ensures.moments honest disk))
-    (weakens _ _ new _ _ (late old.events mid.events base mid.disk.present blocks c.args.root c.args.bytes.now
-    (c.write_blocks_through.ensures.only.console honest).events
-    (ap (λ (d : Disk). d.present) there)) (c.write_through.ensures.moments honest' settled_mid))
+    two_phase_moments (history c.args.device.now) (history c.write_blocks_through.new.device)
+    (history c.write_through.new.device) (state c.args.device.now) (state c.write_blocks_through.new.device)
+    (state c.write_through.new.device) c.args.blocks.now c.args.root c.args.bytes.now
+    (c.write_blocks_through.ensures.only.console honest).events (ap (λ (d : Disk). d.present) there)
+    (c.write_blocks_through.ensures.moments honest disk)
+    (c.write_through.ensures.moments honest' (there ∙ sym (ap (λ (d : Disk). idle_disk d.present) there)))
 
 pub returns-clause-new : goal.returns-clause-new
 returns-clause-new g c = λ honest.

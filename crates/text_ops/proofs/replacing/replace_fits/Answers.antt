@@ -1,11 +1,10 @@
-use Rattle.std.proofs.Common.{◌≡◌, ℕ, ◌+◌, length, drop, refl, sym, ap, subst, List, ◌∙◌, arith}
+use Rattle.std.proofs.Common.{length, drop, refl, sym, ap, ◌∙◌, arith}
 use Rattle.std.proofs.Math.ListN.{drop_of_length-le}
-use Rattle.text_ops.specs.Entries.{fit_length}
 use Rattle.text_ops.specs.Walk.{walk}
-use Rattle.text_ops.specs.Inspect.{with_each, text_written_at, replacement}
-use Rattle.text_ops.proofs.Replacements.{written_rest}
+use Rattle.text_ops.specs.Inspect.{with_each}
+use Rattle.text_ops.proofs.Replacements.{replaced_next}
 use Rattle.text_ops.proofs.Marking.{still_marked, past_unmarked}
-use Rattle.text_ops.proofs.Walks.{Goes, goes_from, past_fit, past_place, goes_out}
+use Rattle.text_ops.proofs.Walks.{goes_from, past_place, goes_out}
 use Rattle.text_ops.proofs.replacing.replace_fits.Goals as goal
 
 pub loop-at-init : goal.loop-at-init
@@ -36,30 +35,17 @@ loop-at-preserved-then-passed-gt0 c =
 pub loop-at-preserved-in-Some : goal.loop-at-preserved-in-Some
 loop-at-preserved-in-Some c =
     let inv = c.loop-at.invariant in
-    let fitted = c.in-Some.fitted in
     let is = c.in-Some.ensures.fitted in
-    let past = past_fit c.args.texts.now c.loop-at.active c.step.new.active c.loop-at.at c.size-at.result
-    c.loop-at.subject c.split_at.result.1.now inv.all fitted inv.goes c.loop-at-test.true c.split_at.ensures.back
-    c.in-Some.ensures.fit is.some c.in-Some.ensures.after c.size-at.ensures in
-    let next = c.loop-at.at + c.size-at.result in
-    let entry = fitted.progress.entry in
-    let same-next : next ≡ c.loop-at.at + fit_length entry.fit = ap (λ n. c.loop-at.at + n) c.size-at.ensures in
-    let rest : drop next c.put_replacement.new.subject ≡ drop next c.loop-at.subject =
-    ap (λ n. drop n c.put_replacement.new.subject) same-next ∙ ap (drop (c.loop-at.at + fit_length entry.fit))
-    c.put_replacement.ensures ∙ written_rest c.args.texts.now entry c.loop-at.at c.loop-at.subject is.entry inv.bound
-    ∙ ap (λ n. drop n c.loop-at.subject) (sym same-next) in
-    let P : List ℕ → Type 0 = λ xs. Goes c.args.texts.now c.step.new.active next xs past.0 in
-    record {
+    let next = replaced_next c.args.texts.now c.loop-at.active c.step.new.active _ c.loop-at.at c.size-at.result
+    c.loop-at.subject c.put_replacement.new.subject _ inv.all c.in-Some.fitted inv.goes c.loop-at-test.true
+    c.split_at.ensures.back c.in-Some.ensures.fit c.in-Some.ensures.after c.size-at.ensures is c.put_replacement.ensures
+    in record {
       bound = omega (arith, is.within, c.size-at.ensures, c.split_at.ensures.back_len);
       within = c.in-Some.ensures.within;
-      marked = still_marked c.args.texts.now c.beginnings-marks.result c.loop-at.active c.step.new.active
-          c.in-Some.ensures.entries inv.marked;
-      all = past.0;
-      goes = subst P (sym rest) past.2;
-      written =
-          ap (with_each c.args.texts.now past.0) c.put_replacement.ensures ∙ ap (λ place. with_each c.args.texts.now
-          past.0 (text_written_at place (replacement c.args.texts.now entry.by) c.loop-at.subject)) (sym is.at)
-          ∙ ap (λ all. with_each c.args.texts.now all c.loop-at.subject) (sym past.1) ∙ inv.written;
+      marked = still_marked _ _ c.loop-at.active _ c.in-Some.ensures.entries inv.marked;
+      all = next.0;
+      goes = next.1;
+      written = next.2 ∙ inv.written;
     }
 
 pub loop-at-preserved : goal.loop-at-preserved

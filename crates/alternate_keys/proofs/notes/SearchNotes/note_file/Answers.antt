@@ -1,5 +1,4 @@
-use Rattle.std.proofs.Common.{sym, ap, ◌∙◌}
-use Rattle.std.specs.Str.{bytes_eq}
+use Rattle.std.proofs.Common.{sym, ◌∙◌}
 use Rattle.pages.specs.Pages.{map_now}
 use Rattle.records.specs.Files.{file_at}
 use Rattle.alternate_keys.specs.Notes.{noted_search}

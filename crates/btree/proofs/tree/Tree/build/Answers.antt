@@ -1,39 +1,22 @@
-use Rattle.std.proofs.Common.{◌≡◌, ◌≤◌, ◌<◌, ◌-◌, ◌++◌, ℕ, List, [], ◌∷◌, Err, true, length, drop, refl, sym, ◌∙◌}
-use Rattle.std.proofs.Common.{ap, subst, arith}
-use Rattle.std.specs.Prelude.{slice_index_or}
-use Rattle.std.specs.List.{All}
-use Rattle.std.proofs.lemmas.List.Elements.{All-nil}
-use Rattle.byteorder.specs.Endian.{big_bytes}
+use Rattle.std.proofs.Common.{◌≡◌, ◌≤◌, ◌<◌, ◌-◌, ℕ, List, Err, true, length, refl, sym, ◌∙◌}
+use Rattle.std.proofs.Common.{subst, arith}
 use Rattle.pages.specs.Pages.{is_spent}
 use Rattle.pages.specs.declared.error.PagesError.TheVariants.{Spent}
-use Rattle.btree_pages.specs.declared.row_layout.RowLayout.{RowLayout}
 use Rattle.btree_pages.specs.declared.row_layout.Kind.TheVariants.{Inner}
-use Rattle.btree_pages.specs.RowLayouts.{row_length}
 use Rattle.btree_pages.specs.Node.{Node}
-use Rattle.btree.specs.Builds.{IsLeafOf, Builds, rows_of_nodes}
+use Rattle.btree.specs.Builds.{Builds, rows_of_nodes}
 use Rattle.btree.specs.Changes.{pages_of_map}
-use Rattle.btree.proofs.Building.{PutsLeaves, none_put, leaf_put, one_length, all_put, builds_few, builds_more}
+use Rattle.btree.proofs.Building.{builds_few, builds_more}
 use Rattle.btree.proofs.Clearing.{keeps_still, keeps_on}
 use Rattle.btree.proofs.Passing.{passed, still_error}
-use Rattle.btree.proofs.Ways.{drop_all}
+use Rattle.btree.proofs.PlacedLeaves.{none_placed, more_placed, all_placed}
 use Rattle.btree.proofs.Writes.{put_node, node_is}
 use Rattle.btree.proofs.tree.Tree.build.Goals as goal
 
--- Nothing stands before the first turn.
+-- No leaf is placed before the first turn.
 pub loop-turn-init : goal.loop-turn-init
 loop-turn-init c = record {
-  placed = λ image. subst
-      (λ (leaves : List Node). PutsLeaves c.args.layout (pages_of_map c.args.pages.now image) leaves
-      (pages_of_map c.args.pages.now image) 0 c.new-top.result.rows)
-      (sym (drop_all (length c.args.leaves.now - 0) c.args.leaves.now (omega arith)))
-      (subst (λ (n : Node). PutsLeaves c.args.layout (pages_of_map c.args.pages.now image) []
-      (pages_of_map c.args.pages.now image) 0 n.rows) (sym c.new-top.ensures)
-      (none_put c.args.layout (pages_of_map c.args.pages.now image)));
-  like = ap (λ (n : Node). n.layout) c.new-top.ensures;
-  kind = ap (λ (n : Node). n.kind) c.new-top.ensures;
-  count = ap (λ (n : Node). length n.rows) c.new-top.ensures;
-  lengths = subst (λ (n : Node). All (λ row. length row ≡ row_length c.args.layout Inner) n.rows)
-      (sym c.new-top.ensures) (All-nil (λ (row : List ℕ). length row ≡ row_length c.args.layout Inner));
+  top = none_placed c.args.layout (pages_of_map c.args.pages.now) c.args.leaves.now c.new-top.result c.new-top.ensures;
   changes = omega arith;
   fills = omega arith;
   keeps = keeps_still c.args.pages.now;
@@ -43,31 +26,15 @@ loop-turn-init c = record {
 pub loop-turn-preserved : goal.loop-turn-preserved
 loop-turn-preserved c =
     let loop = c.loop-turn in
-    let layout = c.args.layout in
-    let leaves : List Node = c.args.leaves.now in
-    let place : ℕ = length leaves - 1 - loop.turn in
-    let leaf : Node = c.index-leaves-leaves.result in
-    let test : loop.turn < length leaves = c.loop-turn-test.true in
-    let here : slice_index_or leaves place leaf ≡ leaf = sym c.index-leaves-leaves.is in
-    let is : IsLeafOf layout leaf =
-    subst (IsLeafOf layout) here (c.requires.leaves place leaf (omega (arith, test))) in
-    let key : length c.key.result.now ≡ layout.key_length =
-    c.key.ensures.length ∙ ap (λ (f : RowLayout). f.key_length) is.like in
-    let rows : c.insert_child.new.self.rows ≡ (c.key.result.now ++ big_bytes 4 c.in_ok-root.root) ∷ loop.top.rows =
-    ap (λ (n : Node). n.rows) c.insert_child.ensures in
     record {
-      placed = λ image. leaf_put layout (pages_of_map c.args.pages.now image) (pages_of_map loop.pages image)
-          (pages_of_map c.put_new.new.pages image) leaves leaf loop.turn leaf loop.root c.in_ok-root.root loop.top.rows
-          c.insert_child.new.self.rows c.key.result.now test here is c.count-count.ensures.node
-          (c.in_ok-root.ensures.pages image) c.key.ensures.key rows (loop.invariant.placed image);
-      like = ap (λ (n : Node). n.layout) c.insert_child.ensures ∙ loop.invariant.like;
-      kind = ap (λ (n : Node). n.kind) c.insert_child.ensures ∙ loop.invariant.kind;
-      count = omega (arith, ap length rows, loop.invariant.count);
-      lengths = subst (All (λ row. length row ≡ row_length layout Inner)) (sym rows)
-          (one_length layout c.key.result.now c.in_ok-root.root loop.top.rows key loop.invariant.lengths);
+      top = more_placed c.args.layout (pages_of_map c.args.pages.now) (pages_of_map loop.pages)
+          (pages_of_map c.put_new.new.pages) c.args.leaves.now c.index-leaves-leaves.result loop.turn loop.root
+          c.in_ok-root.root loop.top c.insert_child.new.self c.key.result.now c.loop-turn-test.true
+          (sym c.index-leaves-leaves.is) c.requires.leaves c.count-count.ensures.node c.in_ok-root.ensures.pages
+          c.key.ensures.key c.key.ensures.length c.insert_child.ensures loop.invariant.top;
       changes = omega (arith, loop.invariant.changes, c.put_new.ensures.changed_pages);
       fills = omega (arith, loop.invariant.fills, c.put_new.ensures.filled);
-      keeps = keeps_on c.args.pages.now loop.pages c.put_new.new.pages loop.invariant.keeps c.put_new.ensures.keeps;
+      keeps = keeps_on _ _ _ loop.invariant.keeps c.put_new.ensures.keeps;
       is_open = c.put_new.ensures.keeps.is_open loop.invariant.is_open;
     }
 
@@ -76,10 +43,8 @@ returns-then-leaves-le1-clause-built c = λ up image.
     let loop = c.loop-turn in
     let leaves : List Node = c.args.leaves.now in
     let few : length leaves ≤ 1 = c.if-leaves-le1.true in
-    let all : drop (length leaves - loop.turn) leaves ≡ leaves = all_put leaves loop.turn c.loop-turn-test.false in
-    let puts : PutsLeaves c.args.layout (pages_of_map c.args.pages.now image) leaves (pages_of_map loop.pages image)
-    loop.root loop.top.rows = subst (λ (l : List Node). PutsLeaves c.args.layout (pages_of_map c.args.pages.now image) l
-    (pages_of_map loop.pages image) loop.root loop.top.rows) all (loop.invariant.placed image) in
+    let puts = all_placed c.args.layout (pages_of_map c.args.pages.now image) (pages_of_map loop.pages image) leaves
+    loop.turn loop.root loop.top.rows c.loop-turn-test.false (loop.invariant.top.placed image) in
     subst (λ (root : ℕ). Builds c.args.layout (pages_of_map c.args.pages.now image) (rows_of_nodes leaves)
     (pages_of_map loop.pages image) root) (sym c.new.ensures.root)
     (builds_few c.args.layout (pages_of_map c.args.pages.now image) leaves (pages_of_map loop.pages image)
@@ -90,14 +55,12 @@ returns-clause-built c = λ up image.
     let loop = c.loop-turn in
     let leaves : List Node = c.args.leaves.now in
     let more : 1 < length leaves = c.if-leaves-le1.false in
-    let all : drop (length leaves - loop.turn) leaves ≡ leaves = all_put leaves loop.turn c.loop-turn-test.false in
-    let puts : PutsLeaves c.args.layout (pages_of_map c.args.pages.now image) leaves (pages_of_map loop.pages image)
-    loop.root loop.top.rows = subst (λ (l : List Node). PutsLeaves c.args.layout (pages_of_map c.args.pages.now image) l
-    (pages_of_map loop.pages image) loop.root loop.top.rows) all (loop.invariant.placed image) in
-    let own = put_node c.args.layout Inner loop.top loop.top.rows c.in_ok-above.above (pages_of_map loop.pages image)
-    (pages_of_map c.put_new-2.new.pages image)
-    (node_is c.args.layout Inner loop.top loop.invariant.like loop.invariant.kind) (c.in_ok-above.ensures.pages image)
-    loop.invariant.lengths (omega (arith, loop.invariant.count, c.loop-turn-test.false, more)) in
+    let puts = all_placed c.args.layout (pages_of_map c.args.pages.now image) (pages_of_map loop.pages image) leaves
+    loop.turn loop.root loop.top.rows c.loop-turn-test.false (loop.invariant.top.placed image) in
+    let own = put_node c.args.layout Inner loop.top loop.top.rows c.in_ok-above.above _ _
+    (node_is c.args.layout Inner loop.top loop.invariant.top.like loop.invariant.top.kind)
+    (c.in_ok-above.ensures.pages image) loop.invariant.top.lengths
+    (omega (arith, loop.invariant.top.count, c.loop-turn-test.false, more)) in
     subst (λ (root : ℕ). Builds c.args.layout (pages_of_map c.args.pages.now image) (rows_of_nodes leaves)
     (pages_of_map c.put_new-2.new.pages image) root) (sym c.new-2.ensures.root)
     (builds_more c.args.layout (pages_of_map c.args.pages.now image) (pages_of_map loop.pages image)

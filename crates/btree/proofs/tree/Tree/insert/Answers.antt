@@ -3,9 +3,9 @@ use Rattle.std.specs.Prelude.{Option, Some}
 use Rattle.pages.specs.Pages.{is_spent}
 use Rattle.pages.specs.declared.error.PagesError.TheVariants.{Full, Spent}
 use Rattle.btree_pages.specs.declared.row_layout.RowLayout.{RowLayout}
-use Rattle.btree.specs.Tree.{IsTreeOrEmpty}
 use Rattle.btree.specs.Changes.{pages_of_map, Inserts}
 use Rattle.btree.proofs.Frames.{false_unless}
+use Rattle.btree.proofs.NamedTrees.{same_holds}
 use Rattle.btree.proofs.Refused.{few_left}
 use Rattle.std.specs.Prelude.{IfErr, Ok}
 use Rattle.std.proofs.Common.{◌↔◌, true, ◌∙◌}
@@ -22,8 +22,7 @@ returns-in_err-added-clause-damaged g c = λ honest agrees is levels holds.
     let before = pages_of_map c.args.pages.now (g.D.Device.state c.args.device.now).disk.present in
     let told = rw is at c.from_residual.ensures.1 in
     c.in_err-added.ensures.damaged honest agrees (cc told) levels
-    (subst (λ (f : RowLayout). IsTreeOrEmpty f before c.root-top.result levels) (sym c.layout-layout.ensures.is)
-    (subst (λ (r : ℕ). IsTreeOrEmpty c.args.self.now.layout before r levels) (sym c.root-top.ensures) holds))
+    (same_holds _ _ _ _ before levels c.layout-layout.ensures.is c.root-top.ensures holds)
 
 pub returns-in-Some-clause-inserted : goal.returns-in-Some-clause-inserted
 returns-in-Some-clause-inserted g c = λ honest agrees levels holds is.
@@ -33,8 +32,7 @@ returns-in-Some-clause-inserted g c = λ honest agrees levels holds is.
     let key = c.args.key.now in
     let value = c.args.value.now in
     let raw = c.in_ok-added.ensures.inserted honest agrees levels
-    (subst (λ (f : RowLayout). IsTreeOrEmpty f before c.root-top.result levels) (sym c.layout-layout.ensures.is)
-    (subst (λ (r : ℕ). IsTreeOrEmpty c.args.self.now.layout before r levels) (sym c.root-top.ensures) holds)) in
+    (same_holds _ _ _ _ before levels c.layout-layout.ensures.is c.root-top.ensures holds) in
     let added =
     subst (λ (new : Option ℕ). Inserts c.layout-layout.result before levels after key value new) c.in-Some.is raw in
     subst (λ (r : ℕ). Inserts c.args.self.now.layout before levels after key value (Some r))
@@ -46,8 +44,7 @@ pub returns-in-Some-clause-changed_pages : goal.returns-in-Some-clause-changed_p
 returns-in-Some-clause-changed_pages g c = λ honest agrees levels holds.
     let before = pages_of_map c.args.pages.now (g.D.Device.state c.args.device.now).disk.present in
     c.in_ok-added.ensures.changed_pages honest agrees levels
-    (subst (λ (f : RowLayout). IsTreeOrEmpty f before c.root-top.result levels) (sym c.layout-layout.ensures.is)
-    (subst (λ (r : ℕ). IsTreeOrEmpty c.args.self.now.layout before r levels) (sym c.root-top.ensures) holds))
+    (same_holds _ _ _ _ before levels c.layout-layout.ensures.is c.root-top.ensures holds)
 
 pub returns-in_err-added-clause-full : goal.returns-in_err-added-clause-full
 returns-in_err-added-clause-full g c = λ is.
@@ -58,8 +55,7 @@ pub returns-in_err-added-clause-changed_pages : goal.returns-in_err-added-clause
 returns-in_err-added-clause-changed_pages g c = λ honest agrees levels holds.
     let before = pages_of_map c.args.pages.now (g.D.Device.state c.args.device.now).disk.present in
     c.in_err-added.ensures.changed_pages honest agrees levels
-    (subst (λ (f : RowLayout). IsTreeOrEmpty f before c.root-top.result levels) (sym c.layout-layout.ensures.is)
-    (subst (λ (r : ℕ). IsTreeOrEmpty c.args.self.now.layout before r levels) (sym c.root-top.ensures) holds))
+    (same_holds _ _ _ _ before levels c.layout-layout.ensures.is c.root-top.ensures holds)
 
 pub returns-in_err-added-clause-room : goal.returns-in_err-added-clause-room
 returns-in_err-added-clause-room g c = λ honest agrees levels holds is.
@@ -67,8 +63,7 @@ returns-in_err-added-clause-room g c = λ honest agrees levels holds is.
     let before = pages_of_map old (g.D.Device.state c.args.device.now).disk.present in
     let told = rw is at c.from_residual.ensures.1 in
     let changed_pages = c.in_err-added.ensures.changed_pages honest agrees levels
-    (subst (λ (f : RowLayout). IsTreeOrEmpty f before c.root-top.result levels) (sym c.layout-layout.ensures.is)
-    (subst (λ (r : ℕ). IsTreeOrEmpty c.args.self.now.layout before r levels) (sym c.root-top.ensures) holds)) in
+    (same_holds _ _ _ _ before levels c.layout-layout.ensures.is c.root-top.ensures holds) in
     let full : c.insert_entry.result ≡ Err Full = cc told in
     let unspent : is_spent old ≡ false = false_unless (is_spent old)
     (λ was. let other : c.insert_entry.result ≡ Err Spent = c.insert_entry.ensures.spent.1 was in cc) in
@@ -79,15 +74,13 @@ pub returns-in-Some-clause-filled : goal.returns-in-Some-clause-filled
 returns-in-Some-clause-filled g c = λ honest agrees levels holds.
     let before = pages_of_map c.args.pages.now (g.D.Device.state c.args.device.now).disk.present in
     c.in_ok-added.ensures.filled honest agrees levels
-    (subst (λ (f : RowLayout). IsTreeOrEmpty f before c.root-top.result levels) (sym c.layout-layout.ensures.is)
-    (subst (λ (r : ℕ). IsTreeOrEmpty c.args.self.now.layout before r levels) (sym c.root-top.ensures) holds))
+    (same_holds _ _ _ _ before levels c.layout-layout.ensures.is c.root-top.ensures holds)
 
 pub returns-in_err-added-clause-filled : goal.returns-in_err-added-clause-filled
 returns-in_err-added-clause-filled g c = λ honest agrees levels holds.
     let before = pages_of_map c.args.pages.now (g.D.Device.state c.args.device.now).disk.present in
     c.in_err-added.ensures.filled honest agrees levels
-    (subst (λ (f : RowLayout). IsTreeOrEmpty f before c.root-top.result levels) (sym c.layout-layout.ensures.is)
-    (subst (λ (r : ℕ). IsTreeOrEmpty c.args.self.now.layout before r levels) (sym c.root-top.ensures) holds))
+    (same_holds _ _ _ _ before levels c.layout-layout.ensures.is c.root-top.ensures holds)
 
 pub returns-in_err-added-clause-only : goal.returns-in_err-added-clause-only
 returns-in_err-added-clause-only g c = passed c.from_residual.result c.in_err-added.field-0.0 c.from_residual.ensures.1

@@ -1,17 +1,14 @@
-use Rattle.std.proofs.Common.{◌≡◌, List, Err, refl, sym, ap, subst, ◌∙◌}
-use Rattle.std.specs.Prelude.{Option, Some, IfOk}
+use Rattle.std.proofs.Common.{◌≡◌, Err, refl, sym, ap, subst, ◌∙◌}
+use Rattle.std.specs.Prelude.{IfOk}
 use Rattle.std.proofs.lemmas.Result.{IfOk-weaker}
-use Rattle.station.specs.Disk.{Sector}
 use Rattle.pages.specs.declared.error.PagesError.TheVariants.{Damaged}
 use Rattle.btree_pages.specs.declared.row_layout.Kind.TheVariants.{Leaf}
 use Rattle.btree.specs.Calls.{pages_on}
 use Rattle.btree.specs.Results.{ReturnsDamaged}
 use Rattle.btree.specs.Rooted.{RootedTree}
-use Rattle.btree.specs.Entries.{Entry, entries_of, entries_of_rows, first_entry}
+use Rattle.btree.specs.Entries.{entries_of_rows, first_entry}
 use Rattle.btree.specs.Propagates.{node_with}
-use Rattle.btree.specs.Sought.{sought_in, AnswersAt}
 use Rattle.btree.proofs.Frames.{unchanged_on, rooted_tree}
-use Rattle.btree.proofs.Answering.{found_entry}
 use Rattle.btree.proofs.Descending.{right_of}
 use Rattle.std.specs.Prelude.{IfErr}
 use Rattle.std.proofs.Common.{◌≢◌, ◌↔◌, inr, true}
@@ -23,6 +20,7 @@ use Rattle.btree.specs.Reading.{IsSearchRefusal, NoneOfKind}
 use Rattle.btree.proofs.Passing.{passed, never_ok, still_error, was_error, pages_before}
 use Rattle.btree.proofs.Passing.{reads_where, sectors_on}
 use Rattle.btree.proofs.Passing.{read_is_search}
+use Rattle.btree.proofs.DescentCalls.{found_by}
 use Rattle.btree.proofs.tree.Tree.search_right.Goals as goal
 
 pub returns-in_err-found-clause-unchanged : goal.returns-in_err-found-clause-unchanged
@@ -55,21 +53,12 @@ returns-in_err-found-clause-damaged g c = λ honest agrees told levels holds.
     damaged (node_with c.in_ok-way.way.page leads.rows) refl leads.stands
 
 pub returns-in-Some-clause-entry : goal.returns-in-Some-clause-entry
-returns-in-Some-clause-entry g c = λ honest agrees levels holds.
-    let pages = pages_on g.D.Device c.args.pages.now c.args.device.now in
+returns-in-Some-clause-entry g c =
     let way = c.in_ok-way.way in
-    let tree = rooted_tree c.args.self.now c.self.inside.layout c.self.inside.root pages levels c.self.view_is
-    c.if-self-eq0.false holds in
-    let A : Option Entry → List (Option Sector) → Type 0 =
-    λ entry p. AnswersAt c.self.inside.layout p way.page c.args.key.now c.args.sought entry in
-    let answers = pages_before g.D.Device _ c.args.pages.now c.follow.new.pages c.args.device.now c.follow.new.device
-    (A c.in_ok-found.field-0) c.follow.ensures.unchanged c.follow.ensures.only c.follow.ensures.agrees
-    c.in_ok-found.ensures.entry honest agrees in
-    subst (λ (t : RootedTree). Some c.in-Some.found ≡ sought_in c.args.sought (entries_of t.layout levels)
-    c.args.key.now) c.self.view_is (found_entry c.self.inside.layout pages c.self.inside.root c.args.key.now levels
-    way.path.items way.page way.right c.args.sought c.in-Some.found tree
-    (c.in_ok-way.ensures.way honest agrees levels tree)
-    (subst (λ (e : Option Entry). A e pages) c.in-Some.is answers))
+    found_by g.D.Device _ c.args.pages.now c.follow.new.pages c.args.device.now c.follow.new.device c.args.self.now
+    c.self.inside.layout c.self.inside.root c.args.key.now way.path.items way.page way.right c.args.sought
+    c.in_ok-found.field-0 c.in-Some.found c.self.view_is c.if-self-eq0.false c.follow.ensures.unchanged
+    c.follow.ensures.only c.follow.ensures.agrees c.in_ok-way.ensures.way c.in-Some.is c.in_ok-found.ensures.entry
 
 pub returns-in-None-clause-entry : goal.returns-in-None-clause-entry
 returns-in-None-clause-entry g c = λ honest agrees levels holds.

@@ -1,19 +1,16 @@
 use Rattle.std.proofs.Common.{◌≡◌, ℕ, List, length, map, sym, ap, subst, ◌∙◌}
 use Rattle.std.specs.Prelude.{reverse}
-use Rattle.items.specs.Texts.{padded_text}
-use Rattle.text_ops.specs.Convert.{converted_subject}
 use Rattle.text_ops.specs.declared.entry.Entry.{Entry}
 use Rattle.text_ops.specs.Entries.{AreWithin}
 use Rattle.source_tree.specs.Computed.{ArithmeticValue}
-use Rattle.source_tree.specs.References.{part_of, storage_with}
 use Rattle.data_instructions.specs.declared.tables.DataItem.{DataItem}
 use Rattle.data_instructions.specs.Table.{measured_by}
-use Rattle.data_instructions.specs.Tables.{shortened_item, item_place}
+use Rattle.data_instructions.specs.Tables.{shortened_item}
 use Rattle.data_instructions.proofs.Lengths.{padded_long}
 use Rattle.data_machine.specs.Data.{scratch_of}
 use Rattle.data_machine.specs.Filled.{BufferView}
 use Rattle.data_machine.specs.Held.{StackView}
-use Rattle.data_machine.proofs.Conversions.{convert_comes}
+use Rattle.data_machine.proofs.Conversions.{convert_comes, converted_as}
 use Rattle.data_machine.proofs.Newest.{some_place, item_within, item_whole, part_editing, seen_stands}
 use Rattle.data_machine.proofs.TextLengths.{measured_within}
 use Rattle.data_machine.proofs.data.Data.convert_by.Goals as goal
@@ -64,22 +61,14 @@ convert-requires-clause-entries c =
 pub returns-clause-does : goal.returns-clause-does
 returns-clause-does c =
     let s = scratch_of c.args.self.now in
-    let tables = c.args.tables.now in
-    let one = c.args.one.now in
-    let p = c.pop-place.result in
     let to = c.item_of-to.result.now in
-    let seen_is : c.seen-to.result.now ≡ shortened_item to p.length =
-    c.seen-to.ensures ∙ ap (λ (d : DataItem). shortened_item to d.item.length) c.part_of-part.ensures in
-    let texts_are : c.bytes.result.now ≡ padded_text one.size s.line =
-    c.bytes.ensures ∙ ap (λ (f : BufferView). f.bytes) c.fit.ensures in
+    let seen_is = c.seen-to.ensures ∙ ap (λ (d : DataItem). shortened_item to d.item.length) c.part_of-part.ensures in
     let entries_are = c.measured-entries.ensures
     ∙ ap (map (measured_by (reverse c.newest-found.result.now))) c.as_slice-entries.ensures in
-    let stores = c.convert.ensures.stores
-    ∙ ap (λ (o : DataItem). storage_with (item_place o p.offset) (converted_subject c.bytes.result.now
-    c.measured-entries.result.now (part_of s.storage (item_place o p.offset))) s.storage) seen_is in
-    convert_comes tables one c.args.numbers c.newest-found.result.now p c.pop-place.new.self.newest_first to s
-    c.bytes.result.now c.clear.new.self.bytes c.measured-entries.result.now c.convert.new.self
-    c.leave.new.self.newest_first c.newest-found.ensures.length c.requires.numbers c.newest-found.ensures.value
-    c.pop-place.ensures.newest c.item_of-to.ensures texts_are entries_are stores
+    convert_comes c.args.tables.now c.args.one.now c.args.numbers c.newest-found.result.now c.pop-place.result _ to s _
+    _
+    _ _ _ c.newest-found.ensures.length c.requires.numbers c.newest-found.ensures.value c.pop-place.ensures.newest
+    c.item_of-to.ensures (c.bytes.ensures ∙ ap (λ (f : BufferView). f.bytes) c.fit.ensures) entries_are
+    (converted_as c.seen-to.result.now _ c.pop-place.result.offset _ _ s.storage _ seen_is c.convert.ensures.stores)
     (ap (λ (f : BufferView). f.bytes) c.clear.ensures)
     (ap (λ (h : StackView ArithmeticValue). h.newest_first) c.leave.ensures)

@@ -1,14 +1,13 @@
-use Rattle.std.proofs.Common.{[], ◌∷◌, refl, ap, sym, subst, ◌∙◌}
+use Rattle.std.proofs.Common.{[], ◌∷◌, refl, ap, ◌∙◌}
 use Rattle.text_ops.specs.Strings.{delimited_characters}
 use Rattle.source_tree.specs.References.{ItemPlace, part_of}
 use Rattle.data_instructions.specs.declared.tables.DataItem.{DataItem}
 use Rattle.data_instructions.specs.Scratch.{Scratch, Step, step_at}
 use Rattle.data_instructions.specs.Table as spec
 use Rattle.data_instructions.specs.Tables.{shortened_item, item_place}
-use Rattle.data_machine.specs.Comes.{IsStepOf}
 use Rattle.data_machine.specs.Data.{scratch_of}
 use Rattle.data_machine.proofs.Newest.{some_place, item_within, item_whole, part_editing, seen_stands, newest_does}
-use Rattle.data_machine.proofs.Newest.{next_finds, newest_found, newest_stays}
+use Rattle.data_machine.proofs.Newest.{next_finds, newest_found, newest_stays, step_found}
 use Rattle.data_machine.proofs.data.Data.gather_up_to_place.Goals as goal
 
 pub pop-place-requires : goal.pop-place-requires
@@ -86,19 +85,14 @@ gather_between-requires-clause-delimiter c =
 pub returns-clause-does : goal.returns-clause-does
 returns-clause-does c =
     let s = scratch_of c.args.self.now in
-    let rest = c.pop-place.new.self.newest_first in
     let add : ItemPlace → Scratch → ItemPlace → Step =
     λ place t next. spec.append_step (delimited_characters (part_of t.storage next) (part_of t.storage place)) t in
-    newest_does c.args.tables.now c.args.self.now.areas c.args.self.now.places.newest_first
-    c.requires.operand c.pop-place.result c.pop-place.new.self.newest_first c.pop-place.ensures.newest
-    c.item_of-one.result.now c.item_of-one.ensures c.part_of-part.result
-    (ap (λ (d : DataItem). d.item.length) c.part_of-part.ensures) c.seen.result.now c.seen.ensures
-    c.gather_between.result (scratch_of c.gather_between.new.self) s
-    (λ place t. step_at (spec.newest_place c.args.tables.now t.places) (add place t)) c.pop-place.ensures.newest
-    (subst (λ o. IsStepOf c.gather_between.result (scratch_of c.gather_between.new.self)
-    (step_at o (add (item_place c.seen.result.now c.pop-place.result.offset) (record s { places = rest }))))
-    (sym (newest_stays c.args.tables.now rest c.below-next.result c.item_of-other.result.now c.seen-2.result.now
-    c.below-next.ensures c.item_of-other.ensures
+    let next_is = newest_stays c.args.tables.now _ c.below-next.result _ _ c.below-next.ensures c.item_of-other.ensures
     (c.seen-2.ensures
-    ∙ ap (λ (d : DataItem). shortened_item c.item_of-other.result.now d.item.length) c.part_of-other_part.ensures)))
-    c.gather_between.ensures.does)
+    ∙ ap (λ (d : DataItem). shortened_item c.item_of-other.result.now d.item.length) c.part_of-other_part.ensures) in
+    newest_does c.args.tables.now c.args.self.now.areas _ c.requires.operand _ _ c.pop-place.ensures.newest _
+    c.item_of-one.ensures c.part_of-part.result (ap (λ (d : DataItem). d.item.length) c.part_of-part.ensures) _
+    c.seen.ensures c.gather_between.result (scratch_of c.gather_between.new.self) s
+    (λ place t. step_at (spec.newest_place c.args.tables.now t.places) (add place t)) c.pop-place.ensures.newest
+    (step_found _ _ _ (add (item_place c.seen.result.now c.pop-place.result.offset)
+    (record s { places = c.pop-place.new.self.newest_first })) _ next_is c.gather_between.ensures.does)

@@ -1,11 +1,9 @@
-use Rattle.std.proofs.Common.{ap, sym, subst, ◌+◌, List, ℕ}
-use Rattle.std.specs.Prelude.{slice_get}
+use Rattle.std.proofs.Common.{ap}
 use Rattle.data_instructions.specs.declared.tables.DataItem.{DataItem}
-use Rattle.data_instructions.specs.Scratch.{step_at}
 use Rattle.data_instructions.specs.Table as spec
 use Rattle.data_machine.specs.Data.{scratch_of}
-use Rattle.data_machine.specs.Comes.{IsStepOf}
 use Rattle.data_machine.proofs.Newest.{some_place, item_within, item_whole, part_editing, seen_stands, newest_does}
+use Rattle.data_machine.proofs.Newest.{step_found}
 use Rattle.data_machine.proofs.data.Data.overlay.Goals as goal
 
 pub pop-place-requires : goal.pop-place-requires
@@ -42,18 +40,10 @@ pub returns-clause-does : goal.returns-clause-does
 returns-clause-does c =
     let now = scratch_of c.args.self.now in
     let after = scratch_of c.overlay_at.new.self in
-    subst (λ o. IsStepOf c.overlay_at.result after (step_at o (λ (bytes : List ℕ).
-    step_at (slice_get c.args.tables.now.texts (c.args.text.number + 1)) (λ (marks : List ℕ).
-    spec.at_place c.args.tables.now (spec.laid_over (spec.pattern_of bytes marks)) now))))
-    (sym c.text_of-bytes.ensures)
-    (subst (λ o. IsStepOf c.overlay_at.result after (step_at o (λ (marks : List ℕ).
-    spec.at_place c.args.tables.now (spec.laid_over (spec.pattern_of c.text_of-bytes.result.now marks)) now)))
-    (sym c.text_of-marks.ensures) (
-    newest_does c.args.tables.now c.args.self.now.areas c.args.self.now.places.newest_first
-    c.requires.operand c.pop-place.result c.pop-place.new.self.newest_first c.pop-place.ensures.newest
-    c.item_of-one.result.now c.item_of-one.ensures c.part_of-part.result
-    (ap (λ (d : DataItem). d.item.length) c.part_of-part.ensures)
-    c.seen.result.now c.seen.ensures c.overlay_at.result (scratch_of c.overlay_at.new.self)
-    (scratch_of c.args.self.now)
+    step_found c.overlay_at.result after _ _ c.text_of-bytes.result.now c.text_of-bytes.ensures
+    (step_found c.overlay_at.result after _ _ c.text_of-marks.result.now c.text_of-marks.ensures
+    (newest_does c.args.tables.now c.args.self.now.areas _ c.requires.operand _ _ c.pop-place.ensures.newest _
+    c.item_of-one.ensures c.part_of-part.result (ap (λ (d : DataItem). d.item.length) c.part_of-part.ensures) _
+    c.seen.ensures c.overlay_at.result after now
     (spec.laid_over (spec.pattern_of c.text_of-bytes.result.now c.text_of-marks.result.now))
     c.pop-place.ensures.newest c.overlay_at.ensures.does))

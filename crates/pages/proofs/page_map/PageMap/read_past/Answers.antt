@@ -1,44 +1,22 @@
-use Rattle.std.proofs.Common.{◌≡◌, ◌<◌, ⊎_elim, ℕ, Bool, List, length, get_or, sym, ◌∙◌, ap, subst, arith}
-use Rattle.std.proofs.Common.{if◌then◌else◌}
+use Rattle.std.proofs.Common.{◌≡◌, ℕ, Bool, List, get_or, sym, ◌∙◌, ap, subst, if◌then◌else◌}
 use Rattle.std.specs.Prelude.{Option, Some, None, IfOk}
-use Rattle.std.specs.List.{All, HoldsAt}
-use Rattle.std.proofs.lemmas.List.{length-map}
-use Rattle.std.proofs.lemmas.List.Elements.{Contains-append_right, Contains-get_or}
 use Rattle.station.specs.Disk.{Sector}
-use Rattle.pages.specs.Image.{pages_in, page_at}
-use Rattle.pages.specs.declared.change.Change.{Change}
+use Rattle.pages.specs.Image.{pages_in}
 use Rattle.pages.specs.Changes.{changed_pages}
 use Rattle.pages.specs.Cache.{IsCacheOf}
-use Rattle.pages.proofs.Edits.{Away, is_only, only_same, away_same, away_changed}
+use Rattle.pages.proofs.Edits.{Away, away_same, away_changed}
+use Rattle.pages.proofs.Lookups.{changed_bytes, table_fits}
 use Rattle.pages.proofs.page_map.PageMap.read_past.Goals as goal
 
 pub fetch_page-requires : goal.fetch_page-requires
-fetch_page-requires g c =
-    let ready = c.requires.open c.if-self.false in
-    let table = c.args.self.now.volume.table in
-    subst (All (λ (s : ℕ). s < g.D.Device.sectors c.args.device.now)) (sym c.entries.ensures)
-    (λ k d lt. ⊎_elim (λ none. omega (arith, none, ready.sound.least, c.requires.sectors))
-    (λ place. omega (arith, place.1, c.requires.sectors))
-    (ready.sound.places (get_or table k d) (Contains-append_right c.args.self.now.volume.maps.items table
-    (get_or table k d) (Contains-get_or table k d lt))))
+fetch_page-requires g c = table_fits c.args.self.now c.entries.result.now (g.D.Device.sectors c.args.device.now)
+    (c.requires.open c.if-self.false) c.entries.ensures c.requires.sectors
 
 pub returns-in-Some-clause-page : goal.returns-in-Some-clause-page
 returns-in-Some-clause-page g c = λ honest agrees.
-    let ready = c.requires.open c.if-self.false in
-    let changes = c.args.self.now.changes.items in
-    let image = (g.D.Device.state c.args.device.now).disk.present in
-    let table = c.args.self.now.volume.table in
-    let i = c.in-Some.i in
-    let low : i < length changes =
-    subst (λ (l : List Change). i < length l) c.deref.ensures.value c.in-Some.ensures.found.0 in
-    let here : HoldsAt (λ (x : Change). x.page ≡ c.args.page) changes i = subst (λ (l : List Change).
-    HoldsAt (λ (x : Change). x.page ≡ c.args.page) l i) c.deref.ensures.value c.in-Some.ensures.found.1 in
-    let bounds = ready.pages i c.index.result.now low in
-    let only =
-    is_only changes c.args.page i ready.once (λ e. omega (arith, e, bounds.0, here c.index.result.now)) low here in
-    only_same (λ (o : Option Sector). o) (pages_in image table) changes c.args.page i None c.index.result.now only
-    (omega (arith, bounds.1, here c.index.result.now, length-map table (page_at image)))
-    ∙ sym (c.view.ensures ∙ ap (λ (x : Change). x.bytes) c.index.ensures)
+    sym (c.view.ensures ∙ changed_bytes (g.D.Device.state c.args.device.now).disk.present c.args.self.now
+    c.deref.result.now c.args.page c.in-Some.i c.index.result.now (c.requires.open c.if-self.false)
+    c.deref.ensures.value c.in-Some.ensures.found.0 c.in-Some.ensures.found.1 c.index.ensures)
     ∙ c.copy_page.ensures.copied
 
 pub returns-in-None-clause-page : goal.returns-in-None-clause-page

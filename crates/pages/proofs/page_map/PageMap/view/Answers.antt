@@ -1,33 +1,19 @@
-use Rattle.std.proofs.Common.{◌≡◌, ◌<◌, List, length, sym, ◌∙◌, ap, subst, arith}
+use Rattle.std.proofs.Common.{◌≡◌, List, ◌∙◌, subst}
 use Rattle.std.specs.Prelude.{Option, None, option_copied}
-use Rattle.std.specs.List.{HoldsAt}
-use Rattle.std.proofs.lemmas.List.{length-map}
 use Rattle.station.specs.Disk.{Sector}
-use Rattle.pages.specs.Image.{pages_in, page_at}
-use Rattle.pages.specs.declared.change.Change.{Change}
+use Rattle.pages.specs.Image.{pages_in}
 use Rattle.pages.specs.Changes.{changed_pages}
 use Rattle.pages.specs.Pages.{map_now, page_of}
-use Rattle.pages.proofs.Edits.{Away, is_only, only_same, away_same, away_changed}
+use Rattle.pages.proofs.Edits.{Away, away_same, away_changed}
 use Rattle.pages.proofs.Caches.{viewed, held_page}
+use Rattle.pages.proofs.Lookups.{changed_bytes}
 use Rattle.pages.proofs.page_map.PageMap.view.Goals as goal
 
 changed_page : (c : goal.After-view) (image : List Sector)
     → option_copied c.view.result ≡ page_of (map_now c.args.self.now image) c.args.page
-changed_page c image =
-    let ready = c.requires c.if-self.false in
-    let changes = c.args.self.now.changes.items in
-    let table = c.args.self.now.volume.table in
-    let i = c.in-Some.i in
-    let low : i < length changes =
-    subst (λ (l : List Change). i < length l) c.deref.ensures.value c.in-Some.ensures.found.0 in
-    let here : HoldsAt (λ (x : Change). x.page ≡ c.args.page) changes i = subst (λ (l : List Change).
-    HoldsAt (λ (x : Change). x.page ≡ c.args.page) l i) c.deref.ensures.value c.in-Some.ensures.found.1 in
-    let bounds = ready.pages i c.index.result.now low in
-    let only =
-    is_only changes c.args.page i ready.once (λ e. omega (arith, e, bounds.0, here c.index.result.now)) low here in
-    c.view.ensures ∙ ap (λ (x : Change). x.bytes) c.index.ensures
-    ∙ sym (only_same (λ (o : Option Sector). o) (pages_in image table) changes c.args.page i None c.index.result.now
-    only (omega (arith, bounds.1, here c.index.result.now, length-map table (page_at image))))
+changed_page c image = c.view.ensures ∙ changed_bytes image c.args.self.now c.deref.result.now c.args.page c.in-Some.i
+    c.index.result.now (c.requires c.if-self.false) c.deref.ensures.value c.in-Some.ensures.found.0
+    c.in-Some.ensures.found.1 c.index.ensures
 
 pub returns-in-Some-clause-changed : goal.returns-in-Some-clause-changed
 returns-in-Some-clause-changed c = λ unspent has image. changed_page c image

@@ -1,11 +1,10 @@
-use Rattle.std.proofs.Common.{◌<◌, length, get_or, drop, None, sym, ap, subst, ◌∙◌}
+use Rattle.std.proofs.Common.{length, drop, sym, subst, ◌∙◌}
 use Rattle.std.proofs.lemmas.List.{get_or_read}
 use Rattle.perform_graph.specs.declared.progress.Progress.TheVariants.{Unseen}
-use Rattle.perform_graph.specs.Walk.{AllPlaced, HasGoneOver, HasNext, IsCycle, IsWalkState, state}
+use Rattle.perform_graph.specs.Walk.{AllPlaced, HasGoneOver, HasNext, IsCycle}
 use Rattle.perform_graph.proofs.Lists.{pushed_here}
-use Rattle.perform_graph.proofs.States.{is_unseen}
 use Rattle.perform_graph.proofs.Steps.{last_within, moved_stands, is_ring}
-use Rattle.perform_graph.proofs.Going.{last_room, placed_on, entered_on, only_last_leads}
+use Rattle.perform_graph.proofs.Going.{last_room, placed_on, walk_further}
 use Rattle.perform_graph.proofs.walk.Walk.go_on.Goals as goal
 
 pub moved-requires-clause-over : goal.moved-requires-clause-over
@@ -48,24 +47,12 @@ pub returns : goal.returns
 returns c =
     let performed = c.args.performs.now.performed.now in
     let states = c.args.self.now.states.items in
-    let path = c.args.self.now.path.items in
     let next = c.in-Some.visit in
-    let visit = c.visit.result in
     let has = subst (λ s. HasNext performed s c.args.visit.paragraph next) c.deref.ensures.value c.in-Some.ensures in
-    let moved =
-    moved_stands performed states path c.args.self.now.placed c.args.visit next c.requires.stands has.same has.over in
-    let middle =
-    subst (λ p. IsWalkState performed states p c.args.self.now.placed) (sym c.in_ok-push.ensures.items) moved in
     let read = get_or_read states next.next c.index.result.now has.within c.index.ensures Unseen in
-    let unseen =
-    is_unseen (state states next.next) has.unplaced (λ depth e. c.in_default-index.not-Open depth (read ∙ e)) in
-    let same = c.visit.ensures.paragraph in
-    entered_on performed states c.enter.new.self.states.items c.push.new.self.items c.enter.new.self.path.items
-    c.args.self.now.placed c.enter.new.self.placed visit
-    c.args.performs.now.last.items c.args.performs.now.before.items c.requires.grouped middle
-    (subst (λ p. p < length states) (sym same) has.within)
-    (ap (state states) same ∙ unseen)
-    (c.visit.ensures.at ∙ ap (λ p. get_or c.args.performs.now.last.items p None) (sym same)) c.visit.ensures.next
-    (only_last_leads performed path c.push.new.self.items next visit c.in_ok-push.ensures.items
-    (record { leads = has.leads; next = sym same }))
-    c.in_ok-enter.ensures.states c.in_ok-enter.ensures.path c.enter.ensures.placed
+    walk_further performed states c.enter.new.self.states.items c.args.self.now.path.items c.push.new.self.items
+    c.enter.new.self.path.items c.args.self.now.placed c.enter.new.self.placed c.args.visit next c.visit.result
+    c.args.performs.now.last.items c.args.performs.now.before.items c.requires.grouped c.requires.stands has
+    (λ depth e. c.in_default-index.not-Open depth (read ∙ e)) c.visit.ensures.paragraph c.visit.ensures.at
+    c.visit.ensures.next c.in_ok-push.ensures.items c.in_ok-enter.ensures.states c.in_ok-enter.ensures.path
+    c.enter.ensures.placed

@@ -1,18 +1,16 @@
 use Rattle.std.proofs.Common.{◌≡◌, Err, List, ℕ, [], sym, subst, ◌∙◌, arith}
-use Rattle.std.specs.Prelude.{Option, OnOk}
-use Rattle.station.specs.Disk.{Sector}
 use Rattle.pages.specs.declared.error.PagesError.TheVariants.{Device}
 use Rattle.btree.specs.Changes.{pages_of_map}
 use Rattle.btree.specs.Moves.{Moves}
-use Rattle.btree.specs.Tree.{TreeNode, IsTreeOrEmpty, pages_of}
 use Rattle.btree.proofs.Clearing.{moves_none}
 use Rattle.btree.proofs.Passing.{passed, still_error}
 use Rattle.row_trees.specs.Calls.{EditsPages}
-use Rattle.row_trees.proofs.Among.{alone, chained, chains_alone, viewed, same_chained, stands_among, stored_in}
-use Rattle.row_trees.proofs.Calling.{edits_by, edits_where, edits_last, refused_by_call, pages_told, change_told}
+use Rattle.row_trees.proofs.Among.{alone, chained, viewed, same_chained, stands_among, stored_in}
+use Rattle.row_trees.proofs.Calling.{edits_by, edits_where, edits_last, refused_by_call}
 use Rattle.row_trees.proofs.Forms.{no_chains}
 use Rattle.row_trees.proofs.Passing.{on_ok, on_err}
-use Rattle.row_trees.proofs.Releasing.{chains_gone, all_gone}
+use Rattle.row_trees.proofs.ReleasedRows.{clears_tree, cleared_never}
+use Rattle.row_trees.proofs.Releasing.{all_gone}
 use Rattle.row_trees.proofs.row_tree.RowTree.clear.Goals as goal
 
 -- The tree has its records itself.
@@ -69,47 +67,15 @@ returns-clause-edits g c =
     (edits_by g.D.Device _ _ _ _ _ two.only two.committed two.catalog two.agrees two.open)
 
 pub returns-clause-cleared : goal.returns-clause-cleared
-returns-clause-cleared g c = λ honest agrees left right entries is.
-    let image = (g.D.Device.state c.args.device.now).disk.present in
-    let before = pages_of_map c.args.pages.now image in
-    let view = chained c.self.inside.tree c.self.inside.record_bytes in
-    let own = viewed before left right view _ entries c.self.view_is is in
-    let stands = stands_among before left right view entries own in
-    let levels = own.planted.levels in
-    let mid = pages_of_map c.release_chains.new.pages image in
-    let edits = c.release_chains.ensures.edits in
-    let whole = alone before left right view entries own in
-    let gone = subst (λ (l : List ℕ). Moves before l mid []) (chains_alone before view own.planted whole)
-    (c.in_ok-release_chains.ensures.released honest agrees own.planted whole) in
-    let tree = chains_gone before mid view levels stands gone in
-    let after = pages_of_map c.clear-2.new.pages image in
-    let claim : List (Option Sector) → List (Option Sector) → Type 0 = λ one two. (levels : List (List TreeNode))
-    → IsTreeOrEmpty view.tree.layout one view.tree.root levels
-    → OnOk c.clear-2.result (Moves one (pages_of levels) two []) in
-    on_ok c.clear-2.result _ _ (all_gone before mid after left right view entries own gone)
-    (change_told g.D.Device _ c.release_chains.new.pages c.clear-2.new.pages c.args.device.now
-    c.release_chains.new.device claim honest edits.only (edits.agrees honest agrees) c.clear-2.ensures.cleared levels
-    tree)
+returns-clause-cleared g c =
+    clears_tree g.D.Device c.clear-2.new.pages _ c.release_chains.ensures.edits c.in_ok-release_chains.ensures.released
+    c.self.view_is
+    c.clear-2.ensures.cleared
 
 pub returns-clause-damaged : goal.returns-clause-damaged
-returns-clause-damaged g c = λ honest agrees left right entries is told.
-    let image = (g.D.Device.state c.args.device.now).disk.present in
-    let before = pages_of_map c.args.pages.now image in
-    let view = chained c.self.inside.tree c.self.inside.record_bytes in
-    let own = viewed before left right view _ entries c.self.view_is is in
-    let stands = stands_among before left right view entries own in
-    let levels = own.planted.levels in
-    let mid = pages_of_map c.release_chains.new.pages image in
-    let edits = c.release_chains.ensures.edits in
-    let whole = alone before left right view entries own in
-    let gone = subst (λ (l : List ℕ). Moves before l mid []) (chains_alone before view own.planted whole)
-    (c.in_ok-release_chains.ensures.released honest agrees own.planted whole) in
-    let tree = chains_gone before mid view levels stands gone in
-    let claim : List (Option Sector) → Type 0 = λ one. (levels : List (List TreeNode))
-    → IsTreeOrEmpty view.tree.layout one view.tree.root levels → ⊥ in
-    pages_told g.D.Device _ c.release_chains.new.pages c.args.device.now c.release_chains.new.device claim honest
-    edits.only (edits.agrees honest agrees) (λ h a levels tree. c.clear-2.ensures.damaged h a told levels tree) levels
-    tree
+returns-clause-damaged g c =
+    cleared_never g.D.Device c.release_chains.ensures.edits c.in_ok-release_chains.ensures.released c.self.view_is
+    c.clear-2.ensures.damaged (λ refused. refused)
 
 pub returns-clause-filled : goal.returns-clause-filled
 returns-clause-filled g c =

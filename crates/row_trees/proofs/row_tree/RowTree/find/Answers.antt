@@ -8,7 +8,7 @@ use Rattle.volume_format.specs.Calls.{LooksAt}
 use Rattle.volume_format.proofs.Looks.{looks_then, looks_past}
 use Rattle.row_trees.specs.RowTree.{ChainedTree, IsRowTree}
 use Rattle.row_trees.proofs.Calling.{looks_by, refused_by_call}
-use Rattle.row_trees.proofs.FoundRows.{none_got, short_got, long_got, read_whole, read_on}
+use Rattle.row_trees.proofs.FoundRows.{none_got, short_got, read_whole, found_long}
 use Rattle.row_trees.proofs.Forms.{value_made}
 use Rattle.row_trees.proofs.Passing.{never_device}
 use Rattle.byteorder.specs.Endian.{big_number}
@@ -77,18 +77,11 @@ returns-clause-looks g c =
     (looks_past g.D.Device _ _ _ _ read.only got.open)
 
 pub returns-clause-row : goal.returns-clause-row
-returns-clause-row g c = λ honest agrees planted is.
-    let pages : List (Option Sector) =
-    (map_now c.args.pages.now (g.D.Device.state c.args.device.now).disk.present).pages in
-    let view : ChainedTree = record { tree = c.self.inside.tree; record_bytes = c.self.inside.record_bytes } in
+returns-clause-row g c =
     let got = c.get.ensures in
     let bytes = c.in_ok-value.value.items in
-    long_got pages view planted c.args.key.now c.in_ok-entry.field-0 c.in-Some.entry bytes
-    c.extend_from_slice.new.self.items c.first_page-first.result
-    (subst (λ (t : ChainedTree). IsRowTree pages t planted) (sym c.self.view_is) is)
-    (c.in_ok-entry.ensures.entry honest agrees) c.in-Some.is c.if-self-eq0.false c.in_ok-value.ensures.long
+    found_long g.D.Device (looks_by g.D.Device _ _ _ _ _ got.only got.unchanged got.agrees got.open) c.self.view_is
+    c.in_ok-entry.ensures.entry c.in-Some.is c.if-self-eq0.false c.in_ok-value.ensures.long
     (c.first_page-first.ensures ∙ ap (big_number 4) c.value.ensures)
     (value_made bytes c.value-2.result.now _ _ c.in_ok-extend_from_slice.ensures.items c.value-2.ensures)
-    (read_on g.D.Device _ c.args.pages.now c.get.new.pages c.args.device.now c.get.new.device bytes
-    c.first_page-first.result (looks_by g.D.Device _ _ _ _ _ got.only got.unchanged got.agrees got.open)
-    c.in_ok-value.ensures.bytes honest agrees)
+    c.in_ok-value.ensures.bytes

@@ -1,28 +1,23 @@
-use Rattle.std.proofs.Common.{◌≡◌, ◌<◌, ◌+◌, true, false, Ok, Err, length, refl, sym, ap, subst, ◌∙◌, arith}
-use Rattle.std.specs.Prelude.{Some, IsSome, OnErr, IfErr}
+use Rattle.std.proofs.Common.{◌≡◌, Ok, Err, length, refl, sym, ap, subst, ◌∙◌, arith}
+use Rattle.std.specs.Prelude.{IsSome, OnErr, IfErr}
 use Rattle.pages.specs.Pages.{changed_pages_of}
 use Rattle.pages.specs.declared.error.PagesError.TheVariants.{Device}
 use Rattle.btree.specs.Changes.{pages_of_map}
 use Rattle.btree.specs.Refusals.{IsInsertRefusal}
 use Rattle.btree.proofs.Passing.{passed, never_ok, still_error, few_weaker, few_equal, write_not_device}
-use Rattle.btree.proofs.Passing.{search_is_insert, write_is_insert, damaged_not_device}
+use Rattle.btree.proofs.Passing.{committed_on, search_is_insert, write_is_insert, damaged_not_device}
 use Rattle.row_trees.specs.Calls.{EditsPages}
 use Rattle.row_trees.specs.RowTree.{ChainedTree}
-use Rattle.row_trees.proofs.Among.{chained, viewed, same_chained, stands_among, stored_in}
+use Rattle.row_trees.proofs.Among.{chained, viewed, same_chained, stands_among}
 use Rattle.row_trees.proofs.Calling.{looks_by, looks_edits, edits_by, edits_where, edits_last, edits_kept}
 use Rattle.row_trees.proofs.Calling.{refused_by_call}
+use Rattle.row_trees.proofs.LaidRows.{LaysRecord, laid_few, laid_room, laid_never, laid_missing, inserted_on, room_laid}
 use Rattle.row_trees.proofs.Passing.{search_not_full, write_not_damaged, on_err, full_unspent, few_laid, few_first}
-use Rattle.row_trees.proofs.Passing.{few_added, room_weaker}
-use Rattle.row_trees.proofs.Passing.{none_or_some}
-use Rattle.row_trees.proofs.LaidRows.{laid_tells, inserted_on, room_laid, room_later}
-use Rattle.btree.specs.Results.{FewChanged}
-use Rattle.btree.specs.Changes.{Inserts}
-use Rattle.btree.specs.Entries.{entry_with}
-use Rattle.pages.specs.Pages.{committed_of}
-use Rattle.pages.specs.Use.{free_count}
-use Rattle.btree.proofs.Passing.{committed_on}
+use Rattle.row_trees.proofs.Passing.{room_weaker}
 use Rattle.row_trees.proofs.Short.{inserted_short, some_seen}
+use Rattle.row_trees.proofs.row_tree.RowTree.insert.Given.{Over}
 use Rattle.row_trees.proofs.row_tree.RowTree.insert.Goals as goal
+use Rattle.row_trees.proofs.row_tree.RowTree.insert.Goals.{After-insert-2}
 
 -- The tree has its records itself.
 pub returns-then-self-eq0-clause-inserted : goal.returns-then-self-eq0-clause-inserted
@@ -177,7 +172,19 @@ returns-in_err-first-clause-cause g c = passed c.from_residual-in_err-first.resu
     c.from_residual-in_err-first.ensures.1 (λ r. IfErr r IsInsertRefusal)
     (write_is_insert c.in_err-first.field-0.0 c.in_err-first.ensures.cause)
 
--- A chain was laid, and its entry did not come into the tree.
+-- A chain was laid, and its entry was not added to the tree.
+-- the chain that was laid for the record of the new row
+lays : (g : Over) (c : After-insert-2 g) → LaysRecord g.D.Device (c.get.result ≡ Err Device) c.args.pages.now
+    c.get.new.pages c.lay.new.pages c.args.device.now c.get.new.device
+    (chained c.self.inside.tree c.self.inside.record_bytes) c.split_at.result.0.now c.in_ok-first.first
+lays g c = let got = c.get.ensures in
+    record {
+      looks = looks_by g.D.Device _ _ _ _ _ got.only got.unchanged got.agrees got.open;
+      laid = c.in_ok-first.ensures.laid;
+      keeps = c.lay.ensures.keeps;
+      few = c.lay.ensures.changed_pages;
+      many = c.split_at.ensures.front_len;
+    }
 
 pub returns-in_err-added-clause-edits : goal.returns-in_err-added-clause-edits
 returns-in_err-added-clause-edits g c =
@@ -193,55 +200,21 @@ returns-in_err-added-clause-edits g c =
     (edits_by g.D.Device _ _ _ _ _ ins.only ins.committed ins.catalog ins.agrees ins.open))
 
 pub returns-in_err-added-clause-damaged : goal.returns-in_err-added-clause-damaged
-returns-in_err-added-clause-damaged g c = λ honest agrees left right entries is told.
-    let image = (g.D.Device.state c.args.device.now).disk.present in
-    let before = pages_of_map c.args.pages.now image in
-    let view = chained c.self.inside.tree c.self.inside.record_bytes in
-    let own = viewed before left right view _ entries c.self.view_is is in
-    let got = c.get.ensures in
-    let looks = looks_by g.D.Device _ _ _ _ _ got.only got.unchanged got.agrees got.open in
-    let stands = stands_among before left right view entries own in
-    let damaged = refused_by_call c.in_err-added.was c.from_residual-in_err-added.ensures.1 told in
-    laid_tells g.D.Device _ c.args.pages.now c.get.new.pages c.lay.new.pages c.args.device.now c.get.new.device view
-    own.planted.levels c.split_at.result.0.now c.in_ok-first.first (λ levels. ⊥) looks c.in_ok-first.ensures.laid
-    c.lay.ensures.keeps honest agrees stands (λ h a levels tree. c.insert-2.ensures.damaged h a damaged levels tree)
+returns-in_err-added-clause-damaged g c =
+    laid_never g.D.Device (lays g (goal.at.returns-in_err-added-clause-damaged g c).After-insert-2) c.self.view_is
+    c.insert-2.ensures.damaged (refused_by_call c.in_err-added.was c.from_residual-in_err-added.ensures.1)
 
 pub returns-in_err-added-clause-changed_pages : goal.returns-in_err-added-clause-changed_pages
-returns-in_err-added-clause-changed_pages g c = λ honest agrees left right entries is.
-    let image = (g.D.Device.state c.args.device.now).disk.present in
-    let before = pages_of_map c.args.pages.now image in
-    let view = chained c.self.inside.tree c.self.inside.record_bytes in
-    let own = viewed before left right view _ entries c.self.view_is is in
-    let got = c.get.ensures in
-    let looks = looks_by g.D.Device _ _ _ _ _ got.only got.unchanged got.agrees got.open in
-    let stands = stands_among before left right view entries own in
-    few_added (changed_pages_of c.args.pages.now) (changed_pages_of c.get.new.pages) (changed_pages_of c.lay.new.pages)
-    (changed_pages_of c.insert-2.new.pages) _ _ 42 got.unchanged.changed_pages c.lay.ensures.changed_pages
-    (c.split_at.ensures.front_len ∙ ap (λ (t : ChainedTree). t.record_bytes) c.self.view_is)
-    (laid_tells g.D.Device _ c.args.pages.now c.get.new.pages c.lay.new.pages c.args.device.now c.get.new.device view
-    own.planted.levels c.split_at.result.0.now c.in_ok-first.first
-    (λ levels. FewChanged 42 c.lay.new.pages c.insert-2.new.pages) looks c.in_ok-first.ensures.laid
-    c.lay.ensures.keeps honest agrees stands c.insert-2.ensures.changed_pages)
+returns-in_err-added-clause-changed_pages g c =
+    laid_few g.D.Device c.insert-2.new.pages _
+    (lays g (goal.at.returns-in_err-added-clause-changed_pages g c).After-insert-2) c.self.view_is
+    c.insert-2.ensures.changed_pages
 
 pub returns-in_err-added-clause-room : goal.returns-in_err-added-clause-room
-returns-in_err-added-clause-room g c = λ honest agrees left right entries is full.
-    let image = (g.D.Device.state c.args.device.now).disk.present in
-    let before = pages_of_map c.args.pages.now image in
-    let view = chained c.self.inside.tree c.self.inside.record_bytes in
-    let own = viewed before left right view _ entries c.self.view_is is in
-    let got = c.get.ensures in
-    let looks = looks_by g.D.Device _ _ _ _ _ got.only got.unchanged got.agrees got.open in
-    let stands = stands_among before left right view entries own in
-    let told = refused_by_call c.in_err-added.was c.from_residual-in_err-added.ensures.1 full in
-    let same = committed_on _ _ _ got.unchanged.committed c.lay.ensures.keeps.committed in
-    let size = c.split_at.ensures.front_len ∙ ap (λ (t : ChainedTree). t.record_bytes) c.self.view_is in
-    room_later c.args.pages.now c.lay.new.pages _ 42 same
-    (few_first (changed_pages_of c.args.pages.now) (changed_pages_of c.get.new.pages)
-    (changed_pages_of c.lay.new.pages) _ _ got.unchanged.changed_pages c.lay.ensures.changed_pages size)
-    (laid_tells g.D.Device _ c.args.pages.now c.get.new.pages c.lay.new.pages c.args.device.now c.get.new.device view
-    own.planted.levels c.split_at.result.0.now c.in_ok-first.first (λ levels. free_count (committed_of c.lay.new.pages)
-    < length (changed_pages_of c.lay.new.pages) + 42) looks c.in_ok-first.ensures.laid
-    c.lay.ensures.keeps honest agrees stands (λ h a levels tree. c.insert-2.ensures.room h a levels tree told))
+returns-in_err-added-clause-room g c =
+    laid_room g.D.Device _ c.insert-2.result c.from_residual-in_err-added.result
+    (lays g (goal.at.returns-in_err-added-clause-room g c).After-insert-2) c.self.view_is c.insert-2.ensures.room
+    (refused_by_call c.in_err-added.was c.from_residual-in_err-added.ensures.1)
 
 pub returns-in_err-added-clause-refused : goal.returns-in_err-added-clause-refused
 returns-in_err-added-clause-refused g c =
@@ -266,43 +239,22 @@ returns-then-not-added-clause-edits g c =
 
 pub returns-then-not-added-clause-damaged : goal.returns-then-not-added-clause-damaged
 returns-then-not-added-clause-damaged g c = λ honest agrees left right entries is told.
-    let image = (g.D.Device.state c.args.device.now).disk.present in
-    let before = pages_of_map c.args.pages.now image in
-    let view = chained c.self.inside.tree c.self.inside.record_bytes in
-    let own = viewed before left right view _ entries c.self.view_is is in
-    let got = c.get.ensures in
-    let looks = looks_by g.D.Device _ _ _ _ _ got.only got.unchanged got.agrees got.open in
-    let stands = stands_among before left right view entries own in
-    none_or_some (sym (c.in_ok-held.ensures.entry honest agrees own.planted.levels stands.tree))
-    (sym c.is_some.ensures ∙ c.if-is_some.false)
-    (laid_tells g.D.Device _ c.args.pages.now c.get.new.pages c.lay.new.pages c.args.device.now c.get.new.device view
-    own.planted.levels c.split_at.result.0.now c.in_ok-first.first
-    (λ levels. IsSome (entry_with (stored_in view levels) c.args.key.now)) looks c.in_ok-first.ensures.laid
-    c.lay.ensures.keeps honest agrees stands
-    (λ h a levels tree. c.insert-2.ensures.there h a levels tree (c.in_ok-added.was ∙ ap Ok c.if-not-added.true)))
+    laid_missing g.D.Device c.args.key.now _ (lays g (goal.at.returns-then-not-added-clause-damaged g c).After-insert-2)
+    c.self.view_is c.in_ok-held.ensures.entry (sym c.is_some.ensures ∙ c.if-is_some.false)
+    (λ h a levels tree. c.insert-2.ensures.there h a levels tree (c.in_ok-added.was ∙ ap Ok c.if-not-added.true))
+    honest agrees left right entries is
 
 pub returns-then-not-added-clause-changed_pages : goal.returns-then-not-added-clause-changed_pages
-returns-then-not-added-clause-changed_pages g c = λ honest agrees left right entries is.
-    let image = (g.D.Device.state c.args.device.now).disk.present in
-    let before = pages_of_map c.args.pages.now image in
-    let view = chained c.self.inside.tree c.self.inside.record_bytes in
-    let own = viewed before left right view _ entries c.self.view_is is in
-    let got = c.get.ensures in
-    let looks = looks_by g.D.Device _ _ _ _ _ got.only got.unchanged got.agrees got.open in
-    let stands = stands_among before left right view entries own in
-    few_added (changed_pages_of c.args.pages.now) (changed_pages_of c.get.new.pages) (changed_pages_of c.lay.new.pages)
-    (changed_pages_of c.insert-2.new.pages) _ _ 42 got.unchanged.changed_pages c.lay.ensures.changed_pages
-    (c.split_at.ensures.front_len ∙ ap (λ (t : ChainedTree). t.record_bytes) c.self.view_is)
-    (laid_tells g.D.Device _ c.args.pages.now c.get.new.pages c.lay.new.pages c.args.device.now c.get.new.device view
-    own.planted.levels c.split_at.result.0.now c.in_ok-first.first
-    (λ levels. FewChanged 42 c.lay.new.pages c.insert-2.new.pages) looks c.in_ok-first.ensures.laid
-    c.lay.ensures.keeps honest agrees stands c.insert-2.ensures.changed_pages)
+returns-then-not-added-clause-changed_pages g c =
+    laid_few g.D.Device c.insert-2.new.pages _
+    (lays g (goal.at.returns-then-not-added-clause-changed_pages g c).After-insert-2) c.self.view_is
+    c.insert-2.ensures.changed_pages
 
 pub returns-then-not-added-clause-refused : goal.returns-then-not-added-clause-refused
 returns-then-not-added-clause-refused g c = same_chained _ _ c.self.inside.record_bytes _
     (c.insert-2.ensures.same (c.in_ok-added.was ∙ ap Ok c.if-not-added.true)).1 c.self.view_is
 
--- It did.
+-- It was.
 
 pub returns-clause-edits : goal.returns-clause-edits
 returns-clause-edits g c =
@@ -315,39 +267,15 @@ returns-clause-edits g c =
     (edits_by g.D.Device _ _ _ _ _ ins.only ins.committed ins.catalog ins.agrees ins.open)
 
 pub returns-clause-inserted : goal.returns-clause-inserted
-returns-clause-inserted g c = λ honest agrees left right entries is ok.
-    let image = (g.D.Device.state c.args.device.now).disk.present in
-    let before = pages_of_map c.args.pages.now image in
-    let view = chained c.self.inside.tree c.self.inside.record_bytes in
-    let own = viewed before left right view _ entries c.self.view_is is in
-    let got = c.get.ensures in
-    let looks = looks_by g.D.Device _ _ _ _ _ got.only got.unchanged got.agrees got.open in
-    let stands = stands_among before left right view entries own in
-    let value = c.bytes.ensures ∙ c.new-stored.ensures in
-    let done = c.in_ok-added.was ∙ ap Ok c.if-not-added.false in
-    inserted_on g.D.Device _ c.args.pages.now c.get.new.pages c.lay.new.pages c.insert-2.new.pages c.args.device.now
-    c.get.new.device left right view _ entries c.args.key.now c.split_at.result.0.now c.split_at.result.1.now
-    c.args.value.now c.in_ok-first.first looks c.in_ok-first.ensures.laid c.lay.ensures.keeps
-    (λ h a levels tree. subst (λ v. Inserts c.self.inside.tree.layout
-    (pages_of_map c.lay.new.pages (g.D.Device.state c.get.new.device).disk.present) levels
-    (pages_of_map c.insert-2.new.pages (g.D.Device.state c.get.new.device).disk.present) c.args.key.now v
-    (Some c.insert-2.new.self.root)) value (c.insert-2.ensures.inserted h a levels tree done)) c.if-self-eq0.false
-    (omega arith) c.split_at.ensures.front_len (sym c.split_at.ensures.by_index.0) c.insert-2.ensures.layout refl honest
-    agrees own
+returns-clause-inserted g c =
+    inserted_on g.D.Device c.insert-2.new.pages (lays g (goal.at.returns-clause-inserted g c).After-insert-2)
+    c.self.view_is
+    (λ h a levels tree. c.insert-2.ensures.inserted h a levels tree (c.in_ok-added.was ∙ ap Ok c.if-not-added.false))
+    (c.bytes.ensures ∙ c.new-stored.ensures) c.if-self-eq0.false (omega arith) (sym c.split_at.ensures.by_index.0)
+    c.insert-2.ensures.layout refl
 
 pub returns-clause-changed_pages : goal.returns-clause-changed_pages
-returns-clause-changed_pages g c = λ honest agrees left right entries is.
-    let image = (g.D.Device.state c.args.device.now).disk.present in
-    let before = pages_of_map c.args.pages.now image in
-    let view = chained c.self.inside.tree c.self.inside.record_bytes in
-    let own = viewed before left right view _ entries c.self.view_is is in
-    let got = c.get.ensures in
-    let looks = looks_by g.D.Device _ _ _ _ _ got.only got.unchanged got.agrees got.open in
-    let stands = stands_among before left right view entries own in
-    few_added (changed_pages_of c.args.pages.now) (changed_pages_of c.get.new.pages) (changed_pages_of c.lay.new.pages)
-    (changed_pages_of c.insert-2.new.pages) _ _ 42 got.unchanged.changed_pages c.lay.ensures.changed_pages
-    (c.split_at.ensures.front_len ∙ ap (λ (t : ChainedTree). t.record_bytes) c.self.view_is)
-    (laid_tells g.D.Device _ c.args.pages.now c.get.new.pages c.lay.new.pages c.args.device.now c.get.new.device view
-    own.planted.levels c.split_at.result.0.now c.in_ok-first.first
-    (λ levels. FewChanged 42 c.lay.new.pages c.insert-2.new.pages) looks c.in_ok-first.ensures.laid
-    c.lay.ensures.keeps honest agrees stands c.insert-2.ensures.changed_pages)
+returns-clause-changed_pages g c =
+    laid_few g.D.Device c.insert-2.new.pages _ (lays g (goal.at.returns-clause-changed_pages g c).After-insert-2)
+    c.self.view_is
+    c.insert-2.ensures.changed_pages

@@ -1,22 +1,20 @@
-use Rattle.std.proofs.Common.{◌≡◌, ◌+◌, Ok, Err, ℕ, refl, sym, ap, subst, ◌∙◌}
+use Rattle.std.proofs.Common.{◌≡◌, Ok, Err, refl, sym, ap, ◌∙◌}
 use Rattle.std.specs.Prelude.{None, IfErr}
 use Rattle.byteorder.specs.Endian.{big_number}
-use Rattle.pages.specs.Pages.{changed_pages_of}
 use Rattle.pages.specs.declared.error.PagesError.TheVariants.{Device}
 use Rattle.btree.specs.Changes.{pages_of_map}
 use Rattle.btree.specs.Entries.{entry_with}
 use Rattle.btree.specs.Refusals.{IsChangeRefusal}
-use Rattle.btree.specs.Results.{FewChanged}
 use Rattle.btree.proofs.Passing.{passed, never_ok, still_error, few_weaker, search_is_change, damaged_not_device}
-use Rattle.chains.specs.Chain.{pages_for}
 use Rattle.row_trees.specs.Calls.{EditsPages}
-use Rattle.row_trees.specs.RowTree.{ChainedTree}
 use Rattle.row_trees.proofs.Among.{chained, viewed, same_chained, stands_among, stored_in}
 use Rattle.row_trees.proofs.Calling.{looks_by, looks_edits, edits_by, edits_where, edits_last, refused_by_call}
-use Rattle.row_trees.proofs.Passing.{on_ok, few_released, none_not_some}
+use Rattle.row_trees.proofs.Passing.{on_ok, none_not_some}
 use Rattle.row_trees.proofs.Short.{removed_short, none_seen}
-use Rattle.row_trees.proofs.TakenRows.{read_tells, left_never, removed_on}
+use Rattle.row_trees.proofs.TakenRows.{TakesEntry, read_tells, taken_never, taken_few, removed_on}
+use Rattle.row_trees.proofs.row_tree.RowTree.remove.Given.{Over}
 use Rattle.row_trees.proofs.row_tree.RowTree.remove.Goals as goal
+use Rattle.row_trees.proofs.row_tree.RowTree.remove.Goals.{After-release}
 
 -- The tree has its records itself.
 pub returns-then-self-eq0-clause-removed : goal.returns-then-self-eq0-clause-removed
@@ -164,7 +162,23 @@ returns-then-not-removed-clause-damaged g c = λ honest agrees left right entrie
     none_not_some (sym none ∙ sym (c.in_ok-entry.ensures.entry honest agrees own.planted.levels stands.tree)
     ∙ c.in-Some.is)
 
--- Its chain was not released.
+-- Its entry was taken out of the tree, and its chain was not released.
+takes : (g : Over) (c : After-release g) → TakesEntry g.D.Device (c.get.result ≡ Err Device)
+    (c.remove-2.result ≡ Err Device) c.args.pages.now c.get.new.pages c.remove-2.new.pages c.args.device.now
+    c.get.new.device c.remove-2.new.device (chained c.self.inside.tree c.self.inside.record_bytes)
+    c.remove-2.new.self.root c.args.key.now c.in-Some.entry c.first_page-first.result
+takes g c = let got = c.get.ensures in
+    let cut = c.remove-2.ensures in
+    let done = c.in_ok-removed.was ∙ ap Ok c.if-not-removed.false in
+    record {
+      looks = looks_by g.D.Device _ _ _ _ _ got.only got.unchanged got.agrees got.open;
+      found = λ h a levels tree. sym (c.in_ok-entry.ensures.entry h a levels tree) ∙ c.in-Some.is;
+      taken = λ h a levels tree. cut.removed h a levels tree done;
+      edits = edits_by g.D.Device _ _ _ _ _ cut.only cut.committed cut.catalog cut.agrees cut.open;
+      first_is = c.first_page-first.ensures ∙ ap (big_number 4) c.value.ensures;
+      long = c.if-self-eq0.false;
+    }
+
 pub returns-in_err-release-clause-edits : goal.returns-in_err-release-clause-edits
 returns-in_err-release-clause-edits g c =
     let got = c.get.ensures in
@@ -180,24 +194,9 @@ returns-in_err-release-clause-edits g c =
     (edits_by g.D.Device _ _ _ _ _ end.only end.committed end.catalog end.agrees end.open))
 
 pub returns-in_err-release-clause-damaged : goal.returns-in_err-release-clause-damaged
-returns-in_err-release-clause-damaged g c = λ honest agrees left right entries is told.
-    let image = (g.D.Device.state c.args.device.now).disk.present in
-    let before = pages_of_map c.args.pages.now image in
-    let view = chained c.self.inside.tree c.self.inside.record_bytes in
-    let own = viewed before left right view _ entries c.self.view_is is in
-    let stands = stands_among before left right view entries own in
-    let got = c.get.ensures in
-    let looks = looks_by g.D.Device _ _ _ _ _ got.only got.unchanged got.agrees got.open in
-    let cut = c.remove-2.ensures in
-    let edits = edits_by g.D.Device _ _ _ _ _ cut.only cut.committed cut.catalog cut.agrees cut.open in
-    let done = c.in_ok-removed.was ∙ ap Ok c.if-not-removed.false in
-    let first_is = c.first_page-first.ensures ∙ ap (big_number 4) c.value.ensures in
-    let found = sym (c.in_ok-entry.ensures.entry honest agrees own.planted.levels stands.tree) ∙ c.in-Some.is in
-    left_never g.D.Device _ _ c.args.pages.now c.get.new.pages c.remove-2.new.pages c.args.device.now c.get.new.device
-    c.remove-2.new.device view c.remove-2.new.self.root c.args.key.now c.in-Some.entry own.planted.levels
-    c.first_page-first.result _ looks (λ h a levels tree. c.remove-2.ensures.removed h a levels tree done) edits
-    c.release.ensures.damaged first_is c.if-self-eq0.false honest agrees stands found
-    (refused_by_call c.in_err-release.was c.from_residual-in_err-release.ensures.1 told)
+returns-in_err-release-clause-damaged g c =
+    taken_never g.D.Device (takes g (goal.at.returns-in_err-release-clause-damaged g c).After-release) c.self.view_is
+    c.release.ensures.damaged (refused_by_call c.in_err-release.was c.from_residual-in_err-release.ensures.1)
 
 pub returns-in_err-release-clause-spent : goal.returns-in_err-release-clause-spent
 returns-in_err-release-clause-spent g c = λ is.
@@ -217,39 +216,14 @@ returns-clause-edits g c =
     (edits_by g.D.Device _ _ _ _ _ end.only end.committed end.catalog end.agrees end.open)
 
 pub returns-clause-removed : goal.returns-clause-removed
-returns-clause-removed g c = λ honest agrees left right entries is ok.
-    let image = (g.D.Device.state c.args.device.now).disk.present in
-    let before = pages_of_map c.args.pages.now image in
-    let view = chained c.self.inside.tree c.self.inside.record_bytes in
-    let own = viewed before left right view _ entries c.self.view_is is in
-    let stands = stands_among before left right view entries own in
-    let got = c.get.ensures in
-    let looks = looks_by g.D.Device _ _ _ _ _ got.only got.unchanged got.agrees got.open in
-    let cut = c.remove-2.ensures in
-    let edits = edits_by g.D.Device _ _ _ _ _ cut.only cut.committed cut.catalog cut.agrees cut.open in
-    let done = c.in_ok-removed.was ∙ ap Ok c.if-not-removed.false in
-    let first_is = c.first_page-first.ensures ∙ ap (big_number 4) c.value.ensures in
-    let found = sym (c.in_ok-entry.ensures.entry honest agrees own.planted.levels stands.tree) ∙ c.in-Some.is in
-    removed_on g.D.Device _ _ c.args.pages.now c.get.new.pages c.remove-2.new.pages c.release.new.pages
-    c.args.device.now c.get.new.device c.remove-2.new.device left right view _ entries c.args.key.now c.in-Some.entry
-    c.first_page-first.result looks (λ h a levels tree. c.remove-2.ensures.removed h a levels tree done) edits
-    c.in_ok-release.ensures.released first_is c.if-self-eq0.false c.remove-2.ensures.layout refl honest agrees own
-    found
+returns-clause-removed g c =
+    removed_on g.D.Device c.release.new.pages (takes g (goal.at.returns-clause-removed g c).After-release)
+    c.self.view_is
+    c.in_ok-release.ensures.released c.remove-2.ensures.layout refl
 
 pub returns-clause-changed_pages : goal.returns-clause-changed_pages
-returns-clause-changed_pages g c = λ honest agrees left right entries is.
-    let image = (g.D.Device.state c.args.device.now).disk.present in
-    let before = pages_of_map c.args.pages.now image in
-    let view = chained c.self.inside.tree c.self.inside.record_bytes in
-    let own = viewed before left right view _ entries c.self.view_is is in
-    let stands = stands_among before left right view entries own in
+returns-clause-changed_pages g c =
     let got = c.get.ensures in
-    let looks = looks_by g.D.Device _ _ _ _ _ got.only got.unchanged got.agrees got.open in
-    let few = read_tells g.D.Device _ c.args.pages.now c.get.new.pages c.args.device.now c.get.new.device view
-    own.planted.levels (λ levels. FewChanged 42 c.get.new.pages c.remove-2.new.pages) looks honest agrees stands
-    c.in_ok-removed.ensures.changed_pages in
-    subst (λ (n : ℕ). FewChanged (42 + pages_for n) c.args.pages.now c.release.new.pages)
-    (ap (λ (t : ChainedTree). t.record_bytes) c.self.view_is)
-    (few_released (changed_pages_of c.args.pages.now) (changed_pages_of c.get.new.pages)
-    (changed_pages_of c.remove-2.new.pages) (changed_pages_of c.release.new.pages) c.self.inside.record_bytes 42
-    c.get.ensures.unchanged.changed_pages few c.release.ensures.changed_pages)
+    taken_few g.D.Device c.remove-2.new.pages c.release.new.pages _
+    (looks_by g.D.Device _ _ _ _ _ got.only got.unchanged got.agrees got.open) c.self.view_is
+    c.in_ok-removed.ensures.changed_pages c.release.ensures.changed_pages

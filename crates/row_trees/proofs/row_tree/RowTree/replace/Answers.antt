@@ -1,25 +1,27 @@
 use Rattle.std.proofs.Common.{◌≡◌, ◌++◌, Ok, Err, List, ℕ, length, sym, ap, subst, ◌∙◌, arith}
-use Rattle.std.specs.Prelude.{None, IsSome, IfErr}
+use Rattle.std.specs.Prelude.{IsSome, IfErr}
 use Rattle.std.proofs.lemmas.Bool.Decides.{Decides-eqb}
 use Rattle.std.proofs.lemmas.Slice.Eq.{slice_eq-Decides}
 use Rattle.byteorder.specs.Endian.{big_number}
 use Rattle.pages.specs.Pages.{changed_pages_of}
 use Rattle.pages.specs.declared.error.PagesError.TheVariants.{Device}
-use Rattle.btree.specs.Calls.{OnTreeChange}
-use Rattle.btree.specs.Changes.{Becomes, pages_of_map}
+use Rattle.btree.specs.Changes.{pages_of_map}
 use Rattle.btree.specs.Entries.{entry_with, with_value}
 use Rattle.btree.specs.Refusals.{IsChangeRefusal}
 use Rattle.btree.proofs.Passing.{passed, never_ok, still_error, few_weaker, few_equal, search_is_change}
 use Rattle.btree.proofs.Passing.{damaged_not_device}
 use Rattle.row_trees.specs.Calls.{EditsPages}
 use Rattle.row_trees.specs.RowTree.{ChainedTree, IsRowTreeAmong}
-use Rattle.row_trees.proofs.Among.{chained, viewed, same_chained, stands_among, stored_in}
+use Rattle.row_trees.proofs.Among.{chained, viewed, same_chained, stands_among}
 use Rattle.row_trees.proofs.Calling.{looks_by, looks_edits, edits_by, edits_where, edits_last, refused_by_call}
 use Rattle.row_trees.proofs.Forms.{pair, rest_is}
-use Rattle.row_trees.proofs.Passing.{few_laid, few_added, none_not_some}
-use Rattle.row_trees.proofs.RewrittenRows.{rewritten_on, rewrite_never, rewritten_tells, unwritten_on, replaced_on}
+use Rattle.row_trees.proofs.Passing.{few_laid, few_added}
+use Rattle.row_trees.proofs.RewrittenRows.{RewritesFound, rewrite_never, written_never, written_there}
+use Rattle.row_trees.proofs.RewrittenRows.{unwritten_on, replaced_on}
 use Rattle.row_trees.proofs.Short.{replaced_short, none_seen}
+use Rattle.row_trees.proofs.row_tree.RowTree.replace.Given.{Over}
 use Rattle.row_trees.proofs.row_tree.RowTree.replace.Goals as goal
+use Rattle.row_trees.proofs.row_tree.RowTree.replace.Goals.{After-eq-is_same}
 
 -- The tree has its records itself, or no search succeeded, or there is no such row.
 pub returns-then-self-eq0-clause-missing : goal.returns-then-self-eq0-clause-missing
@@ -152,6 +154,22 @@ returns-in_err-rewrite-clause-spent g c = λ is.
     ∙ (c.rewrite.ensures.spent.0 (refused_by_call c.in_err-rewrite.was c.from_residual-in_err-rewrite.ensures.1 is)).0
 
 -- What follows the record is the same.
+writes : (g : Over) (c : After-eq-is_same g) → RewritesFound g.D.Device (c.get.result ≡ Err Device)
+    (c.rewrite.result ≡ Err Device) c.args.pages.now c.get.new.pages c.rewrite.new.pages c.args.device.now
+    c.get.new.device c.rewrite.new.device (chained c.self.inside.tree c.self.inside.record_bytes) c.args.key.now
+    c.split_at.result.0.now c.in-Some.entry c.first_page-first.result
+writes g c = let got = c.get.ensures in
+    let put = c.rewrite.ensures in
+    record {
+      looks = looks_by g.D.Device _ _ _ _ _ got.only got.unchanged got.agrees got.open;
+      found = λ h a levels tree. sym (c.in_ok-entry.ensures.entry h a levels tree) ∙ c.in-Some.is;
+      rewritten = c.in_ok-rewrite.ensures.rewritten;
+      edits = edits_by g.D.Device _ _ _ _ _ put.only put.committed put.catalog put.agrees put.open;
+      first_is = c.first_page-first.ensures ∙ ap (big_number 4) c.value.ensures;
+      many = c.split_at.ensures.front_len;
+      long = c.if-self-eq0.false;
+    }
+
 pub returns-then-is_same-clause-edits : goal.returns-then-is_same-clause-edits
 returns-then-is_same-clause-edits g c =
     let got = c.get.ensures in
@@ -161,30 +179,12 @@ returns-then-is_same-clause-edits g c =
     (edits_by g.D.Device _ _ _ _ _ put.only put.committed put.catalog put.agrees put.open)
 
 pub returns-then-is_same-clause-replaced : goal.returns-then-is_same-clause-replaced
-returns-then-is_same-clause-replaced g c = λ honest agrees left right entries is ok.
-    let image = (g.D.Device.state c.args.device.now).disk.present in
-    let before = pages_of_map c.args.pages.now image in
-    let view = chained c.self.inside.tree c.self.inside.record_bytes in
-    let own = viewed before left right view _ entries c.self.view_is is in
-    let stands = stands_among before left right view entries own in
-    let got = c.get.ensures in
-    let looks = looks_by g.D.Device _ _ _ _ _ got.only got.unchanged got.agrees got.open in
-    let found = sym (c.in_ok-entry.ensures.entry honest agrees own.planted.levels stands.tree) ∙ c.in-Some.is in
-    let first_is = c.first_page-first.ensures ∙ ap (big_number 4) c.value.ensures in
-    let written = rewritten_on g.D.Device _ c.args.pages.now c.get.new.pages c.rewrite.new.pages c.args.device.now
-    c.get.new.device view c.args.key.now c.split_at.result.0.now c.in-Some.entry c.first_page-first.result
-    own.planted.levels looks c.in_ok-rewrite.ensures.rewritten first_is c.split_at.ensures.front_len c.if-self-eq0.false
-    honest agrees stands found in
+returns-then-is_same-clause-replaced g c =
     let same = (slice_eq-Decides Decides-eqb _ _ _ c.eq-is_same.ensures).0 c.if-is_same.true in
-    subst (λ (t : ChainedTree). IsSome (entry_with entries c.args.key.now)
-    × IsRowTreeAmong (pages_of_map c.rewrite.new.pages image) left right t
-    (with_value entries (pair c.args.key.now c.args.value.now))) c.self.view_is
-    (unwritten_on g.D.Device c.args.pages.now c.rewrite.new.pages c.args.device.now left right view entries
-    c.args.key.now c.split_at.result.0.now c.args.value.now c.in-Some.entry c.if-self-eq0.false
-    c.split_at.ensures.front_len
+    unwritten_on g.D.Device (writes g (goal.at.returns-then-is_same-clause-replaced g c).After-eq-is_same)
+    c.self.view_is
     (ap (λ (l : List ℕ). c.split_at.result.0.now ++ l)
     (rest_is c.value-2.result.now c.in-Some.entry.value _ same c.value-2.ensures) ∙ sym c.split_at.ensures.by_index.0)
-    own found written)
 
 pub returns-then-is_same-clause-changed_pages : goal.returns-then-is_same-clause-changed_pages
 returns-then-is_same-clause-changed_pages g c =
@@ -208,27 +208,10 @@ returns-in_err-replaced-clause-edits g c =
     (edits_by g.D.Device _ _ _ _ _ end.only end.committed end.catalog end.agrees end.open))
 
 pub returns-in_err-replaced-clause-damaged : goal.returns-in_err-replaced-clause-damaged
-returns-in_err-replaced-clause-damaged g c = λ honest agrees left right entries is told.
-    let image = (g.D.Device.state c.args.device.now).disk.present in
-    let before = pages_of_map c.args.pages.now image in
-    let view = chained c.self.inside.tree c.self.inside.record_bytes in
-    let own = viewed before left right view _ entries c.self.view_is is in
-    let stands = stands_among before left right view entries own in
-    let got = c.get.ensures in
-    let looks = looks_by g.D.Device _ _ _ _ _ got.only got.unchanged got.agrees got.open in
-    let found = sym (c.in_ok-entry.ensures.entry honest agrees own.planted.levels stands.tree) ∙ c.in-Some.is in
-    let first_is = c.first_page-first.ensures ∙ ap (big_number 4) c.value.ensures in
-    let written = rewritten_on g.D.Device _ c.args.pages.now c.get.new.pages c.rewrite.new.pages c.args.device.now
-    c.get.new.device view c.args.key.now c.split_at.result.0.now c.in-Some.entry c.first_page-first.result
-    own.planted.levels looks c.in_ok-rewrite.ensures.rewritten first_is c.split_at.ensures.front_len c.if-self-eq0.false
-    honest agrees stands found in
-    let put = c.rewrite.ensures in
-    let edits = edits_by g.D.Device _ _ _ _ _ put.only put.committed put.catalog put.agrees put.open in
-    let damaged = refused_by_call c.in_err-replaced.was c.from_residual-in_err-replaced.ensures.1 told in
-    rewritten_tells g.D.Device _ _ c.args.pages.now c.get.new.pages c.rewrite.new.pages c.args.device.now
-    c.get.new.device c.rewrite.new.device view c.args.key.now c.split_at.result.0.now c.in-Some.entry
-    own.planted.levels (λ levels. ⊥) looks edits c.if-self-eq0.false honest agrees stands found written
-    (λ h a levels tree. c.replace-2.ensures.damaged h a damaged levels tree)
+returns-in_err-replaced-clause-damaged g c =
+    written_never g.D.Device (writes g (goal.at.returns-in_err-replaced-clause-damaged g c).After-eq-is_same)
+    c.self.view_is
+    c.replace-2.ensures.damaged (refused_by_call c.in_err-replaced.was c.from_residual-in_err-replaced.ensures.1)
 
 pub returns-in_err-replaced-clause-changed_pages : goal.returns-in_err-replaced-clause-changed_pages
 returns-in_err-replaced-clause-changed_pages g c =
@@ -260,28 +243,11 @@ returns-then-not-replaced-clause-edits g c =
 
 pub returns-then-not-replaced-clause-damaged : goal.returns-then-not-replaced-clause-damaged
 returns-then-not-replaced-clause-damaged g c = λ honest agrees left right entries is told.
-    let image = (g.D.Device.state c.args.device.now).disk.present in
-    let before = pages_of_map c.args.pages.now image in
-    let view = chained c.self.inside.tree c.self.inside.record_bytes in
-    let own = viewed before left right view _ entries c.self.view_is is in
-    let stands = stands_among before left right view entries own in
-    let got = c.get.ensures in
-    let looks = looks_by g.D.Device _ _ _ _ _ got.only got.unchanged got.agrees got.open in
-    let found = sym (c.in_ok-entry.ensures.entry honest agrees own.planted.levels stands.tree) ∙ c.in-Some.is in
-    let first_is = c.first_page-first.ensures ∙ ap (big_number 4) c.value.ensures in
-    let written = rewritten_on g.D.Device _ c.args.pages.now c.get.new.pages c.rewrite.new.pages c.args.device.now
-    c.get.new.device view c.args.key.now c.split_at.result.0.now c.in-Some.entry c.first_page-first.result
-    own.planted.levels looks c.in_ok-rewrite.ensures.rewritten first_is c.split_at.ensures.front_len c.if-self-eq0.false
-    honest agrees stands found in
-    let put = c.rewrite.ensures in
-    let edits = edits_by g.D.Device _ _ _ _ _ put.only put.committed put.catalog put.agrees put.open in
-    let none = rewritten_tells g.D.Device _ _ c.args.pages.now c.get.new.pages c.rewrite.new.pages c.args.device.now
-    c.get.new.device c.rewrite.new.device view c.args.key.now c.split_at.result.0.now c.in-Some.entry
-    own.planted.levels (λ levels. entry_with (stored_in view levels) c.args.key.now ≡ None) looks edits
-    c.if-self-eq0.false honest agrees stands found written
+    written_there g.D.Device (writes g (goal.at.returns-then-not-replaced-clause-damaged g c).After-eq-is_same)
+    c.self.view_is
     (λ h a levels tree.
-    c.replace-2.ensures.missing h a levels tree (c.in_ok-replaced.was ∙ ap Ok c.if-not-replaced.true)) in
-    none_not_some (sym none ∙ found)
+    c.replace-2.ensures.missing h a levels tree (c.in_ok-replaced.was ∙ ap Ok c.if-not-replaced.true))
+    honest agrees left right entries is
 
 pub returns-then-not-replaced-clause-changed_pages : goal.returns-then-not-replaced-clause-changed_pages
 returns-then-not-replaced-clause-changed_pages g c =
@@ -308,37 +274,12 @@ returns-clause-edits g c =
     (edits_by g.D.Device _ _ _ _ _ end.only end.committed end.catalog end.agrees end.open)
 
 pub returns-clause-replaced : goal.returns-clause-replaced
-returns-clause-replaced g c = λ honest agrees left right entries is ok.
-    let image = (g.D.Device.state c.args.device.now).disk.present in
-    let before = pages_of_map c.args.pages.now image in
-    let view = chained c.self.inside.tree c.self.inside.record_bytes in
-    let own = viewed before left right view _ entries c.self.view_is is in
-    let stands = stands_among before left right view entries own in
-    let got = c.get.ensures in
-    let looks = looks_by g.D.Device _ _ _ _ _ got.only got.unchanged got.agrees got.open in
-    let found = sym (c.in_ok-entry.ensures.entry honest agrees own.planted.levels stands.tree) ∙ c.in-Some.is in
-    let first_is = c.first_page-first.ensures ∙ ap (big_number 4) c.value.ensures in
-    let written = rewritten_on g.D.Device _ c.args.pages.now c.get.new.pages c.rewrite.new.pages c.args.device.now
-    c.get.new.device view c.args.key.now c.split_at.result.0.now c.in-Some.entry c.first_page-first.result
-    own.planted.levels looks c.in_ok-rewrite.ensures.rewritten first_is c.split_at.ensures.front_len c.if-self-eq0.false
-    honest agrees stands found in
-    let put = c.rewrite.ensures in
-    let edits = edits_by g.D.Device _ _ _ _ _ put.only put.committed put.catalog put.agrees put.open in
-    let value = c.bytes.ensures ∙ c.new-stored.ensures in
+returns-clause-replaced g c =
     let done = c.in_ok-replaced.was ∙ ap Ok c.if-not-replaced.false in
-    let P : List ℕ → Type 0 = λ v. OnTreeChange g.D.Device view.tree.layout view.tree.root c.rewrite.new.pages
-    c.replace-2.new.pages c.rewrite.new.device (λ before levels after. Becomes view.tree.layout before levels after
-    view.tree.root (with_value (stored_in view levels) (pair c.args.key.now v))) in
-    subst (λ (t : ChainedTree). IsSome (entry_with entries c.args.key.now)
-    × IsRowTreeAmong (pages_of_map c.replace-2.new.pages image) left right t
-    (with_value entries (pair c.args.key.now c.args.value.now))) c.self.view_is
-    (replaced_on g.D.Device _ _ c.args.pages.now c.get.new.pages c.rewrite.new.pages c.replace-2.new.pages
-    c.args.device.now c.get.new.device c.rewrite.new.device left right view entries c.args.key.now
-    c.split_at.result.0.now c.split_at.result.1.now c.args.value.now c.in-Some.entry c.first_page-first.result looks
-    edits (subst P value (λ h a levels tree. (c.replace-2.ensures.replaced h a levels tree done).1)) first_is
-    (omega arith) c.if-self-eq0.false c.split_at.ensures.front_len (sym c.split_at.ensures.by_index.0) honest agrees own
-    found
-    written)
+    replaced_on g.D.Device c.replace-2.new.pages (writes g (goal.at.returns-clause-replaced g c).After-eq-is_same)
+    c.self.view_is
+    (λ h a levels tree. (c.replace-2.ensures.replaced h a levels tree done).1) (c.bytes.ensures ∙ c.new-stored.ensures)
+    (omega arith) (sym c.split_at.ensures.by_index.0)
 
 pub returns-clause-changed_pages : goal.returns-clause-changed_pages
 returns-clause-changed_pages g c =

@@ -1,0 +1,110 @@
+-- Two neighbours that a call joins, or that share their rows.
+use Rattle.std.proofs.Common.{◌≡◌, ◌≤◌, ◌+◌, ◌*◌, ◌++◌, ℕ, List, [], ◌∷◌, length, length-append, set, map, take}
+use Rattle.std.proofs.Common.{drop, sym, ◌∙◌, ap, subst, arith}
+use Rattle.std.specs.Prelude.{nat_lt, slice_index_or, Option, Some, IfSome}
+use Rattle.byteorder.specs.Endian.{big_bytes}
+use Rattle.station.specs.Disk.{Sector}
+use Rattle.pages.specs.declared.page_map.PageMap.{PageMap}
+use Rattle.btree_pages.specs.declared.row_layout.RowLayout.{RowLayout}
+use Rattle.btree_pages.specs.declared.row_layout.Kind.TheVariants.{Inner}
+use Rattle.btree_pages.specs.Keys.{rest_of}
+use Rattle.btree_pages.specs.Node.{Node}
+use Rattle.btree.specs.declared.removal_outcome.Child.{Child}
+use Rattle.btree.specs.declared.removal_outcome.RemovalOutcome.{RemovalOutcome}
+use Rattle.btree.specs.declared.split_result.SplitResult.{SplitResult}
+use Rattle.btree.specs.Tree.{TreeNode, row_of, rows_of}
+use Rattle.btree.specs.Fills.{IsEven}
+use Rattle.btree.specs.Moves.{ReplacesNodes}
+use Rattle.btree.specs.Nodes.{SameNode}
+use Rattle.btree.specs.Propagates.{node_with, run_of}
+use Rattle.btree.specs.Changes.{pages_of_map}
+use Rattle.btree.specs.Outcomes.{AreTwo, ArePair, IsJoined, Joins}
+use Rattle.btree.specs.Puts.{PutsBack, PutsTogether}
+use Rattle.btree.proofs.Rebalancing.{Learns, joins_so}
+use Rattle.btree.proofs.Sharing.{Changed}
+
+-- What is ensured of two neighbours that are joined.
+pub record AreJoined (old mid : PageMap) (left right : Child) (joined : SplitResult) : Type 0 where
+  pub rows : rows_of (run_of joined) ≡ left.node.rows ++ right.node.rows
+  pub pages : PutsTogether old mid left right joined
+  pub is_joined : IsJoined left.node.layout left.page right.page joined
+  pub even : IsEven left.node.layout left.node.kind (run_of joined)
+
+-- What is ensured of the page above them: its rows from a place on name what they became.
+pub record NamesPair (node new : Node) (place : ℕ) (joined : SplitResult) : Type 0 where
+  pub like : SameNode node new
+  pub rows : rest_of node.layout (slice_index_or node.rows place []) ≡ big_bytes 4 joined.page
+      → IfSome joined.right (λ right. rest_of node.layout (slice_index_or node.rows (place + 1) []) ≡ big_bytes 4
+      right.page)
+      → new.rows ≡ take place node.rows ++ (map (row_of node.layout) (run_of joined) ++ drop (place + 2) node.rows)
+
+-- The nodes on the pages of the two children became others.
+pair_replaced : (old mid : PageMap) (image : List Sector) (layout : RowLayout) (page place : ℕ) (rows : List (List ℕ))
+    (left right : Child) (one two : TreeNode) (joined : SplitResult)
+    → ArePair layout (pages_of_map old image) page rows place one two → one.page ≡ left.page → two.page ≡ right.page
+    → PutsTogether old mid left right joined → ReplacesNodes left.node.layout left.node.kind (pages_of_map old image)
+    (one ∷ two ∷ []) (pages_of_map mid image) (run_of joined)
+pair_replaced old mid image layout page place rows left right one two joined pair one_is two_is together =
+    let before = pages_of_map old image in
+    let after = pages_of_map mid image in
+    let both : AreTwo before left.page right.page = subst (λ (q : ℕ). AreTwo before left.page q) two_is
+    (subst (λ (q : ℕ). AreTwo before q two.page) one_is pair.two) in
+    subst (λ (q : ℕ). ReplacesNodes left.node.layout left.node.kind before (one ∷ node_with q two.rows ∷ []) after
+    (run_of joined)) (sym two_is)
+    (subst (λ (q : ℕ). ReplacesNodes left.node.layout left.node.kind before
+    (node_with q one.rows ∷ node_with right.page two.rows ∷ []) after (run_of joined)) (sym one_is)
+    (together image one.rows two.rows both))
+
+pair_learns : (old mid : PageMap) (image : List Sector) (page place : ℕ) (node new : Node) (left right : Child)
+    (one two : TreeNode) (joined : SplitResult) → left.node.layout ≡ node.layout → node.kind ≡ Inner
+    → ArePair node.layout (pages_of_map old image) page node.rows place one two → one.page ≡ left.page
+    → two.page ≡ right.page → AreJoined old mid left right joined → NamesPair node new place joined
+    → Learns left.node.kind (pages_of_map old image) (pages_of_map mid image) place node new one two joined
+pair_learns old mid image page place node new left right one two joined layout_is inner pair one_is two_is are names =
+    let kind = left.node.kind in
+    let is = are.is_joined in
+    record {
+      inner = inner;
+      page_is = is.page_is ∙ sym one_is;
+      beside_is = subst (λ (q : ℕ). IfSome joined.right (λ other. other.page ≡ q)) (sym two_is) is.beside_is;
+      pair = subst (λ (layout : RowLayout). ReplacesNodes layout kind (pages_of_map old image) (one ∷ two ∷ [])
+          (pages_of_map mid image) (run_of joined)) layout_is
+          (pair_replaced old mid image node.layout page place node.rows left right one two joined pair one_is two_is
+          are.pages);
+      even = subst (λ (layout : RowLayout). IsEven layout kind (run_of joined)) layout_is are.even;
+      like = names.like;
+      names = names.rows;
+    }
+
+-- The two are joined, and the page above them is put back with rows that name what they became.
+pub pair_joins : (old mid after : PageMap) (image : List Sector) (page place : ℕ) (node new : Node) (left right : Child)
+    (one two : TreeNode) (joined : SplitResult) (outcome : RemovalOutcome) → left.node.layout ≡ node.layout
+    → node.kind ≡ Inner → ArePair node.layout (pages_of_map old image) page node.rows place one two
+    → one.page ≡ left.page → two.page ≡ right.page → AreJoined old mid left right joined
+    → NamesPair node new place joined → PutsBack mid after page new (nat_lt 0 place) outcome
+    → Joins node.layout left.node.kind (pages_of_map old image) (pages_of_map after image) page node.rows place
+    (left.node.rows ++ right.node.rows) one two outcome
+pair_joins old mid after image page place node new left right one two joined outcome layout_is inner pair one_is two_is
+    are names back =
+    subst (λ (rows : List (List ℕ)). Joins node.layout left.node.kind (pages_of_map old image)
+    (pages_of_map after image) page node.rows place rows one two outcome) are.rows
+    (joins_so left.node.kind (pages_of_map old image) (pages_of_map mid image) (pages_of_map after image) page place
+    node new one two joined outcome pair
+    (pair_learns old mid image page place node new left right one two joined layout_is inner pair one_is two_is are
+    names) (back image node.rows))
+
+-- Rows that two nodes share evenly are halved.
+pub halved : (lower upper left right : List (List ℕ)) (n : ℕ) → lower ++ upper ≡ left ++ right
+    → length lower ≤ length upper + 1 → length upper ≤ length lower + 1 → 2 * n ≤ length left + length right
+    → (n ≤ length lower) × (n ≤ length upper)
+halved lower upper left right n same low high many =
+    let count : length lower + length upper ≡ length left + length right =
+    sym (length-append lower upper) ∙ ap length same ∙ length-append left right in
+    (omega (arith, count, low, high, many), omega (arith, count, low, high, many))
+
+-- The left one of two pages was written, and then the right one.
+pub both_written : (old mid new : List (Option Sector)) (left right : ℕ) (one two : Sector)
+    → AreTwo old left right → mid ≡ set old left (Some one) → new ≡ set mid right (Some two)
+    → Changed old new left right one (Some two)
+both_written old mid new left right one two both first second =
+    record { is = second ∙ ap (λ (l : List (Option Sector)). set l right (Some two)) first; both = both }

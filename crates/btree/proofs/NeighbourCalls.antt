@@ -1,0 +1,94 @@
+-- The neighbour of a lone child as it is read, and what the two become.
+use Rattle.std.proofs.Common.{◌≡◌, ◌≢◌, ◌-◌, ◌++◌, ℕ, List, [], refl, sym, ◌∙◌, subst}
+use Rattle.std.specs.Prelude.{Option, Result, Some, Err, slice_index_or}
+use Rattle.station.specs.Disk.{Sector}
+use Rattle.pages.specs.Pages.{page_count, IsOpen, IsUnchanged}
+use Rattle.pages.specs.declared.page_map.PageMap.{PageMap}
+use Rattle.pages.specs.declared.error.PagesError.{PagesError}
+use Rattle.pages.specs.declared.error.PagesError.TheVariants.{Spent}
+use Rattle.btree_pages.specs.declared.row_layout.RowLayout.{RowLayout}
+use Rattle.btree_pages.specs.declared.row_layout.Kind.{Kind}
+use Rattle.btree_pages.specs.declared.row_layout.Kind.TheVariants.{Inner}
+use Rattle.btree_pages.specs.Keys.{child_of}
+use Rattle.btree_pages.specs.Node.{Node, IsNode}
+use Rattle.btree.specs.declared.path_step.PathStep.{PathStep}
+use Rattle.btree.specs.declared.removal_outcome.Child.{Child}
+use Rattle.btree.specs.declared.removal_outcome.RemovalOutcome.{RemovalOutcome}
+use Rattle.btree.specs.Tree.{TreeNode, IsOnPage, node_at}
+use Rattle.btree.specs.Changes.{pages_of_map, CountsPages, FewNumbers}
+use Rattle.btree.specs.Outcomes.{Joins, RebalancesNeighbours}
+use Rattle.btree.specs.Puts.{JoinsPair}
+use Rattle.btree.specs.Results.{ExactlyIfSpent}
+use Rattle.btree.proofs.Pairing.{Above, IsNear, rows_read, rebalanced_so, together_first, together_other}
+use Rattle.btree.proofs.ReadMaps.{live_unless, small_map, pages_same}
+
+-- The page above is in a map on which a call was not refused as spent.
+pub above_at : {T : Type 0} (result : Result T PagesError) (pages : PageMap) (image : List Sector) (layout : RowLayout)
+    (node : Node) → CountsPages pages → FewNumbers pages → IsOpen pages → ExactlyIfSpent pages result
+    → result ≢ Err Spent → node.layout ≡ layout → node.kind ≡ Inner → IsNode node
+    → Above (pages_of_map pages image) layout node
+above_at result pages image layout node counts few ready exactly unspent layout_is inner is_node =
+    record {
+      few = small_map pages image (page_count pages) counts refl few ready (live_unless result pages exactly unspent);
+      layout_is = layout_is;
+      inner = inner;
+      is_node = is_node;
+    }
+
+-- The page of a neighbour has a node of its kind.
+pub never_missing : (pages : List (Option Sector)) (layout : RowLayout) (kind found : Kind) (node : Node)
+    (page place at next lone number : ℕ) (left right child neighbour : TreeNode)
+    → IsNear pages layout kind node page place at next lone left right child neighbour → found ≡ kind
+    → number ≡ child_of node.layout (slice_index_or node.rows next [])
+    → ((other : TreeNode) → other.page ≡ number → IsOnPage layout pages found other → ⊥) → ⊥
+never_missing pages layout kind found node page place at next lone number left right child neighbour near found_is
+    number_is none =
+    none neighbour (sym (number_is ∙ near.near_is))
+    (subst (λ (k : Kind). IsOnPage layout pages k neighbour) (sym found_is) near.stands)
+
+-- What the first child and the neighbour to its right became.
+pub rebalanced_first : (old now new : PageMap) (image : List Sector) (layout : RowLayout) (node : Node)
+    (step : PathStep) (lone other : Child) (number : ℕ) (left right : TreeNode) (outcome : RemovalOutcome)
+    → IsNear (pages_of_map old image) layout lone.node.kind node step.page step.place 0 1 lone.page left right left
+    right → IsUnchanged old now → node.layout ≡ layout → step.place ≡ 0
+    → number ≡ child_of node.layout (slice_index_or node.rows 1 [])
+    → node_at layout (pages_of_map old image) number ≡ Some other.node → other.page ≡ number
+    → JoinsPair now new step.page node 0 lone other outcome
+    → RebalancesNeighbours layout lone.node.kind (pages_of_map old image) (pages_of_map new image) step.page node.rows
+    step.place lone.node.rows left right outcome
+rebalanced_first old now new image layout node step lone other number left right outcome near unchanged layout_is first
+    number_is read page_is joins =
+    let before = pages_of_map old image in
+    let kind = lone.node.kind in
+    let near_is = number_is ∙ near.near_is in
+    rebalanced_so layout kind before (pages_of_map now image) (pages_of_map new image) step.page step.place 0 node
+    lone.node.rows (lone.node.rows ++ other.node.rows) left right outcome layout_is
+    (pages_same old now image unchanged) near.are near.place_is
+    (together_first step.place lone.node.rows other.node.rows left right first
+    (rows_read layout kind before number other.node right near_is read near.stands))
+    (λ these. joins image left right these near.child_is (sym (page_is ∙ near_is)))
+
+-- What another child and the neighbour to its left became.
+pub rebalanced_other : (old now new : PageMap) (image : List Sector) (layout : RowLayout) (node : Node)
+    (step : PathStep) (other lone : Child) (number : ℕ) (left right : TreeNode) (outcome : RemovalOutcome)
+    → IsNear (pages_of_map old image) layout lone.node.kind node step.page step.place (step.place - 1) (step.place - 1)
+    lone.page left right right left → IsUnchanged old now → node.layout ≡ layout → step.place ≢ 0
+    → number ≡ child_of node.layout (slice_index_or node.rows (step.place - 1) [])
+    → node_at layout (pages_of_map old image) number ≡ Some other.node → other.page ≡ number
+    → other.node.kind ≡ lone.node.kind → JoinsPair now new step.page node (step.place - 1) other lone outcome
+    → RebalancesNeighbours layout lone.node.kind (pages_of_map old image) (pages_of_map new image) step.page node.rows
+    step.place lone.node.rows left right outcome
+rebalanced_other old now new image layout node step other lone number left right outcome near unchanged layout_is some
+    number_is read page_is kind_is joins =
+    let before = pages_of_map old image in
+    let after = pages_of_map new image in
+    let rows = other.node.rows ++ lone.node.rows in
+    let near_is = number_is ∙ near.near_is in
+    rebalanced_so layout lone.node.kind before (pages_of_map now image) after step.page step.place (step.place - 1) node
+    lone.node.rows rows left right outcome layout_is (pages_same old now image unchanged) near.are
+    near.place_is
+    (together_other step.place lone.node.rows other.node.rows left right some
+    (rows_read layout lone.node.kind before number other.node left near_is read near.stands))
+    (λ these. subst (λ (k : Kind). Joins node.layout k (pages_of_map now image) after step.page node.rows
+    (step.place - 1) rows left right outcome) kind_is
+    (joins image left right these (sym (page_is ∙ near_is)) near.child_is))
