@@ -52,7 +52,8 @@ regroup : (a p : ℕ) → a * (10 * p) ≡ 10 * a * p
 regroup a p = sym (mul_assoc a 10 p) ∙ ap (λ n. n * p) (mul_comm a 10)
 
 -- digits are below their power of ten
-pub digits_below : (n : ℕ) (cs : List ℕ) → list_all is_ascii_digit cs ≡ true → digits_after n cs < (n + 1) * 10 ^ length cs
+pub digits_below : (n : ℕ) (cs : List ℕ) → list_all is_ascii_digit cs ≡ true
+    → digits_after n cs < (n + 1) * 10 ^ length cs
 digits_below n [] e = omega arith
 digits_below n (c ∷ cs) e =
     let one = digit_below c (and_left (is_ascii_digit c) (list_all is_ascii_digit cs) e) in

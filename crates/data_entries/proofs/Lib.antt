@@ -1,5 +1,6 @@
 pub mod Numbers
 pub mod Nesting
 pub mod Told
+pub mod TreeRules
 pub mod Digits
 pub mod Forms

@@ -16,11 +16,11 @@ use Rattle.source_tree.specs.Records.{record_length}
 use Rattle.source_tree.specs.ValueRules.{are_some}
 use Rattle.data_entries.specs.Nesting.{AreTold}
 
-front_nil : {A : Type 0} (xs ys : List A) → xs ++ ys ≡ [] → xs ≡ []
+pub front_nil : {A : Type 0} (xs ys : List A) → xs ++ ys ≡ [] → xs ≡ []
 front_nil [] ys e = refl
 front_nil (x ∷ xs) ys e = cc
 
-back_nil : {A : Type 0} (xs ys : List A) → xs ++ ys ≡ [] → ys ≡ []
+pub back_nil : {A : Type 0} (xs ys : List A) → xs ++ ys ≡ [] → ys ≡ []
 back_nil [] ys e = e
 back_nil (x ∷ xs) ys e = cc
 

@@ -21,6 +21,7 @@ use Rattle.data_image.specs.Spelling.{count_bytes, short_bytes, wide_bytes, text
 use Rattle.data_image.specs.Reading.{count_at, short_at, wide_at, byte_at, told_at, flag_of, entries_at, table_at}
 use Rattle.data_image.specs.Reading.{text_at}
 use Rattle.data_image.specs.Items.{item_bytes, usage_of, plain_kind_of, numeric_at, kind_at, item_at}
+use Rattle.picture.specs.Text as text_of
 use Rattle.data_image.specs.Pictures.{run_bytes, symbol_of, run_at, editing_at}
 use Rattle.data_image.specs.Fractions.{fraction_bytes, fraction_at}
 use Rattle.data_image.specs.Senders.{sender_bytes, plain_taken_of, taken_at, sender_at}
@@ -165,7 +166,7 @@ no_usage = refl
 
 -- P is no symbol of a picture
 no_symbol : run_at (80 ∷ replicate 16 0) ≡ Err faults.Value
-unfolding run_at told_at symbol_of byte_at
+unfolding run_at told_at symbol_of text_of.symbol_of byte_at
 no_symbol = refl
 
 -- an entry fits what 1 to 4 say

@@ -197,6 +197,12 @@ told_in spelled fits (p ∷ more) all n y e =
       | inr q ↦ told_in spelled fits more all.1 n y q.1
     ]
 
+-- the pairs of two lists, one list after the other
+pub told_append : {A : Type 0} (spelled : A → List ℕ) (fits : A → Type 0) (a b : List (ℕ × A))
+    → AreTold spelled fits a → AreTold spelled fits b → AreTold spelled fits (a ++ b)
+told_append spelled fits [] b first second = second
+told_append spelled fits (p ∷ more) b first second = (first.0, told_append spelled fits more b first.1 second)
+
 -- a byte that tells a value by itself
 module _ {A : Type 0} (spelled : A → List ℕ) (told : ℕ → Option A) (pairs : List (ℕ × A))
     (all : AreTold spelled IsAny pairs) (same : (n : ℕ) → told n ≡ first_told pairs n) where

@@ -19,93 +19,63 @@ use Rattle.data_image.specs.Tests.{compare, compare_numbers, or_equal, or_within
 use Rattle.data_image.specs.Gathers.{inspect, convert, overlay, up_to_text, text_up_to_place}
 use Rattle.data_image.specs.Parts.{part_fixed}
 use Rattle.data_image.proofs.Forms.{ok_is, chosen, takes_then, takes_kind, IsForm, part, part_again, Took, form_of}
-use Rattle.data_image.proofs.Forms.{first_took, byte_is, behind_took, told_took, first_told, told_in}
+use Rattle.data_image.proofs.Forms.{first_took, byte_is, behind_took, told_took, first_told, AreTold, told_in}
+use Rattle.data_image.proofs.Forms.{told_append}
 use Rattle.data_image.proofs.Numbers.{byte_form, short_form}
 use Rattle.data_image.proofs.Tests.{relation_form, class_form, compare_literal_took, compare_literal_again}
 
+abbrev move_instructions : List (ℕ × DataInstruction)
+move_instructions =
+    (18, i.Push) ∷ (20, i.Take) ∷ (22, i.Move) ∷ (23, i.Append) ∷ (25, i.ClearTruth) ∷ (26, i.VoidIfTrue) ∷ []
+
+abbrev store_instructions : List (ℕ × DataInstruction)
+store_instructions =
+    (28, store false false) ∷ (29, store true false) ∷ (30, store false true) ∷ (31, store true true) ∷ []
+
+abbrev calculations : List (ℕ × DataInstruction)
+calculations =
+    (32, i.Calculate c.Add) ∷ (33, i.Calculate c.Subtract) ∷ (34, i.Calculate c.Multiply) ∷ (35, i.Calculate c.Divide)
+    ∷ (36, i.Calculate c.Negate) ∷ (39, i.Calculate c.Discard) ∷ []
+
+abbrev place_instructions : List (ℕ × DataInstruction)
+place_instructions =
+    (46, i.Test t.Invert) ∷ (61, i.DropPlace) ∷ (62, i.Gather g.Bytes) ∷ (63, i.Gather g.UpToPlace) ∷ []
+
+abbrev text_instructions : List (ℕ × DataInstruction)
+text_instructions =
+    (66, i.String false) ∷ (67, i.String true) ∷ (68, i.Gather g.Sized) ∷ (71, i.Part p.Counted) ∷ (72, i.Part p.Rest)
+    ∷ (74, i.Gather g.Measured) ∷ []
+
+-- from calculations on
+abbrev later_instructions : List (ℕ × DataInstruction)
+later_instructions = calculations ++ (place_instructions ++ text_instructions)
+
 abbrev plain_instructions : List (ℕ × DataInstruction)
-plain_instructions =
-    (18, i.Push) ∷ (20, i.Take) ∷ (22, i.Move) ∷ (23, i.Append) ∷ (25, i.ClearTruth) ∷ (26, i.VoidIfTrue)
-    ∷ (28, store false false) ∷ (29, store true false) ∷ (30, store false true) ∷ (31, store true true)
-    ∷ (32, i.Calculate c.Add) ∷ (33, i.Calculate c.Subtract) ∷ (34, i.Calculate c.Multiply) ∷ (35, i.Calculate c.Divide)
-    ∷ (36, i.Calculate c.Negate)
-    ∷ (39, i.Calculate c.Discard) ∷ (46, i.Test t.Invert)
-    ∷ (61, i.DropPlace) ∷ (62, i.Gather g.Bytes) ∷ (63, i.Gather g.UpToPlace) ∷ (66, i.String false)
-    ∷ (67, i.String true) ∷ (68, i.Gather g.Sized) ∷ (71, i.Part p.Counted)
-    ∷ (72, i.Part p.Rest) ∷ (74, i.Gather g.Measured) ∷ []
+plain_instructions = move_instructions ++ (store_instructions ++ later_instructions)
 
 instruction_told : (n : ℕ) → plain_instruction_of n ≡ first_told plain_instructions n
 unfolding plain_instruction_of
 instruction_told n = refl
 
+later_told : AreTold data_instruction_bytes HasShorts later_instructions
+later_told =
+    told_append data_instruction_bytes HasShorts calculations (place_instructions ++ text_instructions)
+    ((refl, tt), ((refl, tt), ((refl, tt), ((refl, tt), ((refl, tt), ((refl, tt), tt))))))
+    (told_append data_instruction_bytes HasShorts place_instructions text_instructions
+    ((refl, tt), ((refl, tt), ((refl, tt), ((refl, tt), tt))))
+    ((refl, tt), ((refl, tt), ((refl, tt), ((refl, tt), ((refl, tt), ((refl, tt), tt)))))))
+
+plain_told : AreTold data_instruction_bytes HasShorts plain_instructions
+plain_told =
+    told_append data_instruction_bytes HasShorts move_instructions (store_instructions ++ later_instructions)
+    ((refl, tt), ((refl, tt), ((refl, tt), ((refl, tt), ((refl, tt), ((refl, tt), tt))))))
+    (told_append data_instruction_bytes HasShorts store_instructions later_instructions
+    ((refl, tt), ((refl, tt), ((refl, tt), ((refl, tt), tt)))) later_told)
+
 plain_instruction_is : (n : ℕ) (one : DataInstruction) → plain_instruction_of n ≡ Some one
     → (data_instruction_bytes one ≡ n ∷ []) × HasShorts one
 plain_instruction_is n one e =
-    told_in data_instruction_bytes HasShorts plain_instructions (
-      (refl, tt),
-      (
-        (refl, tt),
-        (
-          (refl, tt),
-          (
-            (refl, tt),
-            (
-              (refl, tt),
-              (
-                (refl, tt),
-                (
-                  (refl, tt),
-                  (
-                    (refl, tt),
-                    (
-                      (refl, tt),
-                      (
-                        (refl, tt),
-                        (
-                          (refl, tt),
-                          (
-                            (refl, tt),
-                            (
-                              (refl, tt),
-                              (
-                                (refl, tt),
-                                (
-                                  (refl, tt),
-                                  (
-                                    (refl, tt),
-                                    (
-                                      (refl, tt),
-                                      (
-                                        (refl, tt),
-                                        (
-                                          (refl, tt),
-                                          (
-                                            (refl, tt),
-                                            (
-                                              (refl, tt),
-                                              ((refl, tt), ((refl, tt), ((refl, tt), ((refl, tt), ((refl, tt), tt))))),
-                                            ),
-                                          ),
-                                        ),
-                                      ),
-                                    ),
-                                  ),
-                                ),
-                              ),
-                            ),
-                          ),
-                        ),
-                      ),
-                    ),
-                  ),
-                ),
-              ),
-            ),
-          ),
-        ),
-      ),
-    )
-    n one (sym (instruction_told n) ∙ e)
+    told_in data_instruction_bytes HasShorts plain_instructions plain_told n one (sym (instruction_told n) ∙ e)
 
 -- so does an instruction with this first byte
 abbrev Reads : ℕ → List ℕ → DataInstruction × List ℕ → Type 0

@@ -12,6 +12,7 @@ use Rattle.picture.specs.declared.fault.PictureFault.TheVariants.{NoForm}
 use Rattle.picture.specs.Faults as picture_faults
 use Rattle.picture.specs.Faults.{or_no_form}
 use Rattle.picture.specs.Pictures.{IsAnyPicture, IsOfRuns, IsAnswer, picture_from}
+use Rattle.picture.specs.Text as text_of
 use Rattle.picture.specs.Text.{letter}
 use Rattle.picture.proofs.Pictures.{from_form, from_only}
 use Rattle.data_image.specs.declared.fault.ImageFault.TheVariants as faults
@@ -22,24 +23,34 @@ use Rattle.data_image.specs.Pictures.{IsEditingSpelled, symbol_of, run_at, pictu
 use Rattle.data_image.specs.Pictures.{editing_at}
 use Rattle.data_image.proofs.Forms.{bind_ok, ok_is, failed, value_ok, chosen, Takes, takes_then, IsForm, part}
 use Rattle.data_image.proofs.Forms.{part_again, Took, form_of, first_took, byte_is, behind_took, alone_took, first_told}
-use Rattle.data_image.proofs.Forms.{byte_told}
+use Rattle.data_image.proofs.Forms.{byte_told, AreTold, told_append}
 use Rattle.data_image.proofs.Numbers.{wide_form}
 use Rattle.data_image.proofs.TableForms.{table_form}
 
 -- ---- symbols
 
+abbrev data_symbols : List (ℕ × Symbol)
+data_symbols = (65, s.A) ∷ (88, s.X) ∷ (57, s.Nine) ∷ (83, s.S) ∷ (86, s.V) ∷ []
+
+abbrev insertion_symbols : List (ℕ × Symbol)
+insertion_symbols = (66, s.B) ∷ (48, s.Zero) ∷ (47, s.Slash) ∷ (44, s.Comma) ∷ (46, s.Point) ∷ []
+
+-- of suppression, signs and currency
+abbrev other_symbols : List (ℕ × Symbol)
+other_symbols = (90, s.Z) ∷ (42, s.Star) ∷ (43, s.Plus) ∷ (45, s.Minus) ∷ (36, s.Currency) ∷ []
+
+abbrev text_symbols : List (ℕ × Symbol)
+text_symbols = data_symbols ++ (insertion_symbols ++ other_symbols)
+
 abbrev symbols : List (ℕ × Symbol)
-symbols =
-    (65, s.A) ∷ (88, s.X) ∷ (57, s.Nine) ∷ (83, s.S) ∷ (86, s.V) ∷ (66, s.B) ∷ (48, s.Zero) ∷ (47, s.Slash)
-    ∷ (44, s.Comma) ∷ (46, s.Point) ∷ (90, s.Z)
-    ∷ (42, s.Star) ∷ (43, s.Plus) ∷ (45, s.Minus) ∷ (36, s.Currency) ∷ (67, s.Cr) ∷ (68, s.Db) ∷ []
+symbols = (67, s.Cr) ∷ (68, s.Db) ∷ text_symbols
 
 symbol_told : (n : ℕ) → symbol_of n ≡ first_told symbols n
-unfolding symbol_of
+unfolding symbol_of text_of.symbol_of
 symbol_told n = refl
 
 symbol_again : (symbol : Symbol) → symbol_of (letter symbol) ≡ Some symbol
-unfolding symbol_of
+unfolding symbol_of text_of.symbol_of
 symbol_again s.A = refl
 symbol_again s.X = refl
 symbol_again s.Nine = refl
@@ -61,42 +72,20 @@ symbol_again s.Db = refl
 abbrev symbol_bytes : Symbol → List ℕ
 symbol_bytes symbol = letter symbol ∷ []
 
+text_symbols_told : AreTold symbol_bytes IsAny text_symbols
+text_symbols_told =
+    told_append symbol_bytes IsAny data_symbols (insertion_symbols ++ other_symbols)
+    ((refl, tt), ((refl, tt), ((refl, tt), ((refl, tt), ((refl, tt), tt)))))
+    (told_append symbol_bytes IsAny insertion_symbols other_symbols
+    ((refl, tt), ((refl, tt), ((refl, tt), ((refl, tt), ((refl, tt), tt)))))
+    ((refl, tt), ((refl, tt), ((refl, tt), ((refl, tt), ((refl, tt), tt))))))
+
+symbols_told : AreTold symbol_bytes IsAny symbols
+symbols_told = ((refl, tt), ((refl, tt), text_symbols_told))
+
 symbol_form : IsForm (told_at symbol_of) symbol_bytes IsAny
 symbol_form =
-    byte_told symbol_bytes symbol_of symbols (
-      (refl, tt),
-      (
-        (refl, tt),
-        (
-          (refl, tt),
-          (
-            (refl, tt),
-            (
-              (refl, tt),
-              (
-                (refl, tt),
-                (
-                  (refl, tt),
-                  (
-                    (refl, tt),
-                    (
-                      (refl, tt),
-                      (
-                        (refl, tt),
-                        (
-                          (refl, tt),
-                          ((refl, tt), ((refl, tt), ((refl, tt), ((refl, tt), ((refl, tt), ((refl, tt), tt)))))),
-                        ),
-                      ),
-                    ),
-                  ),
-                ),
-              ),
-            ),
-          ),
-        ),
-      ),
-    ) symbol_told
+    byte_told symbol_bytes symbol_of symbols symbols_told symbol_told
     (λ symbol. (letter symbol, refl, symbol_again symbol))
 
 -- ---- runs

@@ -5,6 +5,7 @@ use Rattle.picture.specs.declared.symbol.Symbol.{Symbol}
 use Rattle.picture.specs.declared.symbol.Symbol.TheVariants as s
 use Rattle.picture.specs.declared.description.Description.{Description}
 use Rattle.picture.specs.Pictures.{IsAnyPicture, picture_from}
+use Rattle.picture.specs.Text as text_of
 use Rattle.picture.specs.Text.{letter}
 use Rattle.data_image.specs.declared.fault.ImageFault.{ImageFault}
 use Rattle.data_image.specs.declared.fault.ImageFault.TheVariants as faults
@@ -37,14 +38,9 @@ IsEditingSpelled (Some picture) = IsPictureSpelled picture
 
 -- ---- reading
 
--- the symbol of a character
+-- the symbol whose first character this is
 unfoldable pub symbol_of : ℕ → Option Symbol
-symbol_of c =
-    if c == 65 then Some s.A else if c == 88 then Some s.X else if c == 57 then Some s.Nine else if c == 83 then Some s.S
-    else if c == 86 then Some s.V else if c == 66 then Some s.B else if c == 48 then Some s.Zero else if c == 47 then Some s.Slash
-    else if c == 44 then Some s.Comma else if c == 46 then Some s.Point else if c == 90 then Some s.Z else if c == 42 then Some s.Star
-    else if c == 43 then Some s.Plus else if c == 45 then Some s.Minus else if c == 36 then Some s.Currency
-    else if c == 67 then Some s.Cr else if c == 68 then Some s.Db else None
+symbol_of c = if c == 67 then Some s.Cr else if c == 68 then Some s.Db else text_of.symbol_of c
 
 unfoldable pub run_at : List ℕ → ReadResult Run
 run_at bytes = do

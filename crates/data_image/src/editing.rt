@@ -2,7 +2,6 @@
 
 ghost use Rattle.std.specs.Prelude.{◌≡◌, ◌++◌, ◌∷◌, OnOk};
 ghost use Rattle.answers.specs.Answer.{Gives};
-ghost use Rattle.picture.specs.Text.{letter};
 ghost use Rattle.data_image.specs.Faults.{fault_of};
 ghost use Rattle.data_image.specs.Pictures as spec;
 ghost use Rattle.data_image.specs.Pictures.{picture_bytes, picture_at, run_bytes, run_at, editing_bytes, editing_at, IsRunSpelled, IsPictureSpelled, IsEditingSpelled};
@@ -50,54 +49,15 @@ pub fn read_editing(alloc: Global, bytes: &[u8]) -> Result<(Option<Picture>, &[u
     }
 }
 
-/// The character that writes a symbol: of CR and DB the first.
-fn letter(symbol: Symbol) -> u8
-    ensures { result ≡ letter symbol }
-{
-    match symbol {
-        Symbol::A => b'A',
-        Symbol::X => b'X',
-        Symbol::Nine => b'9',
-        Symbol::S => b'S',
-        Symbol::V => b'V',
-        Symbol::B => b'B',
-        Symbol::Zero => b'0',
-        Symbol::Slash => b'/',
-        Symbol::Comma => b',',
-        Symbol::Point => b'.',
-        Symbol::Z => b'Z',
-        Symbol::Star => b'*',
-        Symbol::Plus => b'+',
-        Symbol::Minus => b'-',
-        Symbol::Currency => b'$',
-        Symbol::Cr => b'C',
-        Symbol::Db => b'D',
-    }
-}
-
+/// The symbol whose letter this is: of CR and DB the first.
 #[tactic(auto, unfolding(crate::specs::Pictures::symbol_of))]
 fn symbol_of(character: u8) -> Option<Symbol>
     ensures { result ≡ spec.symbol_of character }
 {
     match character {
-        b'A' => Some(Symbol::A),
-        b'X' => Some(Symbol::X),
-        b'9' => Some(Symbol::Nine),
-        b'S' => Some(Symbol::S),
-        b'V' => Some(Symbol::V),
-        b'B' => Some(Symbol::B),
-        b'0' => Some(Symbol::Zero),
-        b'/' => Some(Symbol::Slash),
-        b',' => Some(Symbol::Comma),
-        b'.' => Some(Symbol::Point),
-        b'Z' => Some(Symbol::Z),
-        b'*' => Some(Symbol::Star),
-        b'+' => Some(Symbol::Plus),
-        b'-' => Some(Symbol::Minus),
-        b'$' => Some(Symbol::Currency),
         b'C' => Some(Symbol::Cr),
         b'D' => Some(Symbol::Db),
-        _ => None,
+        _ => Symbol::from_letter(character),
     }
 }
 
@@ -110,7 +70,7 @@ impl TableEntry for Run {
 
     fn put(&self, out: &mut Vec<u8>) -> Result<(), AllocError> {
         let run = *self;
-        put_byte(out, letter(run.symbol))?;
+        put_byte(out, run.symbol.letter())?;
         put_wide(out, run.count)
     }
 

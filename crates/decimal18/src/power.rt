@@ -55,40 +55,15 @@ pub fn power_of_ten(exponent: u8) -> u128
     POWERS[exponent as usize]
 }
 
-/// Powers of ten that fit 64 bits.
-const SHORT_COUNT: usize = 20;
-
-static SHORT_POWERS: [u64; SHORT_COUNT] = [
-    1,
-    10,
-    100,
-    1_000,
-    10_000,
-    100_000,
-    1_000_000,
-    10_000_000,
-    100_000_000,
-    1_000_000_000,
-    10_000_000_000,
-    100_000_000_000,
-    1_000_000_000_000,
-    10_000_000_000_000,
-    100_000_000_000_000,
-    1_000_000_000_000_000,
-    10_000_000_000_000_000,
-    100_000_000_000_000_000,
-    1_000_000_000_000_000_000,
-    10_000_000_000_000_000_000,
-];
-
 /// 10 to an exponent of at most 19, in 64 bits.
 #[inline]
+#[tactic(auto, using(crate::proofs::Powers::power_le))]
 pub fn short_power(exponent: u8) -> u64
     requires { exponent ≤ 19 }
     ensures value { result ≡ 10 ^ exponent }
     ensures positive { 0 < result }
 {
-    SHORT_POWERS[exponent as usize]
+    power_of_ten(exponent) as u64
 }
 
 /// 10 to an exponent of at most 18, in 64 bits with a sign.

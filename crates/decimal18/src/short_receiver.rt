@@ -60,6 +60,19 @@ fn lengthened(magnitude: u64, zeros: u8, digits: u8) -> Option<u64>
     }
 }
 
+/// The number, if it has at most so many digits.
+fn limited(magnitude: u64, digits: u8) -> Option<u64>
+    requires { digits ≤ 18 }
+    ensures value { result ≡ (if nat_lt magnitude (10 ^ digits) then Some magnitude else None) }
+    ensures bound { IfSome result (λ kept. kept < 10 ^ digits) }
+{
+    if magnitude < short_power(digits) {
+        Some(magnitude)
+    } else {
+        None
+    }
+}
+
 /// The low digits of a number.
 fn low(magnitude: u64, digits: u8) -> u64
     requires { digits ≤ 18 }
@@ -87,12 +100,7 @@ fn fitted_digits(magnitude: u64, from: u8, digits: u8, scale: u8, rounding: Roun
     if from <= scale {
         return lengthened(magnitude, scale - from, digits);
     }
-    let kept = shortened(magnitude, from - scale, rounding);
-    if kept < short_power(digits) {
-        Some(kept)
-    } else {
-        None
-    }
+    limited(shortened(magnitude, from - scale, rounding), digits)
 }
 
 /// The low digits of those that a number has at a receiver's scale.

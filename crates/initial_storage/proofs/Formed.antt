@@ -27,7 +27,8 @@ use Rattle.source_tree.specs.ValueRules.{condition_rules}
 use Rattle.source_tree.specs.EntryRules.{Position, outermost, is_outermost, own_rules, below, forest_rules, entry_rules}
 use Rattle.source_tree.specs.FileRules.{descriptions_rules}
 use Rattle.initial_storage.specs.Formed.{IsFormed, HasForm, AreFormed, FormsFile}
-use Rattle.initial_storage.proofs.Kept.{three_parts, KeepsOwn, keeps_own, rule_parts}
+use Rattle.data_entries.proofs.TreeRules.{three_parts}
+use Rattle.initial_storage.proofs.Kept.{KeepsOwn, keeps_own, rule_parts}
 use Rattle.initial_storage.proofs.KeptFiles.{Description, descriptions, of_descriptions, of_files}
 use Rattle.initial_storage.proofs.Groups.{all_append}
 use Rattle.initial_storage.proofs.Records.{redefines_some}

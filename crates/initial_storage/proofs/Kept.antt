@@ -25,11 +25,12 @@ use Rattle.source_tree.specs.ClauseRules.{most_item_bytes, most_occurrences, mos
 use Rattle.source_tree.specs.ClauseRules.{wrong_occurs, wrong_blank, wrong_form, another_usage, too_large, too_many}
 use Rattle.source_tree.specs.ClauseRules.{wrong_clause, wrong_picture}
 use Rattle.source_tree.specs.RedefinitionRules.{Redefinable, redefinable_after}
-use Rattle.source_tree.specs.ValueRules.{has_form, wrong_number, wrong_class, wrong_value, value_rules, condition_rules}
+use Rattle.source_tree.specs.ValueRules.{has_form, wrong_number, wrong_class, wrong_value, value_rules}
 use Rattle.source_tree.specs.EntryRules.{Position, outermost, is_outermost, level_rules, wrong_level}
 use Rattle.source_tree.specs.EntryRules.{redefinition_rules, own_rules, below, forest_rules, storage_rules, excess}
 use Rattle.source_tree.specs.EntryRules.{homeless, most_entries, entry_rules}
 use Rattle.data_entries.specs.Nesting.{AreTold}
+use Rattle.data_entries.proofs.TreeRules.{tree_parts}
 use Rattle.initial_storage.specs.Fits.{Suits, HasValue, FitsEntry, Fits}
 
 pub front_nil : {A : Type 0} (xs ys : List A) → xs ++ ys ≡ [] → xs ≡ []
@@ -161,19 +162,13 @@ entry_fits at one inner last level e =
     let own : KeepsOwn at one inner last = keeps_own at one inner last e in
     record { level = level; some = own.some; times = own.times; bytes = own.bytes; value = own.value }
 
-pub three_parts : (a b c d : List RuleBreach) → a ++ (b ++ (c ++ d)) ≡ [] → (a ≡ []) × (b ≡ []) × (d ≡ [])
-three_parts a b c d e =
-    let rest = back_nil a (b ++ (c ++ d)) e in
-    (front_nil a (b ++ (c ++ d)) e, front_nil b (c ++ d) rest, back_nil c d (back_nil b (c ++ d) rest))
-
 pub of_forest : (at : Position) (last : Option Redefinable) (F : Forest) → AreTold F → forest_rules at last F ≡ []
     → Fits at.around F
 of_forest at last End levels e = tt
 of_forest at last (Tree one conditions inner next) levels e =
-    let item : Items.Item = item_with at.around one inner in
-    let after : Option Redefinable = redefinable_after one (occurrences one * item.length) last in
-    let parts = three_parts (forest_rules (below at one inner) None inner) (own_rules at one item inner last)
-    (each (condition_rules item) conditions) (forest_rules at after next) e in (
+    let after : Option Redefinable =
+    redefinable_after one (occurrences one * (item_with at.around one inner).length) last in
+    let parts = tree_parts at last one conditions inner next e in (
       entry_fits at one inner last levels.0 parts.1,
       of_forest (below at one inner) None inner levels.1 parts.0,
       of_forest at after next levels.2 parts.2,

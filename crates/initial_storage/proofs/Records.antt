@@ -25,7 +25,8 @@ use Rattle.source_tree.specs.EntryRules.{outermost, is_outermost, redefinition_r
 use Rattle.source_tree.specs.EntryRules.{entry_rules}
 use Rattle.source_tree.specs.FileRules.{descriptions_rules}
 use Rattle.initial_storage.specs.Reach.{reach, IsWithinArea, record_area_lengths, program_area_lengths}
-use Rattle.initial_storage.proofs.Kept.{three_parts, kept, second_false, KeepsOwn, keeps_own, rule_parts}
+use Rattle.data_entries.proofs.TreeRules.{three_parts}
+use Rattle.initial_storage.proofs.Kept.{kept, second_false, KeepsOwn, keeps_own, rule_parts}
 use Rattle.initial_storage.proofs.KeptFiles.{Description, descriptions}
 use Rattle.initial_storage.proofs.Inner.{Outer, outer_nested}
 use Rattle.initial_storage.proofs.Sizes.{room_in, sized}

@@ -17,7 +17,8 @@ use Rattle.source_tree.specs.ClauseRules.{wrong_picture}
 use Rattle.source_tree.specs.RedefinitionRules.{Redefinable, redefinable_after, wrong_object, wrong_redefinition}
 use Rattle.source_tree.specs.ValueRules.{condition_rules}
 use Rattle.source_tree.specs.EntryRules.{Position, is_outermost, redefinition_rules, own_rules, below, forest_rules}
-use Rattle.initial_storage.proofs.Kept.{three_parts, kept, second_false, at_most, KeepsOwn, keeps_own}
+use Rattle.data_entries.proofs.TreeRules.{three_parts}
+use Rattle.initial_storage.proofs.Kept.{kept, second_false, at_most, KeepsOwn, keeps_own}
 use Rattle.initial_storage.proofs.Inner.{Inner}
 use Rattle.initial_storage.proofs.Groups.{Sized}
 

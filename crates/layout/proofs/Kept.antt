@@ -17,12 +17,13 @@ use Rattle.source_tree.specs.Broken.{RuleBreach, where_so, each}
 use Rattle.source_tree.specs.ClauseRules.{most_item_bytes, most_occurrences, too_large, too_many, wrong_clause}
 use Rattle.source_tree.specs.ClauseRules.{wrong_picture}
 use Rattle.source_tree.specs.RedefinitionRules.{Redefinable, redefinable_after}
-use Rattle.source_tree.specs.ValueRules.{value_rules, condition_rules}
+use Rattle.source_tree.specs.ValueRules.{value_rules}
 use Rattle.source_tree.specs.EntryRules.{Position, outermost, is_outermost, level_rules, wrong_level}
 use Rattle.source_tree.specs.EntryRules.{redefinition_rules, own_rules, below, forest_rules, storage_rules, excess}
 use Rattle.source_tree.specs.EntryRules.{homeless, most_entries, entry_rules}
 use Rattle.data_entries.specs.Nesting.{AreTold}
 use Rattle.data_entries.proofs.Told.{levels_known}
+use Rattle.data_entries.proofs.TreeRules.{three_parts, tree_parts}
 use Rattle.layout.specs.Fits.{FitsEntry, Fits}
 
 pub front_nil : {A : Type 0} (xs ys : List A) → xs ++ ys ≡ [] → xs ≡ []
@@ -67,11 +68,6 @@ within_of around one (Tree other conditions inner next) e h =
     let bytes : ℕ = room (inside around one) (Tree other conditions inner next) in
     subst (λ p. (item_by around one (form_of p) bytes).length ≤ most_item_bytes) (none_of one.picture false e) h
 
-three_parts : (a b c d : List RuleBreach) → a ++ (b ++ (c ++ d)) ≡ [] → (a ≡ []) × (b ≡ []) × (d ≡ [])
-three_parts a b c d e =
-    let rest = back_nil a (b ++ (c ++ d)) e in
-    (front_nil a (b ++ (c ++ d)) e, front_nil b (c ++ d) rest, back_nil c d (back_nil b (c ++ d) rest))
-
 own_parts : (times bytes level clause picture : Bool) (place : Place) (redefinition value : List RuleBreach)
     → where_so times 69 place ++ where_so bytes 48 place ++ where_so level 43 place ++ where_so clause 44 place
     ++ where_so picture 45 place ++ redefinition ++ value ≡ []
@@ -103,10 +99,9 @@ pub of_forest : (at : Position) (last : Option Redefinable) (F : Forest) → Are
     → Fits at.around F
 of_forest at last End levels e = tt
 of_forest at last (Tree one conditions inner next) levels e =
-    let item : Items.Item = item_with at.around one inner in
-    let after : Option Redefinable = redefinable_after one (occurrences one * item.length) last in
-    let parts = three_parts (forest_rules (below at one inner) None inner) (own_rules at one item inner last)
-    (each (condition_rules item) conditions) (forest_rules at after next) e in (
+    let after : Option Redefinable =
+    redefinable_after one (occurrences one * (item_with at.around one inner).length) last in
+    let parts = tree_parts at last one conditions inner next e in (
       entry_fits at one inner last levels.0 parts.1,
       of_forest (below at one inner) None inner levels.1 parts.0,
       of_forest at after next levels.2 parts.2,

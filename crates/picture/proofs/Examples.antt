@@ -1,6 +1,6 @@
 -- Worked examples of the definitions.
 use Rattle.std.proofs.Common.{◌≡◌, ℕ, List, [], ◌∷◌, Option, Some, None, refl}
-use Rattle.std.specs.Prelude.{codes}
+use Rattle.std.specs.Prelude.{codes, map}
 use Rattle.picture.specs.declared.place.Place.{Place}
 use Rattle.picture.specs.declared.place.Place.TheVariants as p
 use Rattle.picture.specs.declared.place.Region.{Region}
@@ -31,8 +31,7 @@ told (Some picture) =
 
 -- each of these texts is read so
 abbrev Holds : List (List ℕ × Option Summary) → Type 0
-Holds [] = Unit {0}
-Holds (row ∷ more) = (told (picture_of row.0) ≡ row.1) × Holds more
+Holds rows = map (λ row. told (picture_of row.0)) rows ≡ map (λ row. row.1) rows
 
 -- a row: the text, its category, its size in characters, its digit places, and how many of them stand after the point
 abbrev row : List ℕ → Category → ℕ → ℕ → ℕ → List ℕ × Option Summary
@@ -69,25 +68,7 @@ unfolding told picture_of of_form runs_of runs_from run_at run_from pair_at
     d.past_core d.has_one_sign d.begins_before_point d.has_digits d.is_numeric_picture d.is_only kind_of suppression_of
     class_has runs_past past_one from_first occurrences ends_in size_of of_digits of_characters scale_of each_place
     repeated_places region_from
-edited = (
-  refl,
-  (
-    refl,
-    (
-      refl,
-      (
-        refl,
-        (
-          refl,
-          (
-            refl,
-            (refl, (refl, (refl, (refl, (refl, (refl, (refl, (refl, (refl, (refl, (refl, (refl, (refl, tt))))))))))))),
-          ),
-        ),
-      ),
-    ),
-  ),
-)
+edited = refl
 
 -- the other categories
 plain : Holds (
@@ -112,10 +93,7 @@ unfolding told picture_of of_form runs_of runs_from run_at run_from pair_at
     d.past_core d.has_one_sign d.begins_before_point d.has_digits d.is_numeric_picture d.is_only kind_of suppression_of
     class_has runs_past past_one from_first occurrences ends_in size_of of_digits of_characters scale_of each_place
     repeated_places region_from
-plain = (
-  refl,
-  (refl, (refl, (refl, (refl, (refl, (refl, (refl, (refl, (refl, (refl, (refl, (refl, (refl, (refl, tt)))))))))))))),
-)
+plain = refl
 
 -- texts without a form
 without_form : Holds (
@@ -155,70 +133,7 @@ unfolding told picture_of of_form runs_of runs_from run_at run_from pair_at
     d.past_core d.has_one_sign d.begins_before_point d.has_digits d.is_numeric_picture d.is_only kind_of suppression_of
     class_has runs_past past_one from_first occurrences ends_in size_of of_digits of_characters scale_of each_place
     repeated_places region_from
-without_form = (
-  refl,
-  (
-    refl,
-    (
-      refl,
-      (
-        refl,
-        (
-          refl,
-          (
-            refl,
-            (
-              refl,
-              (
-                refl,
-                (
-                  refl,
-                  (
-                    refl,
-                    (
-                      refl,
-                      (
-                        refl,
-                        (
-                          refl,
-                          (
-                            refl,
-                            (
-                              refl,
-                              (
-                                refl,
-                                (
-                                  refl,
-                                  (
-                                    refl,
-                                    (
-                                      refl,
-                                      (
-                                        refl,
-                                        (
-                                          refl,
-                                          (refl, (refl, (refl, (refl, (refl, (refl, (refl, (refl, (refl, tt))))))))),
-                                        ),
-                                      ),
-                                    ),
-                                  ),
-                                ),
-                              ),
-                            ),
-                          ),
-                        ),
-                      ),
-                    ),
-                  ),
-                ),
-              ),
-            ),
-          ),
-        ),
-      ),
-    ),
-  ),
-)
+without_form = refl
 
 -- The places of an edited picture, and the region of its floating symbol.
 places : Option Description → List Place

@@ -2,6 +2,7 @@
 
 ghost use Rattle.std.specs.Prelude.{◌≡◌};
 ghost use Rattle.picture.specs.Symbols as spec;
+ghost use Rattle.picture.specs.Text as text_of;
 
 /// A symbol of a picture (COBOL-85, Nucleus, the PICTURE clause). P has no form here.
 #[derive(Clone, Copy, PartialEq, Eq)]
@@ -101,6 +102,56 @@ impl Symbol {
             Symbol::S | Symbol::V => 0,
             Symbol::Cr | Symbol::Db => 2,
             _ => 1,
+        }
+    }
+
+    /// The character that writes the symbol, or the first of two.
+    pub fn letter(self) -> u8
+        ensures { result ≡ text_of.letter self }
+    {
+        match self {
+            Symbol::A => b'A',
+            Symbol::X => b'X',
+            Symbol::Nine => b'9',
+            Symbol::S => b'S',
+            Symbol::V => b'V',
+            Symbol::B => b'B',
+            Symbol::Zero => b'0',
+            Symbol::Slash => b'/',
+            Symbol::Comma => b',',
+            Symbol::Point => b'.',
+            Symbol::Z => b'Z',
+            Symbol::Star => b'*',
+            Symbol::Plus => b'+',
+            Symbol::Minus => b'-',
+            Symbol::Currency => b'$',
+            Symbol::Cr => b'C',
+            Symbol::Db => b'D',
+        }
+    }
+
+    /// The symbol that the character writes by itself.
+    #[tactic(auto, unfolding(crate::specs::Text::symbol_of))]
+    pub fn from_letter(character: u8) -> Option<Symbol>
+        ensures { result ≡ text_of.symbol_of character }
+    {
+        match character {
+            b'A' => Some(Symbol::A),
+            b'X' => Some(Symbol::X),
+            b'9' => Some(Symbol::Nine),
+            b'S' => Some(Symbol::S),
+            b'V' => Some(Symbol::V),
+            b'B' => Some(Symbol::B),
+            b'0' => Some(Symbol::Zero),
+            b'/' => Some(Symbol::Slash),
+            b',' => Some(Symbol::Comma),
+            b'.' => Some(Symbol::Point),
+            b'Z' => Some(Symbol::Z),
+            b'*' => Some(Symbol::Star),
+            b'+' => Some(Symbol::Plus),
+            b'-' => Some(Symbol::Minus),
+            b'$' => Some(Symbol::Currency),
+            _ => None,
         }
     }
 }

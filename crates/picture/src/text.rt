@@ -93,31 +93,6 @@ fn character_at(text: &[u8]) -> Option<(u8, u128, &[u8])>
     Some((byte.to_ascii_uppercase(), count, rest))
 }
 
-/// The symbol that the character writes by itself.
-#[tactic(auto, unfolding(crate::specs::Text::symbol_of))]
-fn symbol_of(character: u8) -> Option<Symbol>
-    ensures { result ≡ spec.symbol_of character }
-{
-    match character {
-        b'A' => Some(Symbol::A),
-        b'X' => Some(Symbol::X),
-        b'9' => Some(Symbol::Nine),
-        b'S' => Some(Symbol::S),
-        b'V' => Some(Symbol::V),
-        b'B' => Some(Symbol::B),
-        b'0' => Some(Symbol::Zero),
-        b'/' => Some(Symbol::Slash),
-        b',' => Some(Symbol::Comma),
-        b'.' => Some(Symbol::Point),
-        b'Z' => Some(Symbol::Z),
-        b'*' => Some(Symbol::Star),
-        b'+' => Some(Symbol::Plus),
-        b'-' => Some(Symbol::Minus),
-        b'$' => Some(Symbol::Currency),
-        _ => None,
-    }
-}
-
 /// The symbol of two characters, each once, of which the first stood before `rest` as often as `count`.
 #[tactic(auto, unfolding(crate::specs::Text::pair_at))]
 fn pair_at(second: u8, symbol: Symbol, count: u128, rest: &[u8]) -> Option<(Run, &[u8])>
@@ -151,7 +126,7 @@ fn run_at(text: &[u8]) -> Option<(Run, &[u8])>
         b'C' => pair_at(b'R', Symbol::Cr, count, rest),
         b'D' => pair_at(b'B', Symbol::Db, count, rest),
         _ => {
-            let symbol = symbol_of(character)?;
+            let symbol = Symbol::from_letter(character)?;
             Some((Run { symbol, count }, rest))
         }
     }

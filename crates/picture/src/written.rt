@@ -1,7 +1,6 @@
 //! The text of a picture.
 
 ghost use Rattle.std.specs.Prelude.{◌≡◌, ◌++◌, IfOk, OnOk};
-ghost use Rattle.picture.specs.Text as text_of;
 ghost use Rattle.picture.specs.Spelling as spec;
 
 use crate::run::Run;
@@ -26,36 +25,11 @@ pub fn written(alloc: Global, runs: &[Run]) -> Result<Items<u8>, AllocError>
     Ok(text)
 }
 
-/// The character of a symbol, or the first of two.
-fn letter(symbol: Symbol) -> u8
-    ensures { result ≡ text_of.letter symbol }
-{
-    match symbol {
-        Symbol::A => b'A',
-        Symbol::X => b'X',
-        Symbol::Nine => b'9',
-        Symbol::S => b'S',
-        Symbol::V => b'V',
-        Symbol::B => b'B',
-        Symbol::Zero => b'0',
-        Symbol::Slash => b'/',
-        Symbol::Comma => b',',
-        Symbol::Point => b'.',
-        Symbol::Z => b'Z',
-        Symbol::Star => b'*',
-        Symbol::Plus => b'+',
-        Symbol::Minus => b'-',
-        Symbol::Currency => b'$',
-        Symbol::Cr => b'C',
-        Symbol::Db => b'D',
-    }
-}
-
 /// Writes a symbol.
 fn push_letters(symbol: Symbol, text: &mut Items<u8>) -> Result<(), AllocError>
     ensures { OnOk result (text.new ≡ text.old ++ spec.letters symbol) }
 {
-    text.push(letter(symbol))?;
+    text.push(symbol.letter())?;
     match symbol {
         Symbol::Cr => text.push(b'R'),
         Symbol::Db => text.push(b'B'),

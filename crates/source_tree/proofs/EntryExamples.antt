@@ -20,8 +20,7 @@ rules = map (λ one. one.rule)
 
 -- rows: entries, and the rules that they break
 abbrev Break : List (List Entry × List ℕ) → Type 0
-Break [] = Unit {0}
-Break (row ∷ more) = (rules (entry_rules row.0) ≡ row.1) × Break more
+Break rows = map (λ row. rules (entry_rules row.0)) rows ≡ map (λ row. row.1) rows
 
 -- in a group of that name
 abbrev in_group : List ItemEntry → List Entry
@@ -51,7 +50,7 @@ levels :
     )
     ∷ [])
 unfolding computing
-levels = (refl, (refl, (refl, (refl, (refl, (refl, (refl, (refl, (refl, (refl, tt))))))))))
+levels = refl
 
 -- ---- 44 and 69
 
@@ -80,7 +79,7 @@ occurs : Break ((entries (occurring (codes "3") (item (codes "01") (codes "A") (
     )
     ∷ [])
 unfolding computing
-occurs = (refl, (refl, (refl, (refl, (refl, (refl, (refl, (refl, tt))))))))
+occurs = refl
 
 -- JUSTIFIED, BLANK WHEN ZERO
 alignment : Break ((
@@ -103,7 +102,7 @@ alignment : Break ((
     ∷ (entries (blank (group (codes "01") (codes "A")) ∷ item (codes "02") (codes "B") (codes "9") ∷ []), 44 ∷ [])
     ∷ [])
 unfolding computing
-alignment = (refl, (refl, (refl, (refl, (refl, (refl, (refl, (refl, (refl, (refl, tt))))))))))
+alignment = refl
 
 -- SIGN and USAGE
 usages : Break ((entries (signed position.Leading true (item (codes "77") (codes "A") (codes "S9")) ∷ []), [])
@@ -132,7 +131,7 @@ usages : Break ((entries (signed position.Leading true (item (codes "77") (codes
     )
     ∷ [])
 unfolding computing
-usages = (refl, (refl, (refl, (refl, (refl, (refl, (refl, (refl, (refl, (refl, (refl, (refl, tt))))))))))))
+usages = refl
 
 -- ---- 45: no picture; one on a group; one without a form
 
@@ -142,7 +141,7 @@ pictures : Break ((entries (group (codes "01") (codes "A") ∷ []), 45 ∷ [])
     ∷ (entries (item (codes "01") (codes "A") (codes "9(18)") ∷ []), [])
     ∷ [])
 unfolding computing
-pictures = (refl, (refl, (refl, (refl, tt))))
+pictures = refl
 
 -- ---- 46
 
@@ -201,7 +200,7 @@ redefinitions : Break ((
     )
     ∷ [])
 unfolding computing
-redefinitions = (refl, (refl, (refl, (refl, (refl, (refl, (refl, (refl, (refl, (refl, (refl, tt)))))))))))
+redefinitions = refl
 
 -- ---- 47
 
@@ -263,22 +262,7 @@ values : Break ((
     )
     ∷ [])
 unfolding computing
-values = (
-  refl,
-  (
-    refl,
-    (
-      refl,
-      (
-        refl,
-        (
-          refl,
-          (refl, (refl, (refl, (refl, (refl, (refl, (refl, (refl, (refl, (refl, (refl, (refl, (refl, tt))))))))))))),
-        ),
-      ),
-    ),
-  ),
-)
+values = refl
 
 -- ---- condition names: 47 of each value, 55 of ranges
 
@@ -317,8 +301,7 @@ conditions : Break
     )
     ∷ [])
 unfolding computing
-conditions =
-    (refl, (refl, (refl, (refl, (refl, (refl, (refl, (refl, (refl, (refl, (refl, (refl, (refl, (refl, tt))))))))))))))
+conditions = refl
 
 -- ---- 48: 65,535 bytes and one more; 1,000,000 bytes of storage in several 01s, and one more
 
@@ -332,7 +315,7 @@ sizes : Break ((entries (item (codes "01") (codes "A") (codes "X(65535)") ∷ []
     ∷ (in_group (occurring (codes "2") (item (codes "05") (codes "A") (codes "X(32768)")) ∷ []), 48 ∷ [])
     ∷ [])
 unfolding computing
-sizes = (refl, (refl, (refl, (refl, tt))))
+sizes = refl
 
 abbrev sixteen : List ItemEntry
 sixteen = replicate 16 (item (codes "01") (codes "A") (codes "X(62500)"))

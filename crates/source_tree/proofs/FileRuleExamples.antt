@@ -47,8 +47,7 @@ of_files selects files =
     rules (program_file_rules (program_items (program selects files storage [])) (program selects files storage []))
 
 abbrev Breaks : List (Select × List ℕ) → Type 0
-Breaks [] = Unit {0}
-Breaks (row ∷ more) = (of_files (row.0 ∷ []) (described "F" records ∷ []) ≡ row.1) × Breaks more
+Breaks rows = map (λ row. of_files (row.0 ∷ []) (described "F" records ∷ [])) rows ≡ map (λ row. row.1) rows
 
 abbrev f : Select
 f = select "F"
@@ -85,7 +84,7 @@ clauses : Breaks ((f, [])
     ∷ (record (relative Sequential None f) { alternate_keys = alternate "V" true ∷ [] }, 58 ∷ [])
     ∷ [])
 unfolding computing
-clauses = (refl, (refl, (refl, (refl, (refl, (refl, (refl, (refl, tt))))))))
+clauses = refl
 
 -- 58: an unsigned number in DISPLAY usage may be a key; a number with S, an alphabetic item, one of a table, one of
 -- working storage may not; nor may two keys begin at one place
@@ -100,7 +99,7 @@ keys : Breaks ((indexed Random "M" (alternate "K" false ∷ alternate "V" true �
     ∷ (indexed Random "K" (alternate "V" false ∷ alternate "V" true ∷ []) f, 58 ∷ [])
     ∷ [])
 unfolding computing
-keys = (refl, (refl, (refl, (refl, (refl, (refl, (refl, (refl, (refl, tt)))))))))
+keys = refl
 
 -- 60
 relative_keys : Breaks ((relative Sequential None f, [])
@@ -113,7 +112,7 @@ relative_keys : Breaks ((relative Sequential None f, [])
     ∷ (relative Dynamic (Some "Z") f, 40 ∷ [])
     ∷ [])
 unfolding computing
-relative_keys = (refl, (refl, (refl, (refl, (refl, (refl, (refl, (refl, tt))))))))
+relative_keys = refl
 
 -- 59
 statuses : Breaks ((with_status "S" f, [])
@@ -123,7 +122,7 @@ statuses : Breaks ((with_status "S" f, [])
     ∷ (with_status "Z" f, 40 ∷ [])
     ∷ [])
 unfolding computing
-statuses = (refl, (refl, (refl, (refl, (refl, tt)))))
+statuses = refl
 
 -- 66
 abbrev called : List ℕ → Select
@@ -131,7 +130,7 @@ called characters = record f { assigned = record { characters = characters; plac
 
 assigned : Breaks ((called (replicate 30 65), []) ∷ (called (replicate 31 65), 66 ∷ []) ∷ (called [], 66 ∷ []) ∷ [])
 unfolding computing
-assigned = (refl, (refl, (refl, tt)))
+assigned = refl
 
 -- 69: a record of more than 16,000 bytes, a key of more than 100, more than 7 alternate keys, more than 15 files
 abbrev of_length : String → List ℕ
@@ -185,8 +184,7 @@ sixteen_files = refl
 
 -- entries of records: 46 REDEFINES at 01, 47 VALUE except for a condition name, 43 levels
 abbrev Holds : List (List Entry × List ℕ) → Type 0
-Holds [] = Unit {0}
-Holds (row ∷ more) = (of_files (f ∷ []) (described "F" row.0 ∷ []) ≡ row.1) × Holds more
+Holds rows = map (λ row. of_files (f ∷ []) (described "F" row.0 ∷ [])) rows ≡ map (λ row. row.1) rows
 
 record_entries : Holds ((
   entries (item (codes "01") (codes "R") (codes "XX")
@@ -209,7 +207,7 @@ record_entries : Holds ((
     ∷ ([], 69 ∷ [])
     ∷ [])
 unfolding computing
-record_entries = (refl, (refl, (refl, (refl, (refl, (refl, (refl, tt)))))))
+record_entries = refl
 
 -- ---- file statements: F is sequential, G relative with dynamic access and H with sequential, I indexed with random
 -- access and J with dynamic, L sequential with a number as its only record
@@ -246,8 +244,7 @@ of_filing (verb.FileStatement one) =
 of_filing _ = []
 
 abbrev Broke : List (Verb Statement × List ℕ) → Type 0
-Broke [] = Unit {0}
-Broke (row ∷ more) = (rules (of_filing row.0) ≡ row.1) × Broke more
+Broke rows = map (λ row. rules (of_filing row.0)) rows ≡ map (λ row. row.1) rows
 
 abbrev with_end : FilePhrases Statement
 with_end = AtEnd (record { arose = Some []; did_not = None })
@@ -263,7 +260,7 @@ no_file_broken = refl
 opened : Broke ((opening Extend "F", []) ∷ (opening Extend "G", 61 ∷ []) ∷ (opening Extend "J", 61 ∷ [])
     ∷ (opening Input "Z", 40 ∷ []) ∷ (close "F", []) ∷ (close "FR", 40 ∷ []) ∷ [])
 unfolding computing
-opened = (refl, (refl, (refl, (refl, (refl, (refl, tt))))))
+opened = refl
 
 reads : Broke ((read_next "F", [])
     ∷ (reading false None with_end "F", [])
@@ -288,34 +285,7 @@ reads : Broke ((read_next "F", [])
     ∷ (read_into "Z" Absent "F", 40 ∷ [])
     ∷ [])
 unfolding computing
-reads = (
-  refl,
-  (
-    refl,
-    (
-      refl,
-      (
-        refl,
-        (
-          refl,
-          (
-            refl,
-            (
-              refl,
-              (
-                refl,
-                (
-                  refl,
-                  (refl, (refl, (refl, (refl, (refl, (refl, (refl, (refl, (refl, (refl, (refl, (refl, tt)))))))))))),
-                ),
-              ),
-            ),
-          ),
-        ),
-      ),
-    ),
-  ),
-)
+reads = refl
 
 changes : Broke ((write "FR", [])
     ∷ (write "IK", 40 ∷ [])
@@ -329,7 +299,7 @@ changes : Broke ((write "FR", [])
     ∷ (delete "H", [])
     ∷ [])
 unfolding computing
-changes = (refl, (refl, (refl, (refl, (refl, (refl, (refl, (refl, (refl, (refl, tt))))))))))
+changes = refl
 
 starts : Broke ((start "F", 61 ∷ [])
     ∷ (start "I", 61 ∷ [])
@@ -355,34 +325,4 @@ starts : Broke ((start "F", 61 ∷ [])
     ∷ (start_at Equal "Z" "J", 40 ∷ [])
     ∷ [])
 unfolding computing
-starts = (
-  refl,
-  (
-    refl,
-    (
-      refl,
-      (
-        refl,
-        (
-          refl,
-          (
-            refl,
-            (
-              refl,
-              (
-                refl,
-                (
-                  refl,
-                  (
-                    refl,
-                    (refl, (refl, (refl, (refl, (refl, (refl, (refl, (refl, (refl, (refl, (refl, (refl, tt)))))))))))),
-                  ),
-                ),
-              ),
-            ),
-          ),
-        ),
-      ),
-    ),
-  ),
-)
+starts = refl

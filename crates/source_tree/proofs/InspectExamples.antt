@@ -71,8 +71,8 @@ inspected subject n tallying replacing =
 
 -- the subject, the counter, what is tallied and replaced, and what subject and counter become
 abbrev Inspects : List (List ℕ × List ℕ × List Tallying × List Replacing × List ℕ × List ℕ) → Type 0
-Inspects [] = Unit {0}
-Inspects (row ∷ more) = (inspected row.0 row.1 row.2 row.3 ≡ Ok (row.4 ∷ row.5 ∷ codes "98" ∷ [])) × Inspects more
+Inspects rows =
+    map (λ row. inspected row.0 row.1 row.2 row.3) rows ≡ map (λ row. Ok (row.4 ∷ row.5 ∷ codes "98" ∷ [])) rows
 
 abbrev for_n : List Tallied → List Tallying
 for_n entries = counter (codes "N") entries ∷ []
@@ -122,7 +122,7 @@ worked_rows : Inspects
     )
     ∷ [])
 unfolding computing arithmetic.sum tallies replaced_subject walk receivers.fitted_decimal
-worked_rows = (refl, (refl, (refl, (refl, (refl, (refl, (refl, tt)))))))
+worked_rows = refl
 
 -- The tens are cut; both phrases look at the text as it was; ALL "AB" BY ZERO takes two zeros; the last "BC" before
 -- "CA" doesn't end before it, so that its C is for the second entry.
@@ -154,7 +154,7 @@ more_rows : Inspects
       codes "2",
     ) ∷ [])
 unfolding computing arithmetic.sum tallies replaced_subject walk receivers.fitted_decimal
-more_rows = (refl, (refl, (refl, (refl, tt))))
+more_rows = refl
 
 -- One walk for both: what fits for M's entry isn't N's. M holds 9.8, and its tens are cut.
 two_counters : inspected (codes "ABCABC") (codes "0") (counter (codes "M") (counting how.All (codes "AB") anywhere ∷ [])
@@ -275,8 +275,7 @@ the_rules subject called one by = rules (inspect_rules (items_of operands)
     (replacing_by how.All one by anywhere ∷ [])))
 
 abbrev Broke : List (List ℕ × List ℕ × Operand × Operand × List ℕ) → Type 0
-Broke [] = Unit {0}
-Broke (row ∷ more) = (the_rules row.0 row.1 row.2 row.3 ≡ row.4) × Broke more
+Broke rows = map (λ row. the_rules row.0 row.1 row.2 row.3) rows ≡ map (λ row. row.4) rows
 
 rules_broken : Broke ((codes "X", codes "N", the_item (codes "Y"), the_item (codes "N"), [])
     ∷ (codes "E", codes "S", the_item (codes "V"), the_item (codes "E"), [])
@@ -297,19 +296,7 @@ rules_broken : Broke ((codes "X", codes "N", the_item (codes "Y"), the_item (cod
     ∷ (codes "Q", codes "Q", the_item (codes "Q"), the_item (codes "X"), 40 ∷ 40 ∷ 40 ∷ [])
     ∷ [])
 unfolding computing
-rules_broken = (
-  refl,
-  (
-    refl,
-    (
-      refl,
-      (
-        refl,
-        (refl, (refl, (refl, (refl, (refl, (refl, (refl, (refl, (refl, (refl, (refl, (refl, (refl, tt))))))))))))),
-      ),
-    ),
-  ),
-)
+rules_broken = refl
 
 -- CHARACTERS BY one character, a figurative constant or two; BEFORE and AFTER a number
 abbrev one_for_each : Operand → Limits → List ℕ

@@ -49,10 +49,8 @@ some_entries = entries (
     ∷ [])
 
 abbrev Broke : List (List ℕ × List (List ℕ) × List Subscript × List ℕ) → Type 0
-Broke [] = Unit {0}
-Broke (row ∷ more) =
-    (rules (reference_rules (items_of some_entries) any_item
-    (record { item = qualified row.0 row.1; subscripts = row.2; part = None })) ≡ row.3) × Broke more
+Broke rows = map (λ row. rules (reference_rules (items_of some_entries) any_item
+    (record { item = qualified row.0 row.1; subscripts = row.2; part = None }))) rows ≡ map (λ row. row.3) rows
 
 -- 40 unknown, or a condition name; 41 ambiguous; 50 number of subscripts; 51 decimals in a subscript
 names : Broke ((codes "Z", [], [], 40 ∷ [])
@@ -75,22 +73,7 @@ names : Broke ((codes "Z", [], [], 40 ∷ [])
     ∷ (codes "T", [], by_item (codes "T") ∷ [], 50 ∷ [])
     ∷ [])
 unfolding computing
-names = (
-  refl,
-  (
-    refl,
-    (
-      refl,
-      (
-        refl,
-        (
-          refl,
-          (refl, (refl, (refl, (refl, (refl, (refl, (refl, (refl, (refl, (refl, (refl, (refl, (refl, tt))))))))))))),
-        ),
-      ),
-    ),
-  ),
-)
+names = refl
 
 -- a condition name is qualified by its item and that item's groups
 abbrev condition_counts : List (List ℕ) → List ℕ
@@ -108,8 +91,8 @@ of_other_group = refl
 -- ---- 49: moves that aren't permitted
 
 abbrev Refused : List (Operand × List ℕ × List ℕ) → Type 0
-Refused [] = Unit {0}
-Refused (row ∷ more) = (rules (move_rules (items_of senders) row.0 (plain row.1 ∷ [])) ≡ row.2) × Refused more
+Refused rows =
+    map (λ row. rules (move_rules (items_of senders) row.0 (plain row.1 ∷ []))) rows ≡ map (λ row. row.2) rows
   where
     senders : List Entry
     senders = entries (item (codes "77") (codes "X") (codes "X(20)") ∷ item (codes "77") (codes "Y") (codes "X(18)")
@@ -143,43 +126,7 @@ permitted : Refused ((the_item (codes "A"), codes "X", [])
     ∷ (the_item (codes "I"), codes "Q", 40 ∷ [])
     ∷ [])
 unfolding computing
-permitted = (
-  refl,
-  (
-    refl,
-    (
-      refl,
-      (
-        refl,
-        (
-          refl,
-          (
-            refl,
-            (
-              refl,
-              (
-                refl,
-                (
-                  refl,
-                  (
-                    refl,
-                    (
-                      refl,
-                      (
-                        refl,
-                        (refl, (refl, (refl, (refl, (refl, (refl, (refl, (refl, (refl, (refl, (refl, tt))))))))))),
-                      ),
-                    ),
-                  ),
-                ),
-              ),
-            ),
-          ),
-        ),
-      ),
-    ),
-  ),
-)
+permitted = refl
 
 -- ---- MOVE: one item, a sender, and the item's bytes
 
@@ -187,8 +134,8 @@ abbrev after : List Entry → Operand → List Reference → Evaluation Storage
 after all sender receivers = move (items_of all) sender receivers (areas_at_start all)
 
 abbrev Moves : List (ItemEntry × Operand × List ℕ) → Type 0
-Moves [] = Unit {0}
-Moves (row ∷ more) = (after (entries (row.0 ∷ [])) row.1 (plain (codes "A") ∷ []) ≡ Ok (row.2 ∷ [])) × Moves more
+Moves rows =
+    map (λ row. after (entries (row.0 ∷ [])) row.1 (plain (codes "A") ∷ [])) rows ≡ map (λ row. Ok (row.2 ∷ [])) rows
 
 -- the worked rows: 123.45 to 99V9 gives 23.4; "ABCDE" to X(3) ABC, JUSTIFIED CDE; -7 to X(3) 7 and two spaces; bytes of
 -- numbers
@@ -219,13 +166,7 @@ moves :
     ∷ (item (codes "77") (codes "A") (codes "X(5)"), the_literal (all (codes "AB")), codes "ABABA")
     ∷ [])
 unfolding computing
-moves = (
-  refl,
-  (
-    refl,
-    (refl, (refl, (refl, (refl, (refl, (refl, (refl, (refl, (refl, (refl, (refl, (refl, (refl, (refl, tt)))))))))))))),
-  ),
-)
+moves = refl
 
 -- G holds ABCD, Y is its last three bytes: MOVE G TO Y Z makes G AABC and Z ABCD.
 taken_whole : after (entries (
@@ -278,9 +219,8 @@ bad_second = refl
 
 -- S9(3)V99 with -1.5, V99 with .5, 9(4) COMP with 7, a group of them as its bytes, and literals as written
 abbrev Shows : List (List Entry × Operand × List ℕ) → Type 0
-Shows [] = Unit {0}
-Shows (row ∷ more) =
-    (displayed_bytes (items_of row.0) (row.1 ∷ []) false (areas_at_start row.0) ≡ Ok row.2) × Shows more
+Shows rows = map (λ row. displayed_bytes (items_of row.0) (row.1 ∷ []) false (areas_at_start row.0)) rows
+    ≡ map (λ row. Ok row.2) rows
 
 shown_items : Shows ((
   entries (valued (signed_number sign.Minus (codes "1") (codes "5")) (item (codes "77") (codes "A") (codes "S9(3)V99"))
@@ -313,7 +253,7 @@ shown_items : Shows ((
     ∷ ([], the_literal (decimal (codes "007") (codes "50")), codes "007.50")
     ∷ [])
 unfolding computing
-shown_items = (refl, (refl, (refl, (refl, (refl, (refl, (refl, tt)))))))
+shown_items = refl
 
 -- ---- ACCEPT of X(4) from lines AB, ABCDEF and the end; FROM DATE of 850917 in 9(6), X(4), 9(4)
 
@@ -365,8 +305,7 @@ edited_date = refl
 -- ---- rules of DISPLAY and ACCEPT
 
 abbrev Shown : List (List Operand × List ℕ) → Type 0
-Shown [] = Unit {0}
-Shown (row ∷ more) = (rules (display_rules (items_of some_entries) row.0) ≡ row.1) × Shown more
+Shown rows = map (λ row. rules (display_rules (items_of some_entries) row.0)) rows ≡ map (λ row. row.1) rows
 
 -- a figurative constant is shown, ALL with a literal isn't; each operand's rules in turn
 shown_operands_rules : Shown ((the_item (codes "M") ∷ the_literal (constant figurative.Space) ∷ [], [])
@@ -374,7 +313,7 @@ shown_operands_rules : Shown ((the_item (codes "M") ∷ the_literal (constant fi
     ∷ (the_item (codes "T") ∷ [], 50 ∷ [])
     ∷ [])
 unfolding computing
-shown_operands_rules = (refl, (refl, (refl, tt)))
+shown_operands_rules = refl
 
 -- the date is an integer, which goes to no alphabetic item; a line goes to any
 line_into_any_item : rules (accept_line_rules (items_of (entries (item (codes "77") (codes "A") (codes "A(6)") ∷ [])))

@@ -186,9 +186,8 @@ the_string sender delimiter receiver to =
     record (into (sending (sender ∷ []) delimiter ∷ []) to) { receiver = plain receiver }
 
 abbrev Broke : List (Operand × Option Operand × List ℕ × Option Reference × List ℕ) → Type 0
-Broke [] = Unit {0}
-Broke (row ∷ more) =
-    (rules (string_rules (items_of operands) (the_string row.0 row.1 row.2 row.3)) ≡ row.4) × Broke more
+Broke rows = map (λ row. rules (string_rules (items_of operands) (the_string row.0 row.1 row.2 row.3))) rows
+    ≡ map (λ row. row.4) rows
 
 strings_broken : Broke ((the_item (codes "N"), None, codes "X", None, [])
     ∷ (the_item (codes "E"), None, codes "X", None, [])
@@ -209,16 +208,4 @@ strings_broken : Broke ((the_item (codes "N"), None, codes "X", None, [])
     ∷ (the_item (codes "Q"), Some (the_item (codes "Q")), codes "X", None, 40 ∷ 40 ∷ [])
     ∷ [])
 unfolding computing
-strings_broken = (
-  refl,
-  (
-    refl,
-    (
-      refl,
-      (
-        refl,
-        (refl, (refl, (refl, (refl, (refl, (refl, (refl, (refl, (refl, (refl, (refl, (refl, (refl, tt))))))))))))),
-      ),
-    ),
-  ),
-)
+strings_broken = refl
