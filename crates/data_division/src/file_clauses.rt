@@ -7,8 +7,7 @@ ghost use Rattle.grammar.specs.Gathering.{gathering_reader};
 
 use crate::optional::{either, skip_either};
 use expressions::integer;
-use grammar::{Part, ReadFault, Tokens, begins_name, name, several};
-use source_tree::Name;
+use grammar::{Names, ReadFault, Tokens, several};
 use std::alloc::Global;
 use tokens::{Kind, Reserved};
 
@@ -129,28 +128,6 @@ fn record_contains(alloc: Global, tokens: &mut Tokens<'_>) -> Result<FileClause,
     let _size = integer(alloc, tokens)?;
     tokens.skip(Reserved::Characters);
     Ok(FileClause::RecordContains)
-}
-
-/// Names in a list.
-struct Names;
-
-impl Part<Name> for Names {
-    ghost use Rattle.grammar.specs.Parts as grammar;
-    ghost use Rattle.grammar.specs.Reading as read;
-
-    ghost ready = { λ _. Unit {0} };
-
-    ghost reading = { λ _. read.name };
-
-    ghost beginning = { λ _. grammar.begins_name };
-
-    fn read(&self, alloc: Global, tokens: &mut Tokens<'_>) -> Result<Name, ReadFault> {
-        name(alloc, tokens)
-    }
-
-    fn begins(&self, tokens: &Tokens<'_>) -> bool {
-        begins_name(tokens)
-    }
 }
 
 #[tactic(auto, unfolding(crate::specs::FileClauses::data_records_reader))]

@@ -14,7 +14,7 @@ mod words;
 pub use answers::beside;
 pub use cursor::Tokens;
 pub use fault::{Halt, ReadFault};
-pub use names::{begins_name, name};
+pub use names::{Names, begins_name, name};
 pub use optional_words::skip_led;
 pub use part::{Part, any, several};
 pub use passing::{Passing, past_any, past_several};

@@ -7,10 +7,33 @@ ghost use Rattle.grammar.specs.Reading.{Reads};
 
 use crate::cursor::Tokens;
 use crate::fault::ReadFault;
+use crate::part::Part;
 use source_tree::Name;
 use sqlite_items::Items;
 use std::alloc::Global;
 use tokens::Kind;
+
+/// Names in a list.
+pub struct Names;
+
+impl Part<Name> for Names {
+    ghost use Rattle.grammar.specs.Parts as grammar;
+    ghost use Rattle.grammar.specs.Reading as spec;
+
+    ghost ready = { λ _. Unit {0} };
+
+    ghost reading = { λ _. spec.name };
+
+    ghost beginning = { λ _. grammar.begins_name };
+
+    fn read(&self, alloc: Global, tokens: &mut Tokens<'_>) -> Result<Name, ReadFault> {
+        name(alloc, tokens)
+    }
+
+    fn begins(&self, tokens: &Tokens<'_>) -> bool {
+        begins_name(tokens)
+    }
+}
 
 /// The next token is a user-defined word.
 pub fn begins_name(tokens: &Tokens<'_>) -> bool

@@ -47,7 +47,8 @@ hello = text (codes "       IDENTIFICATION DIVISION." ∷ codes "       PROGRAM-
     ∷ codes "           DISPLAY \"HELLO\"." ∷ codes "           STOP RUN." ∷ [])
 
 six_lines : bytes_of (characters_of hello)
-    ≡ codes "IDENTIFICATION DIVISION. PROGRAM-ID. HELLO. PROCEDURE DIVISION. MAIN.     DISPLAY \"HELLO\".     STOP RUN. "
+    ≡ codes "IDENTIFICATION DIVISION. PROGRAM-ID. HELLO. PROCEDURE DIVISION. MAIN. "
+    ++ codes "    DISPLAY \"HELLO\".     STOP RUN. "
 unfolding text bytes_of hello characters characters_of after_lines after_line after_plain plain_line_step line_step
 six_lines = refl
 

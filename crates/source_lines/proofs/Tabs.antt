@@ -87,10 +87,10 @@ filled_tab bytes index filled columns f h room e =
 
 pub filled_byte : (bytes : List ℕ) (index filled : ℕ) (columns : List ℕ) → Filled bytes index filled columns
     → index < length bytes → filled < 72
-    → (byte : ℕ) → get_or bytes index 0 ≡ byte → (byte == 9) ≡ false
+    → {byte : ℕ} → get_or bytes index 0 ≡ byte → (byte == 9) ≡ false
     → Filled bytes (index + 1) (filled + 1) (set columns filled byte)
 unfolding spaces
-filled_byte bytes index filled columns f h room byte is other =
+filled_byte bytes index filled columns f h room {byte} is other =
     let rest : 72 - filled - 1 ≡ 72 - (filled + 1) = omega arith in
     let one : spaces (72 - filled) ≡ 32 ∷ spaces (72 - (filled + 1)) =
     spaces_first (72 - filled) (omega arith) ∙ ap (λ n. 32 ∷ spaces n) rest in

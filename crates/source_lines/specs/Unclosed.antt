@@ -6,6 +6,7 @@
 --
 -- where the literal is open at the end of that logical line's last line.
 use Rattle.std.specs.Prelude.{◌≡◌, ℕ, ◌≤◌, true, false, List, [], ◌∷◌, ◌++◌, length, Option, None, Some}
+use Rattle.source_lines.specs.declared.fault.SourceFault.{SourceFault}
 use Rattle.source_lines.specs.declared.indicator.Indicator.TheVariants.{Plain}
 use Rattle.source_lines.specs.declared.line.Line.{Line}
 use Rattle.source_lines.specs.declared.lines.Character.{Character}
@@ -13,7 +14,7 @@ use Rattle.source_lines.specs.declared.literal.OpenLiteral.{OpenLiteral}
 use Rattle.lexical.specs.declared.place.Place.{Place}
 use Rattle.source_lines.specs.Format.{HasIndicator, BeginsAt, IsSkipped, IsInBody, Each, EndsParagraph, Gives, Continues, Logical}
 use Rattle.source_lines.specs.Paragraph.{begins_dropped}
-use Rattle.source_lines.specs.Reading.{lines_of}
+use Rattle.source_lines.specs.Reading.{lines_of, unclosed_fault}
 
 -- What follows a line doesn't continue it: the text ends, or a plain line with a nonblank comes. A continuation that doesn't
 -- begin with the literal's mark is a fault of its own, and so is a byte in column 7 that is no indicator.
@@ -47,3 +48,8 @@ pub data LeavesOpen : List Line → OpenLiteral → Type 0 where
 pub record HasUnclosed (source : List ℕ) (literal : OpenLiteral) : Type 0 where
   pub size : length source ≤ 8000000
   pub text : LeavesOpen (lines_of source) literal
+
+-- The fault is that of a literal that stays open in the source text.
+abbrev pub HasUnclosedFault : List ℕ → SourceFault → Type 0
+HasUnclosedFault source fault =
+    (literal : OpenLiteral) × HasUnclosed source literal × (fault ≡ unclosed_fault literal)

@@ -6,8 +6,8 @@ ghost use Rattle.grammar.specs.Reading as read;
 ghost use Rattle.grammar.specs.Reading.{Reads};
 ghost use Rattle.statements.specs.Opening as rule;
 
-use grammar::{Part, ReadFault, Tokens, begins_name, name, several};
-use source_tree::{FileStatement, Name, OpenMode, Opening, Statement};
+use grammar::{Names, Part, ReadFault, Tokens, begins_name, name, several};
+use source_tree::{FileStatement, OpenMode, Opening, Statement};
 use sqlite_items::Items;
 use std::alloc::Global;
 use tokens::{Kind, Reserved, Token};
@@ -128,26 +128,4 @@ fn all_opened(alloc: Global, tokens: &mut Tokens<'_>) -> Result<Items<Opening>, 
         }
     }
     Err(tokens.refuse())
-}
-
-/// Names in a list.
-struct Names;
-
-impl Part<Name> for Names {
-    ghost use Rattle.grammar.specs.Parts as grammar;
-    ghost use Rattle.grammar.specs.Reading as read;
-
-    ghost ready = { λ _. Unit {0} };
-
-    ghost reading = { λ _. read.name };
-
-    ghost beginning = { λ _. grammar.begins_name };
-
-    fn read(&self, alloc: Global, tokens: &mut Tokens<'_>) -> Result<Name, ReadFault> {
-        name(alloc, tokens)
-    }
-
-    fn begins(&self, tokens: &Tokens<'_>) -> bool {
-        begins_name(tokens)
-    }
 }

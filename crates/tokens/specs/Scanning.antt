@@ -1,5 +1,5 @@
 -- The tokens of a text, as a function on its characters.
-use Rattle.std.specs.Prelude.{ℕ, zero, suc, ◌+◌, ◌-◌, List, [], ◌∷◌, ◌++◌, Option, None, Some, Result, Ok, Err}
+use Rattle.std.specs.Prelude.{◌≡◌, ℕ, zero, suc, ◌+◌, ◌-◌, List, [], ◌∷◌, ◌++◌, Option, None, Some, Result, Ok, Err}
 use Rattle.source_lines.specs.declared.lines.Character.{Character}
 use Rattle.lexical.specs.declared.place.Place.{Place}
 use Rattle.tokens.specs.declared.fault.TokenFault.{TokenFault}
@@ -43,3 +43,7 @@ tokens_from zero before start (c ∷ more) =
 
 unfoldable pub tokens : List Character → Tokens
 tokens characters = tokens_from zero context.Apart 0 characters
+
+-- the function answers these tokens
+abbrev pub ScansTo : List Character → List Token → Type 0
+ScansTo characters found = tokens characters ≡ Ok found

@@ -9,6 +9,7 @@ ghost use Rattle.tokens.specs.declared.token.Token.{Token};
 ghost use Rattle.tokens.specs.Kinds.{IsFront};
 ghost use Rattle.tokens.specs.Refusals.{RefusesCharacters};
 ghost use Rattle.tokens.specs.Scanning as spec;
+ghost use Rattle.tokens.specs.Scanning.{ScansTo};
 ghost use Rattle.tokens.specs.Tokens.{TokensOf, NoLonger, InOrder, ArePlacedBy};
 ghost use Rattle.tokens.specs.Spelled.{AreSpelledBy, AreSeparated};
 
@@ -36,14 +37,14 @@ pub fn span_laws()
         → NoLonger before c (text ++ rest) (c ∷ text) }
     // Spans are in order, not empty and apart.
     ensures spans { (characters : List Character) (found : List Token)
-        → spec.tokens characters ≡ Ok found → InOrder 0 (length characters) found }
+        → ScansTo characters found → InOrder 0 (length characters) found }
     // A token's place is that of its first character.
     ensures places { (characters : List Character) (found : List Token)
-        → spec.tokens characters ≡ Ok found → ArePlacedBy characters found }
+        → ScansTo characters found → ArePlacedBy characters found }
     // Each token's kind is what the characters at its span spell.
     ensures texts { (characters : List Character) (found : List Token)
-        → spec.tokens characters ≡ Ok found → AreSpelledBy characters found }
+        → ScansTo characters found → AreSpelledBy characters found }
     // What lies before, between and after the spans is separators.
     ensures separators { (characters : List Character) (found : List Token)
-        → spec.tokens characters ≡ Ok found → AreSeparated 0 characters found }
+        → ScansTo characters found → AreSeparated 0 characters found }
 {}

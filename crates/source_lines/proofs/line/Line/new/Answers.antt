@@ -17,8 +17,7 @@ loop-byte-preserved c =
           let other : (get_or c.args.bytes.now c.loop-byte.byte-index 0 == 9) ≡ false = grind (arith, nat_tests) in
           rw (w.filled-is, w.columns-is)
           (filled_byte c.args.bytes.now c.loop-byte.byte-index c.loop-byte.filled c.loop-byte.columns known
-          c.loop-byte-test.true room
-          (get_or c.args.bytes.now c.loop-byte.byte-index 0) refl other)
+          c.loop-byte-test.true room refl other)
     ]
 
 pub returns-after-loop-byte : goal.returns-after-loop-byte
