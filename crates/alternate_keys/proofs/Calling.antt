@@ -1,13 +1,19 @@
 -- Calls on pages, one after the other.
-use Rattle.std.proofs.Common.{◌≤◌, ◌⊎◌, inr, ◌∙◌, [], ap, arith}
+use Rattle.std.proofs.Common.{◌≤◌, ◌⊎◌, inr, ◌∙◌, List, [], sym, ap, subst, arith}
 use Rattle.station.specs.Calls.{OnlyReads}
+use Rattle.station.specs.State.{State}
 use Rattle.station.specs.declared.device.Device.{Ghosts as Devices}
 use Rattle.station.proofs.Calls.{reads_then}
 use Rattle.pages.specs.Image.{Map, Volume}
 use Rattle.station.specs.Disk.{Disk}
-use Rattle.pages.specs.Pages.{sectors_of, Agrees, IsOpen, SameCommitted}
+use Rattle.pages.specs.Pages.{map_now, sectors_of, Agrees, IsOpen, SameCommitted}
 use Rattle.pages.specs.declared.page_map.PageMap.{PageMap}
+use Rattle.btree.specs.Calls.{pages_on}
+use Rattle.btree.specs.Entries.{Entry}
+use Rattle.btree.specs.Rooted.{RootedTree}
 use Rattle.volume_format.specs.Calls.{LooksAt}
+use Rattle.volume_format.specs.Forest.{TreeLevels}
+use Rattle.volume_format.specs.Grows.{IsTreeAmong}
 use Rattle.volume_format.proofs.Looks.{reads_blamed, looks_nowhere}
 use Rattle.row_trees.specs.Calls.{EditsPages}
 use Rattle.alternate_keys.specs.Created.{Prepares}
@@ -64,6 +70,21 @@ module _ {D : Type 0} (d : Devices D) where
       b r c
       → EditsPages d C p a r c
   edits_last A B C p q r a b c from first second = edits_then A B C p q r a b c (λ is. inr (from is)) first second
+
+  -- A tree among others is there over the device after a call, since the call leaves the device's state; and before it.
+  pub among_after : {A : Type 0} {p q : PageMap} {a b : D} → EditsPages d A p a q b → d.is_honest a → (r : PageMap)
+      → {left right : List TreeLevels} {tree : RootedTree} {entries : List Entry}
+      → IsTreeAmong (pages_on d r a) left right tree entries → IsTreeAmong (pages_on d r b) left right tree entries
+  among_after edits honest r {left} {right} {tree} {entries} there =
+      subst (λ (s : State). IsTreeAmong (map_now r s.disk.present).pages left right tree entries)
+      (sym (edits.only.state honest)) there
+
+  pub among_before : {A : Type 0} {p q : PageMap} {a b : D} → EditsPages d A p a q b → d.is_honest a → (r : PageMap)
+      → {left right : List TreeLevels} {tree : RootedTree} {entries : List Entry}
+      → IsTreeAmong (pages_on d r b) left right tree entries → IsTreeAmong (pages_on d r a) left right tree entries
+  among_before edits honest r {left} {right} {tree} {entries} there =
+      subst (λ (s : State). IsTreeAmong (map_now r s.disk.present).pages left right tree entries)
+      (edits.only.state honest) there
 
   -- and where the root of the catalog may be another
   pub prepares_of : (A : Type 0) (p q : PageMap) (a b : D) → EditsPages d A p a q b → Prepares d A p a q b

@@ -1,5 +1,5 @@
 -- The trees in which a row of a file that was found is sought.
-use Rattle.std.proofs.Common.{◌≡◌, ◌≤◌, ◌<◌, ◌^◌, ℕ, true, List, length, refl, sym, ap, subst, ◌∙◌, arith}
+use Rattle.std.proofs.Common.{◌≡◌, ◌≤◌, ◌<◌, ◌^◌, ℕ, Bool, true, List, length, refl, sym, ap, subst, ◌∙◌, arith}
 use Rattle.std.specs.Prelude.{Option, Some}
 use Rattle.std.proofs.lemmas.Bool.{eqb-true}
 use Rattle.station.specs.Disk.{Sector}
@@ -30,6 +30,7 @@ use Rattle.alternate_keys.specs.Notes.{IsListingOf}
 use Rattle.alternate_keys.specs.Seen.{HasRows, HasPairs, IsSought, row_tree_of}
 use Rattle.alternate_keys.proofs.RowForms.{same_rows}
 use Rattle.alternate_keys.proofs.Keeping.{rows_seen, pairs_seen, tree_is, tree_under}
+use Rattle.alternate_keys.proofs.Noted.{listing_as}
 
 -- only an indexed file has alternate keys
 indexed_by : (n : ℕ) (o : Organization) (keys : List AlternateKey) (i : ℕ) → are_keys n o keys ≡ true → i < length keys
@@ -98,6 +99,31 @@ pub record Knows (m : Map) (found : Option File) (held : File) (spec : Spec) (ke
   pub prime_form : prime.record_bytes ≡ chained_bytes spec
   pub under_layout : under.layout ≡ layout_under spec key
   pub under_root : under.root ≡ root_in key listing
+
+-- this is known of a file that was found by another word for its name, and of the trees of its spec
+pub knows_listed : (m : Map) (files : Files) (held : File) (spec : Spec) (key : KeyOfReference) (word name : List ℕ)
+    (found : Bool) (listing : List ℕ) (prime : ChainedTree) (under : RootedTree)
+    → (m.generation < 2 ^ 63) × (length m.pages ≤ 921600) → word ≡ name → found ≡ true
+    → IsListingOf m (file_at word files) found listing → file_at name files ≡ Some held → held.spec ≡ spec
+    → is_spec spec ≡ true → IsKey spec key → prime.tree.layout ≡ layout_under spec Prime
+    → prime.tree.root ≡ root_in Prime listing → prime.record_bytes ≡ chained_bytes spec
+    → under.layout ≡ layout_under spec key → under.root ≡ root_in key listing
+    → Knows m (file_at name files) held spec key listing prime under
+knows_listed m files held spec key word name found listing prime under bounds same is_found listed there spec_is good
+    key_is prime_layout prime_root prime_form under_layout under_root = record {
+      few = bounds.0;
+      small = bounds.1;
+      listed = listing_as m files word name found listing same is_found listed;
+      there = there;
+      spec_is = spec_is;
+      good = good;
+      key_is = key_is;
+      prime_layout = prime_layout;
+      prime_root = prime_root;
+      prime_form = prime_form;
+      under_layout = under_layout;
+      under_root = under_root;
+    }
 
 pub sought_in : (m : Map) (found : Option File) (held : File) (spec : Spec) (key : KeyOfReference) (bound : RowBound)
     (listing : List ℕ) (prime : ChainedTree) (under : RootedTree) (way : SearchStart) (at : List ℕ) →

@@ -81,5 +81,17 @@ key_by Sequential = refl
 key_by Relative = refl
 key_by (Indexed place) = refl
 
+-- the length of the prime key there, by what was read of a value of the catalog
+pub key_read : (l : Listing) → is_spec l.spec ≡ true → (value : List ℕ) (own prime : ℕ) → value ≡ listing_bytes l
+    → prime ≡ big_number 2 (drop 5 value)
+    → own ≡ (if slice_index value 0 == 0 then 8 else if slice_index value 0 == 1 then 4 else prime)
+    → own ≡ prime_key_length l.spec.organization
+key_read l spec value own prime says prime_is own_is =
+    own_is ∙ ap (λ (v : List ℕ). if slice_index v 0 == 0 then 8 else if slice_index v 0 == 1 then 4 else prime) says
+    ∙ ap (λ (b : ℕ). if b == 0 then 8 else if b == 1 then 4 else prime) (organization_at l spec)
+    ∙ ap (λ (n : ℕ). if organization_byte l.spec.organization == 0 then 8
+    else if organization_byte l.spec.organization == 1 then 4 else n)
+    (prime_is ∙ ap (λ (v : List ℕ). big_number 2 (drop 5 v)) says ∙ prime_at l spec) ∙ key_by l.spec.organization
+
 abbrev pub layout_as : ℕ → ℕ → RowLayout
 layout_as key value = record { key_length = key; value_length = value }

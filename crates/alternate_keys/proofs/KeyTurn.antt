@@ -1,20 +1,24 @@
 -- The turn of an alternate key, while the pairs of a row move.
-use Rattle.std.proofs.Common.{◌≡◌, ◌<◌, ◌+◌, ◌++◌, ℕ, List, [], ◌∷◌, length, drop, subst, ◌∙◌}
-use Rattle.std.specs.Prelude.{Option, slice_index_or}
+use Rattle.std.proofs.Common.{◌≡◌, ◌<◌, ◌+◌, ◌++◌, Bool, true, ℕ, List, [], ◌∷◌, length, drop, refl, sym, ap, subst}
+use Rattle.std.proofs.Common.{◌∙◌, arith}
+use Rattle.std.specs.Prelude.{Option, slice_index_or, if◌then◌else◌}
 use Rattle.station.specs.Disk.{Sector}
 use Rattle.btree.specs.Rooted.{RootedTree}
-use Rattle.btree.specs.Entries.{Entry}
+use Rattle.btree.specs.Entries.{Entry, with_new_entry, without_entry}
 use Rattle.records.specs.declared.key.KeyOfReference.TheVariants.{Alternate}
 use Rattle.records.specs.Spec.{Spec}
 use Rattle.records.specs.Files.{File}
-use Rattle.volume_format.specs.Forest.{TreeLevels}
+use Rattle.volume_format.specs.Forest.{TreeLevels, IsForest}
 use Rattle.volume_format.specs.Grows.{IsTreeAmong}
 use Rattle.volume_format.specs.Trees.{AreOf}
 use Rattle.volume_format.specs.Volume.{no_tree}
 use Rattle.alternate_keys.specs.declared.row_verb.RowVerb.{RowVerb}
-use Rattle.alternate_keys.specs.Moved.{entries_after, MayMove, PairsMove, PairsMayMove}
+use Rattle.alternate_keys.specs.declared.row_verb.RowVerb.TheVariants.{Replace}
+use Rattle.alternate_keys.specs.Moved.{pair_entry, old_key, changes_at, entries_after, MayMove, PairsMove, PairsMayMove}
 use Rattle.alternate_keys.specs.Placed.{HasIndexes, HaveBecome, listed_tree}
+use Rattle.alternate_keys.proofs.Keeping.{same_tree}
 use Rattle.alternate_keys.proofs.Pairing.{stands_next, become_next, entries_ascend}
+use Rattle.alternate_keys.proofs.Walks.{drop_none}
 
 -- the trees of the first `i` keys have become those of the changed file, and the next one is `tree`
 pub record IsTurn (held after : File) (before here : List (Option Sector)) (left right trees : List TreeLevels)
@@ -23,6 +27,43 @@ pub record IsTurn (held after : File) (before here : List (Option Sector)) (left
   pub become : HaveBecome after here left right trees i roots
   pub low : i < length held.spec.alternates
   pub tree_is : tree ≡ listed_tree held.spec i listing
+
+-- before the first turn no tree has become another
+pub none_become : {held : File} {before : List (Option Sector)} {left right trees : List TreeLevels} {listing : List ℕ}
+    → HasIndexes held before left right trees listing → (after : File) (roots : List ℕ) → roots ≡ []
+    → HaveBecome after before left right trees 0 roots
+none_become {before} {left} {right} {trees} has after roots none = record {
+  done = [];
+  count = refl;
+  forest = subst (λ (ts : List TreeLevels). IsForest before (left ++ (ts ++ right))) (sym (drop_none trees)) has.forest;
+  indexes = λ k less. absurd (omega (arith, less));
+  roots_are = sym none;
+}
+
+-- the turn of a key of the file, with the tree that the catalog lists
+pub turn_of : {held after : File} {before here : List (Option Sector)} {left right trees : List TreeLevels}
+    {listing : List ℕ} {i : ℕ} {roots : List ℕ} → HasIndexes held before left right trees listing
+    → HaveBecome after here left right trees i roots → (spec : Spec) → held.spec ≡ spec → i < length spec.alternates
+    → (tree : RootedTree) → tree.layout ≡ (listed_tree spec i listing).layout
+    → tree.root ≡ (listed_tree spec i listing).root
+    → IsTurn held after before here left right trees listing i roots tree
+turn_of {listing} {i} has become spec is low tree layout root = record {
+  has = has;
+  become = become;
+  low = subst (λ (s : Spec). i < length s.alternates) (sym is) low;
+  tree_is = same_tree tree (listed_tree spec i listing) layout root
+      ∙ ap (λ (s : Spec). listed_tree s i listing) (sym is);
+}
+
+-- the entries after a row got another record with another value of the key
+pub entries_replaced : (verb : RowVerb) (spec : Spec) (i : ℕ) (old bytes : List ℕ) (arrival : ℕ) (entries : List Entry)
+    → verb ≡ Replace → changes_at spec i old bytes ≡ true → entries_after verb spec i old bytes arrival entries
+    ≡ with_new_entry (without_entry entries (old_key spec i old)) (pair_entry spec i bytes arrival)
+entries_replaced verb spec i old bytes arrival entries is change =
+    let later : List Entry =
+    with_new_entry (without_entry entries (old_key spec i old)) (pair_entry spec i bytes arrival) in
+    ap (λ (v : RowVerb). entries_after v spec i old bytes arrival entries) is
+    ∙ ap (λ (b : Bool). if b then later else entries) change
 
 module _ {held after : File} {before here : List (Option Sector)} {left right trees : List TreeLevels}
     {listing : List ℕ} {i : ℕ} {roots : List ℕ} {tree : RootedTree}

@@ -1,7 +1,7 @@
 -- A file that is made, in place of another or under a new name.
 use Rattle.std.proofs.Common.{◌≡◌, ◌⊎◌, inl, inr, ◌<◌, ◌≤◌, ◌+◌, ◌^◌, true, false, ℕ, List, [], length, refl, sym, ap}
 use Rattle.std.proofs.Common.{subst, ◌∙◌, arith}
-use Rattle.std.specs.Prelude.{map, take, replicate, Option, Some, None}
+use Rattle.std.specs.Prelude.{map, take, replicate, Option, Some, None, IsSome}
 use Rattle.std.specs.List.{flat_map}
 use Rattle.station.specs.Disk.{Sector}
 use Rattle.station.specs.State.{State}
@@ -32,10 +32,12 @@ use Rattle.alternate_keys.specs.Listed.{IsListed, catalog_at}
 use Rattle.alternate_keys.specs.Placed.{HasFileTrees, HasTrees}
 use Rattle.alternate_keys.specs.Stands.{LacksSpace}
 use Rattle.alternate_keys.proofs.Added.{entry_as, added_count, holds_added}
+use Rattle.alternate_keys.proofs.FoundTrees.{listed_as}
 use Rattle.alternate_keys.proofs.Keeping.{same_tree}
 use Rattle.alternate_keys.proofs.MadeFile.{kept_count, next_with, lacks_first}
 use Rattle.alternate_keys.proofs.Placing.{left_of, right_of}
-use Rattle.alternate_keys.proofs.Preparing.{own, named_here, trees_at, around, catalog_stands, holds_after, will_hold}
+use Rattle.alternate_keys.proofs.Preparing.{own, named_here, trees_at, some_entry, around, catalog_stands}
+use Rattle.alternate_keys.proofs.Preparing.{holds_after, will_hold}
 use Rattle.alternate_keys.proofs.Still.{room_before}
 
 module _ {D : Type 0} (d : Devices D) where
@@ -59,7 +61,7 @@ module _ {D : Type 0} (d : Devices D) where
       (flat_map trees_of holds.kept) t (map (catalog_entry m.mark) holds.kept)) (sym own_tree) first)
 
   -- it has another root and other entries, by other words for its device, its root and a name
-  pub catalog_after : (mark : ℕ) (r s : PageMap) (a b : D) (trees : List TreeLevels) (new : RootedTree)
+  catalog_after : (mark : ℕ) (r s : PageMap) (a b : D) (trees : List TreeLevels) (new : RootedTree)
       (later : List ℕ → List Entry) (key name : List ℕ) → d.state b ≡ d.state a → new.layout ≡ catalog_layout mark
       → new.root ≡ catalog_of s → key ≡ name
       → ((image : List Sector) → (map_now s image).pages ≡ (map_now r image).pages)
@@ -74,7 +76,20 @@ module _ {D : Type 0} (d : Devices D) where
       subst (λ (p : List (Option Sector)). IsTreeAmong p [] trees (catalog_at mark (catalog_of s)) (later name))
       (sym (pages (d.state a).disk.present)) rooted
 
-  pub catalog_put : (mark : ℕ) (r : PageMap) (a b : D) (trees : List TreeLevels) (before catalog root : ℕ)
+  -- it has another root and a new entry, by another word for its value too
+  pub catalog_with : (mark : ℕ) (r s : PageMap) (a b : D) (trees : List TreeLevels) (new : RootedTree)
+      (entries : List Entry) (key name value spelled : List ℕ) → d.state b ≡ d.state a
+      → new.layout ≡ catalog_layout mark → new.root ≡ catalog_of s → key ≡ name → value ≡ spelled
+      → ((image : List Sector) → (map_now s image).pages ≡ (map_now r image).pages)
+      → IsTreeAmong (pages_on d r b) [] trees new (with_new_entry entries (entry_as key value)) →
+      IsTreeAmong (pages_on d s a) [] trees (catalog_at mark (catalog_of s))
+      (with_new_entry entries (entry_as name spelled))
+  catalog_with mark r s a b trees new entries key name value spelled still layout root same value_is pages put =
+      catalog_after mark r s a b trees new (λ (k : List ℕ). with_new_entry entries (entry_as k spelled)) key name still
+      layout root same pages (subst (λ (v : List ℕ). IsTreeAmong (pages_on d r b) [] trees new
+      (with_new_entry entries (entry_as key v))) value_is put)
+
+  catalog_put : (mark : ℕ) (r : PageMap) (a b : D) (trees : List TreeLevels) (before catalog root : ℕ)
       (later : ℕ → List ℕ → List ℕ → List Entry) (key name value listing : List ℕ) → d.state b ≡ d.state a
       → before ≡ mark → catalog ≡ root → key ≡ name → value ≡ listing
       → IsTreeAmong (pages_on d r b) [] trees (catalog_at before catalog) (later before key value) →
@@ -109,7 +124,7 @@ pub record IsThere (m : Map) (files : Files) (holds : MapHolds m files) (name : 
       (left_of m files holds name held (own m files holds name held named there))
       (right_of m files holds name held (own m files holds name held named there)) value
 
-pub is_there : (m : Map) (files : Files) (holds : MapHolds m files) (name : List ℕ) (named : is_name name ≡ true)
+is_there : (m : Map) (files : Files) (holds : MapHolds m files) (name : List ℕ) (named : is_name name ≡ true)
     (pages : List (Option Sector)) (value : List ℕ) (answer : Option Entry) (entry : Entry)
     → answer ≡ entry_with (map (catalog_entry m.mark) holds.kept) (padded_name name)
     → IsListed m (file_at name files) answer
@@ -130,6 +145,19 @@ is_there m files holds name named pages value answer entry told listed some is f
           some is);
     }
 
+-- It is found by another word for its name.
+pub is_there_as : (m : Map) (files : Files) (holds : MapHolds m files) (word name : List ℕ)
+    (named : is_name name ≡ true) (pages : List (Option Sector)) (value : List ℕ) (answer : Option Entry)
+    (entry : Entry) → word ≡ name
+    → answer ≡ entry_with (map (catalog_entry m.mark) holds.kept) (padded_name word)
+    → IsListed m (file_at word files) answer
+    → answer ≡ Some entry → value ≡ take 83 entry.value → m.generation < 2 ^ 63 → length m.pages ≤ 921600
+    → pages ≡ m.pages → IsThere m files holds name named pages value
+is_there_as m files holds word name named pages value answer entry same told listed some is few small pages_are =
+    is_there m files holds name named pages value answer entry
+    (told ∙ ap (λ (n : List ℕ). entry_with (map (catalog_entry m.mark) holds.kept) (padded_name n)) same)
+    (listed_as m files word name answer same listed) some is few small pages_are
+
 module _ {m : Map} {files : Files} {holds : MapHolds m files} {name : List ℕ} {named : is_name name ≡ true}
     {pages : List (Option Sector)} {value : List ℕ} (here : IsThere m files holds name named pages value) where
   -- the trees before it and after it
@@ -138,6 +166,13 @@ module _ {m : Map} {files : Files} {holds : MapHolds m files} {name : List ℕ} 
 
   abbrev pub right_there : List TreeLevels
   right_there = right_of m files holds name here.held (own m files holds name here.held named here.there)
+
+  -- its entry is in the catalog, by another word for its name
+  pub entry_is_there : (word : List ℕ) → word ≡ name
+      → IsSome (entry_with (map (catalog_entry m.mark) holds.kept) (padded_name word))
+  entry_is_there word same =
+      subst (λ (n : List ℕ). IsSome (entry_with (map (catalog_entry m.mark) holds.kept) (padded_name n))) (sym same)
+      (some_entry m files holds name here.held named here.there)
 
   -- a file without rows is in its place
   abbrev pub IsEmptied : Spec → List (Option Sector) → List ℕ → Type 0
@@ -162,7 +197,7 @@ module _ {m : Map} {files : Files} {holds : MapHolds m files} {name : List ℕ} 
       here.there (emptied spec) between listing placed catalog same)
 
   -- and the catalog says so
-  pub made_there : (spec : Spec) (between : List (Option Sector)) (listing : List ℕ)
+  made_there : (spec : Spec) (between : List (Option Sector)) (listing : List ℕ)
       → (placed : IsEmptied spec between listing) → is_spec spec ≡ true → (m.mark ≡ 0 → is_long spec ≡ false)
       → (p q : PageMap) (image : List Sector)
       → map_now p image ≡ m → SameCommitted p q → catalog_of q ≡ catalog_of p →
@@ -184,8 +219,29 @@ module _ {m : Map} {files : Files} {holds : MapHolds m files} {name : List ℕ} 
       (holds_after m files holds name here.held named here.there (emptied spec) between listing placed
       (map_now q image).pages m.catalog (catalog_value m.mark listing 0) refl put refl are short)
 
+  -- so it is after the entry got its listing, by other words for the device, the catalog, the name and the listing
+  pub made_replaced : {D : Type 0} (d : Devices D) (spec : Spec) (between : List (Option Sector)) (listing : List ℕ)
+      → (placed : IsEmptied spec between listing) → is_spec spec ≡ true → (m.mark ≡ 0 → is_long spec ≡ false)
+      → (p q : PageMap) (a b : D) → map_now p (d.state a).disk.present ≡ m → SameCommitted p q
+      → d.state b ≡ d.state a → (before catalog : ℕ) → before ≡ m.mark → catalog ≡ m.catalog → catalog_of q ≡ catalog
+      → (key value : List ℕ) → key ≡ name → value ≡ listing
+      → (IsTreeAmong between [] (all_around spec between listing placed) (catalog_at before catalog)
+      (map (catalog_entry m.mark) holds.kept) → IsTreeAmong (pages_on d q b) []
+      (all_around spec between listing placed) (catalog_at before catalog) (with_value
+      (map (catalog_entry m.mark) holds.kept) (entry_as (padded_name key) (catalog_value before value 0))))
+      → MapHolds (next_generation (map_now q (d.state a).disk.present)) (with_file name (empty_file spec) files)
+  made_replaced d spec between listing placed sound fits p q a b is same still before catalog marked rooted kept_root
+      key value key_is value_is replaced =
+      made_there spec between listing placed sound fits p q (d.state a).disk.present is same
+      (kept_root ∙ rooted ∙ sym (ap (λ (x : Map). x.catalog) is))
+      (catalog_put d m.mark q a b (all_around spec between listing placed) before catalog m.catalog
+      (λ (n : ℕ) (k v : List ℕ).
+      with_value (map (catalog_entry m.mark) holds.kept) (entry_as (padded_name k) (catalog_value n v 0)))
+      key name value listing still marked rooted key_is value_is
+      (replaced (stands_emptied spec between listing placed before catalog marked rooted)))
+
 -- Under a new name.
-pub made_new : (p q : PageMap) (image : List Sector) (files : Files) (holds : MapHolds (map_now p image) files)
+made_new : (p q : PageMap) (image : List Sector) (files : Files) (holds : MapHolds (map_now p image) files)
     (name : List ℕ) (spec : Spec) → is_name name ≡ true → is_spec spec ≡ true
     → ((map_now p image).mark ≡ 0 → is_long spec ≡ false) → file_at name files ≡ None
     → SameCommitted p q → length files < 255 → (listing : List ℕ) → listing ≡ listing_bytes
@@ -202,6 +258,23 @@ made_new p q image files holds name spec named sound fits none same few listing 
     subst (λ (x : Map). MapHolds x (with_file name (empty_file spec) files)) (next_with p q image same)
     (holds_added (map_now p image) files holds name spec named none (map_now q image).pages (catalog_of q) listing put
     says are (λ first. created_short name spec files (holds.short first) (fits first)))
+
+pub made_added : {D : Type 0} (d : Devices D) (p q : PageMap) (a b : D) (files : Files)
+    (holds : MapHolds (map_now p (d.state a).disk.present) files) (name : List ℕ) (spec : Spec) → is_name name ≡ true
+    → is_spec spec ≡ true → (mark_of p ≡ 0 → is_long spec ≡ false) → file_at name files ≡ None → SameCommitted p q
+    → length files < 255 → (listing : List ℕ) → listing ≡ listing_bytes
+    (record { spec = spec; prime = 0; alternates = replicate (length spec.alternates) 0; next_arrival = 1 })
+    → d.state b ≡ d.state a → (before : ℕ) → before ≡ mark_of p → (key value : List ℕ) → key ≡ name → value ≡ listing
+    → IsTreeAmong (pages_on d q b) [] (flat_map trees_of holds.kept) (catalog_at before (catalog_of q))
+    (with_new_entry (map (catalog_entry before) holds.kept) (entry_as (padded_name key) (catalog_value before value 0)))
+    → MapHolds (next_generation (map_now q (d.state a).disk.present)) (with_file name (empty_file spec) files)
+made_added d p q a b files holds name spec named sound fits none same few listing says still before marked key value
+    key_is value_is put =
+    made_new p q (d.state a).disk.present files holds name spec named sound fits none same few listing says
+    (catalog_put d (mark_of p) q a b (flat_map trees_of holds.kept) before (catalog_of q) (catalog_of q)
+    (λ (n : ℕ) (k v : List ℕ).
+    with_new_entry (map (catalog_entry n) holds.kept) (entry_as (padded_name k) (catalog_value n v 0)))
+    key name value listing still marked refl key_is value_is put)
 
 -- too little room for it was there before a call that only reads
 pub lacks_added : (p q : PageMap) (name : List ℕ) (spec : Spec) (files : Files) → file_at name files ≡ None

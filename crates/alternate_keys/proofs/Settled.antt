@@ -1,6 +1,6 @@
 -- What a commit of pages says of files.
-use Rattle.std.proofs.Common.{◌≡◌, ◌⊎◌, ◌<◌, ◌≤◌, ◌^◌, inl, inr, ℕ, Bool, true, false, List, ◌∷◌, length, refl, sym, ap}
-use Rattle.std.proofs.Common.{subst, ◌∙◌, arith}
+use Rattle.std.proofs.Common.{◌≡◌, ◌⊎◌, ⊎_elim, ◌<◌, ◌≤◌, ◌^◌, inl, inr, ℕ, Bool, true, false, List, ◌∷◌, length, refl}
+use Rattle.std.proofs.Common.{sym, ap, subst, ◌∙◌, arith}
 use Rattle.std.proofs.lemmas.Bool.{eq-eqb, eqb-true}
 use Rattle.std.proofs.Math.Dec.{eqb}
 use Rattle.std.specs.Prelude.{[]}
@@ -8,17 +8,20 @@ use Rattle.station.specs.Disk.{Disk, Sector}
 use Rattle.station.specs.State.{State, Event}
 use Rattle.station.specs.History.{Through}
 use Rattle.station.specs.Blocks.{CrashLeaves}
+use Rattle.station.specs.declared.device.Device.{Ghosts as Devices}
 use Rattle.station.proofs.Spans.{weakens}
 use Rattle.pages.specs.Image.{Map, map_of}
 use Rattle.pages.specs.Changes.{BeforeOrAfter}
+use Rattle.pages.specs.Commits.{IfUnchanged, IfAtRest, IsAsCommitted, LeavesOldOrNew, DoesNothing}
 use Rattle.pages.specs.Pages.{map_now, catalog_of, mark_of, committed_of, changed_pages_of, next_generation, HasChanges}
-use Rattle.pages.specs.Pages.{Agrees}
+use Rattle.pages.specs.Pages.{is_spent, Agrees, IsOpen, OpenBounds}
 use Rattle.pages.specs.declared.page_map.PageMap.{PageMap}
 use Rattle.records.specs.Files.{Files}
 use Rattle.records.specs.Stores.{Either}
 use Rattle.volume_format.specs.Volume.{MapHolds, Holds}
 use Rattle.volume_format.proofs.Empty.{next_holds}
 use Rattle.volume_format.proofs.OneFiles.{one_in_map_most}
+use Rattle.alternate_keys.specs.Settles.{IsChanged}
 use Rattle.alternate_keys.specs.Stands.{Represents}
 
 -- an image of either map
@@ -97,3 +100,27 @@ rests_then p q old new before after agrees committed rested same still few small
       rested = rested;
       holds = subst (λ (x : Map). MapHolds x after) (sym map_is) (subst (λ (l : Files). MapHolds m l) files here);
     }
+
+module _ {D : Type 0} (d : Devices D) where
+  -- after a commit the store holds the files after it, whether something was changed or not
+  pub commit_stands : (p q : PageMap) (a b : D) (before after : Files) → IsChanged d p a before after → OpenBounds
+      → IsOpen p → is_spent p ≡ false → Agrees q (d.state b).disk → IsAsCommitted q → changed_pages_of q ≡ []
+      → (HasChanges p → map_now q (d.state b).disk.present ≡ next_generation (map_now p (d.state a).disk.present))
+      → IfAtRest p (q ≡ p) → IfUnchanged p (DoesNothing d a b) → Represents q (d.state b).disk after
+  commit_stands p q a b before after changed bounds is_open unspent agrees committed rested advances rests nothing =
+      let bounded = bounds p (d.state a).disk.present is_open unspent in
+      ⊎_elim (λ changes. stands_then q (d.state b).disk (next_generation (map_now p (d.state a).disk.present)) after
+      agrees committed rested (advances changes) changed.will)
+      (λ none. rests_then p q (d.state a).disk (d.state b).disk before after agrees committed rested
+      (rests (λ changes. changes none) unspent)
+      (ap (λ (s : State). s.disk) (nothing none.0 none.1 none.2 changed.honest).0) bounded.0 bounded.1 changed.was
+      changed.will) (changed_or_not p)
+
+  -- and each moment of it leaves the files before it, or those after
+  pub commit_moments : (p : PageMap) (a b : D) (before after : Files) → IsChanged d p a before after
+      → LeavesOldOrNew d p a b
+      → Through (d.history a) (d.history b) (d.state b) (CrashLeaves (d.state a).events (Either Holds before after))
+  commit_moments p a b before after changed leaves =
+      moments_hold (d.history a) (d.history b) (d.state b) (d.state a).events
+      (map_of (d.state a).disk.present (committed_of p)) (next_generation (map_now p (d.state a).disk.present)) before
+      after changed.was changed.will (leaves changed.honest changed.agrees)

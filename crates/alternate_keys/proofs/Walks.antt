@@ -1,8 +1,21 @@
 -- Going through the alternate keys of a file.
 use Rattle.std.proofs.Common.{◌≡◌, ◌<◌, ◌+◌, ◌&&◌, ◌||◌, Bool, true, false, not, ℕ, zero, suc, List, [], ◌∷◌, ◌++◌}
-use Rattle.std.proofs.Common.{length, take, refl, sym, ap, ◌∙◌, arith}
+use Rattle.std.proofs.Common.{length, take, drop, refl, sym, ap, ◌∙◌, arith}
 use Rattle.std.specs.Prelude.{filter, slice_index_or, if◌then◌else◌}
 use Rattle.std.specs.List.{list_any}
+use Rattle.std.proofs.lemmas.List.{length-append}
+
+-- no key was gone through, and one more
+pub drop_none : {X : Type 0} (xs : List X) → drop 0 xs ≡ xs
+drop_none [] = refl
+drop_none (x ∷ xs) = refl
+
+pub length_more : (xs : List ℕ) (x : ℕ) {ys : List ℕ} {n : ℕ} → ys ≡ xs ++ x ∷ [] → length xs ≡ n
+    → length ys ≡ n + 1
+length_more xs x same count =
+    let all = ap (λ (l : List ℕ). length l) same in
+    let many = length-append xs (x ∷ []) in
+    omega (arith, all, many, count)
 
 any_append : {X : Type 0} (f : X → Bool) (xs ys : List X) → list_any f (xs ++ ys) ≡ (list_any f xs || list_any f ys)
 any_append f [] ys = refl

@@ -11,6 +11,7 @@ pub mod NewRow
 pub mod Placed
 pub mod Held
 pub mod Settles
+pub mod RowChanges
 pub mod Moved
 pub mod Turned
 pub mod Created

@@ -1,9 +1,10 @@
 -- A volume gets the second mark.
-use Rattle.std.specs.Prelude.{◌≡◌, ◌<◌, ◌≤◌, ◌⊎◌, ◌+◌, ◌*◌, ◌^◌, ℕ, List, map, length, ⊤}
+use Rattle.std.specs.Prelude.{◌≡◌, ◌<◌, ◌≤◌, ◌⊎◌, ◌+◌, ◌*◌, ◌^◌, ℕ, List, map, length, Result, IfErr, OnOk, ⊤}
 use Rattle.std.specs.List.{All}
 use Rattle.station.specs.Disk.{Sector, IsCrashImage}
 use Rattle.station.specs.State.{State}
 use Rattle.station.specs.Blocks.{CrashLeaves}
+use Rattle.station.specs.History.{EachImage}
 use Rattle.station.specs.declared.device.Device.{Ghosts as Devices}
 use Rattle.pages.specs.Layout.{IsForeign, map_count}
 use Rattle.pages.specs.Image.{Volume, Map, Reads}
@@ -17,7 +18,7 @@ use Rattle.records.specs.declared.fault.StoreFault.TheVariants.{Device, Full, Da
 use Rattle.records.specs.Files.{Files}
 use Rattle.volume_format.specs.Catalog.{catalog_layout}
 use Rattle.volume_format.specs.Volume.{FileTrees, Holds, catalog_entry}
-use Rattle.alternate_keys.specs.Opened.{HoldsNone}
+use Rattle.alternate_keys.specs.Opened.{HoldsNone, FailsWith, IfForeign, OnHeldFiles, PassesThrough, SyncsAtMost}
 
 -- the newest root in the image has this mark of a volume of pages
 abbrev pub HasMark : ℕ → List Sector → Type 0
@@ -56,6 +57,25 @@ IsMigrateRefusal image Memory = ⊤
 IsMigrateRefusal image Spent = ⊥
 IsMigrateRefusal image Layout = IsForeign image
 IsMigrateRefusal image Old = ⊥
+
+-- What giving a volume the second mark does to the device.
+module _ {D : Type 0} (d : Devices D) where
+  -- Of the files that its image holds: at each moment a crash leaves what was possible before, or these files.
+  abbrev pub LeavesSameFiles : D → D → Type 0
+  LeavesSameFiles old new = OnHeldFiles d old (λ files. PassesThrough d old new (IsMigrating (d.state old) files))
+
+  -- After `Ok` each crash leaves them on a volume with the second mark.
+  abbrev pub MigratesFiles : {T : Type 0} → D → D → Result T StoreFault → Type 0
+  MigratesFiles old new result =
+      OnHeldFiles d old (λ files. OnOk result (EachImage (IsMigrated files) (d.state new)))
+
+  -- The other store's volume is refused with `Layout`, and is synced at most.
+  abbrev pub OnlyOpensForeign : {T : Type 0} → D → D → Result T StoreFault → Type 0
+  OnlyOpensForeign old new result = IfForeign d old (FailsWith Layout result × SyncsAtMost d old new)
+
+  -- Each refusal says what it means of the present image.
+  abbrev pub RefusesToMigrate : {T : Type 0} → D → Result T StoreFault → Type 0
+  RefusesToMigrate old result = d.is_honest old → IfErr result (IsMigrateRefusal (d.state old).disk.present)
 
 -- the leaves of a catalog on a volume with the second mark
 pub record AreCatalogLeaves (leaves : List Node) : Type 0 where

@@ -24,7 +24,7 @@ use Rattle.volume_format.specs.Trees.{entry_under, layout_under, AreOf}
 use Rattle.volume_format.specs.Forest.{TreeLevels}
 use Rattle.alternate_keys.specs.declared.row_verb.RowVerb.{RowVerb}
 use Rattle.alternate_keys.specs.declared.row_verb.RowVerb.TheVariants.{Insert, Replace, Remove}
-use Rattle.alternate_keys.specs.Placed.{HasIndexes}
+use Rattle.alternate_keys.specs.Placed.{HasIndexes, OnIndexes}
 
 -- the file after it: the bytes are a record, and to remove a row its prime key
 abbrev pub changed_by : RowVerb → Organization → ℕ → List ℕ → File → FileChange
@@ -130,3 +130,8 @@ module _ {D : Type 0} (d : Devices D) where
   OnMoving verb spec pages now listing root old bytes arrival next claim =
       d.is_honest now → Agrees pages (d.state now).disk → (held after : NamedFile) (generation : ℕ) (left right : List TreeLevels) →
       HasChangedRows verb spec held after generation (pages_on d pages now) left right listing root old bytes arrival next → claim held after generation left right
+
+  -- and of each file that has the trees of its alternate keys there, with each file whose pairs its own may become
+  abbrev pub OnPairMoves : RowVerb → Spec → PageMap → D → List ℕ → List ℕ → List ℕ → ℕ → (File → File → List TreeLevels → List TreeLevels → List TreeLevels → Type 0) → Type 0
+  OnPairMoves verb spec pages now listing old bytes arrival claim = OnIndexes d spec pages now listing
+      (λ held left right trees. (after : File) → after.spec ≡ held.spec → PairsMove verb held after old bytes arrival → claim held after left right trees)

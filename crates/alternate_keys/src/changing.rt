@@ -17,7 +17,7 @@ ghost use Rattle.alternate_keys.specs.Turned.{OnFile, HasChangedFiles};
 
 use crate::commit::{finish, is_done};
 use crate::listing::{find_listing, replace_listing};
-use crate::row_changes::change_trees;
+use crate::row_changes::{RowChange, change_trees};
 use crate::row_verb::RowVerb;
 use pages::{PageMap, few_needed, map_bounds};
 use records::{FileSpec, Outcome, StoreFault};
@@ -116,16 +116,12 @@ fn prepare<D: Device>(
         None => return Ok(Outcome::Missing),
     };
     let rows = rows_after(verb, stored_rows(pages.mark(), entry.value()));
-    let turn = change_trees(
-        alloc,
-        pages,
-        device,
-        file,
-        listing_part(&entry),
+    let change = RowChange {
         verb,
         number,
         bytes,
-    )?;
+    };
+    let turn = change_trees(alloc, pages, device, file, listing_part(&entry), change)?;
     let outcome = turn.outcome;
     if !is_done(outcome) {
         return Ok(outcome);

@@ -40,7 +40,7 @@ pub(crate) fn clear_trees<D: Device>(
     clear_alternates(alloc, pages, device, value)
 }
 
-/// Gives up all pages of a tree, beside which others stay.
+/// Gives up all pages of a tree. The other trees stay.
 pub(crate) fn clear_among<D: Device>(
     tree: &mut Tree,
     pages: &mut PageMap,

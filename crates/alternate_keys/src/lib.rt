@@ -25,6 +25,7 @@ mod repeats;
 mod row_bytes;
 mod row_calls;
 mod row_changes;
+mod row_move;
 mod row_moves;
 mod row_turn;
 mod row_verb;

@@ -23,7 +23,15 @@ use row_trees::RowTree;
 use station::Device;
 use std::alloc::Global;
 
-/// Puts a new row into the tree of rows, beside which others stay. `false` means that its prime key or number is there, and then nothing
+/// A new row: its number, its record, and its arrival under each alternate key.
+#[derive(Clone, Copy)]
+pub(crate) struct NewRow<'a> {
+    pub(crate) number: u64,
+    pub(crate) arrival: u64,
+    pub(crate) bytes: &'a [u8],
+}
+
+/// Puts a new row into the tree of rows. The other trees stay. `false` is returned if its prime key or number is there, and then nothing
 /// was changed.
 pub(crate) fn insert_row<D: Device>(
     alloc: Global,
@@ -31,29 +39,26 @@ pub(crate) fn insert_row<D: Device>(
     pages: &mut PageMap,
     device: &mut D,
     file: &FileSpec,
-    number: u64,
-    arrival: u64,
-    bytes: &[u8],
+    row: NewRow<'_>,
 ) -> Result<bool, StoreFault>
     requires open { IsOpen pages.old }
     requires sectors { sectors_of pages.old ≤ D.sectors device.old }
     requires layout { prime.old.tree.layout
         ≡ layout_under (spec_of file.now) KeyOfReference.Prime }
     requires form { prime.old.record_bytes ≡ chained_bytes (spec_of file.now) }
-    requires bytes { length bytes.now ≡ file.now.record_length }
+    requires bytes { length row.bytes.now ≡ file.now.record_length }
     ensures edits { EditsPages D.Device (result ≡ Err StoreFault.Device) pages.old device.old
         pages.new device.new }
-    ensures inserted { OnRowTreeAmong D.Device prime.old pages.old device.old
-        (λ left right entries. result ≡ Ok true →
-        (entry_with entries (entry_under (spec_of file.now) KeyOfReference.Prime
-        (row_with (spec_of file.now) number arrival bytes.now)).key ≡ None)
-        × IsRowTreeAmong (pages_on D.Device pages.new device.old) left
+    ensures inserted { OnRowTreeAmong D.Device prime.old pages.old device.old (λ left right entries.
+        result ≡ Ok true → (entry_with entries (entry_under (spec_of file.now) KeyOfReference.Prime
+        (row_with (spec_of file.now) row.entry.number row.entry.arrival row.entry.bytes.now)).key
+        ≡ None) × IsRowTreeAmong (pages_on D.Device pages.new device.old) left
         right prime.new (with_new_entry entries (entry_under (spec_of file.now) KeyOfReference.Prime
-        (row_with (spec_of file.now) number arrival bytes.now)))) }
-    ensures there { OnRowTreeAmong D.Device prime.old pages.old device.old
-        (λ left right entries. result ≡ Ok false →
-        IsSome (entry_with entries (entry_under (spec_of file.now) KeyOfReference.Prime
-        (row_with (spec_of file.now) number arrival bytes.now)).key)) }
+        (row_with (spec_of file.now) row.entry.number row.entry.arrival row.entry.bytes.now)))) }
+    ensures there { OnRowTreeAmong
+        D.Device prime.old pages.old device.old (λ left right entries. result ≡ Ok false
+        → IsSome (entry_with entries (entry_under (spec_of file.now) KeyOfReference.Prime (row_with
+        (spec_of file.now) row.entry.number row.entry.arrival row.entry.bytes.now)).key)) }
     ensures same { result ≡ Ok false → IsUnchanged pages.old pages.new }
     ensures damaged { OnRowTreeAmong D.Device prime.old pages.old device.old
         (λ left right entries. result ≡ Err StoreFault.Damaged → ⊥) }
@@ -68,7 +73,7 @@ pub(crate) fn insert_row<D: Device>(
     ensures spent { result ≡ Err StoreFault.Spent → is_spent pages.old ≡ true }
     ensures cause { IfErr result IsWriteFault }
 {
-    let key = row_key(alloc, file.organization, number, bytes)?;
-    let value = new_value(alloc, file, arrival, bytes)?;
+    let key = row_key(alloc, file.organization, row.number, row.bytes)?;
+    let value = new_value(alloc, file, row.arrival, row.bytes)?;
     enter_row(prime, pages, device, &key, &value)
 }

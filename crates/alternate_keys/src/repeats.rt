@@ -22,7 +22,7 @@ use std::alloc::Global;
 use volume_format::to_fault;
 
 /// Whether a row has this value of an alternate key, by the key's tree. It isn't built into its callers, so that its entry takes no
-/// room beside what they have.
+/// room in addition to what they have.
 #[inline(never)]
 pub(crate) fn is_value_there<D: Device>(
     alloc: Global,

@@ -1,29 +1,27 @@
 //! A row comes to the trees of its file, gets another record there, or leaves them. The catalog doesn't say so yet.
-ghost use Rattle.std.specs.Prelude.{◌≡◌, ◌≤◌, ◌<◌, ◌+◌, ◌*◌, true, false, Err, length, OnOk, IfOk, IfErr};
-ghost use Rattle.pages.specs.Pages.{is_spent, committed_of, sectors_of, changed_pages_of, IsOpen, IsUnchanged};
-ghost use Rattle.pages.specs.Use.{free_count};
+ghost use Rattle.std.specs.Prelude.{◌≡◌, ◌≤◌, ◌+◌, true, false, Err, length, IfOk, IfErr};
+ghost use Rattle.pages.specs.Pages.{is_spent, sectors_of, IsOpen, IsUnchanged};
 ghost use Rattle.btree.specs.Calls.{pages_on};
-ghost use Rattle.btree.specs.Results.{FewChanged};
-ghost use Rattle.chains.specs.Chain.{pages_for};
 ghost use Rattle.records.specs.Changes.{insertion, replacement, removal};
 ghost use Rattle.records.specs.Stores.{spec_of, key_length, pair_of, IsNewNumber, is_change};
-ghost use Rattle.volume_format.specs.Chained.{chained_bytes};
 ghost use Rattle.row_trees.specs.Calls.{EditsPages};
 ghost use Rattle.alternate_keys.specs.Faults.{IsWriteFault};
 ghost use Rattle.alternate_keys.specs.Moved.{named_after, changed_by, IsAsked};
 ghost use Rattle.alternate_keys.specs.Placed.{OnTrees, HasFileTrees};
+ghost use Rattle.alternate_keys.specs.RowChanges.{ChangesFewTreePages, LacksTreePages};
 
 use crate::commit::is_done;
 use crate::file_tree::row_tree;
 use crate::finding_row::find_row;
 use crate::leave::{remove_row, replace_row};
-use crate::new_row::insert_row;
+use crate::new_row::{NewRow, insert_row};
 use crate::old_row::{arrival_next, value_after};
+use crate::row_move::RowMove;
 use crate::row_moves::move_row;
 use crate::row_turn::RowTurn;
 use crate::row_verb::RowVerb;
 use crate::taken_row::look_at_new_row;
-use crate::values::find_duplicate_key;
+use crate::values::{NewRecord, find_duplicate_key};
 use file_bytes::{number_of_new, part_of};
 use pages::PageMap;
 use records::{FileSpec, KeyOfReference, Outcome, StoreFault};
@@ -31,44 +29,45 @@ use station::Device;
 use std::alloc::Global;
 use volume_format::next_arrival;
 
-/// A row of a file changes. The bytes are a record, or the prime key of a row that leaves.
+/// A change of a row that is asked for: by the row's number where the file has no prime key, and by a record, or the prime key of a row
+/// that leaves.
+#[derive(Clone, Copy)]
+pub(crate) struct RowChange<'a> {
+    pub(crate) verb: RowVerb,
+    pub(crate) number: u64,
+    pub(crate) bytes: &'a [u8],
+}
+
+/// A row of a file changes.
 pub(crate) fn change_trees<D: Device>(
     alloc: Global,
     pages: &mut PageMap,
     device: &mut D,
     file: &FileSpec,
     listing: &[u8],
-    verb: RowVerb,
-    number: u64,
-    bytes: &[u8],
+    change: RowChange<'_>,
 ) -> Result<RowTurn, StoreFault>
     requires open { IsOpen pages.old }
     requires sectors { sectors_of pages.old ≤ D.sectors device.old }
     requires listing { length listing.now ≡ 83 }
-    requires asked { IsAsked verb (spec_of file.now) number bytes.now }
+    requires asked { IsAsked change.verb (spec_of file.now) change.number change.bytes.now }
     ensures edits { EditsPages D.Device (result ≡ Err StoreFault.Device) pages.old device.old
         pages.new device.new }
-    ensures outcome { OnTrees D.Device (spec_of file.now) pages.old
-        device.old listing.now (λ named generation left right. IfOk result (λ turn. turn.outcome
-        ≡ (changed_by verb file.now.organization number bytes.now named.file).outcome)) }
+    ensures outcome { OnTrees D.Device (spec_of file.now) pages.old device.old listing.now (λ named
+        generation left right. IfOk result (λ turn. turn.outcome ≡ (changed_by change.entry.verb
+        file.now.organization change.entry.number change.entry.bytes.now named.file).outcome)) }
     ensures placed { OnTrees D.Device (spec_of file.now) pages.old device.old listing.now
-        (λ named generation left right. IfOk result (λ turn. is_change turn.outcome ≡ true →
-        HasFileTrees (named_after named
-        (changed_by verb file.now.organization number bytes.now named.file)) (generation + 1)
+        (λ named generation left right. IfOk result (λ turn. is_change turn.outcome ≡ true
+        → HasFileTrees (named_after named (changed_by change.entry.verb file.now.organization
+        change.entry.number change.entry.bytes.now named.file)) (generation + 1)
         (pages_on D.Device pages.new device.old) left right turn.listing.items)) }
-    ensures few { OnTrees D.Device
-        (spec_of file.now) pages.old device.old listing.now (λ named generation left right.
-        OnOk result (FewChanged (84 * length file.now.alternates.items
-        + (42 + pages_for (chained_bytes (spec_of file.now)))) pages.old pages.new)) }
-    ensures room { OnTrees D.Device (spec_of file.now) pages.old device.old listing.now
-        (λ named generation left right. result ≡ Err StoreFault.Full →
-        free_count (committed_of pages.old)
-        < length (changed_pages_of pages.old) + (84 * length file.now.alternates.items
-        + (42 + pages_for (chained_bytes (spec_of file.now))))) }
+    ensures few { ChangesFewTreePages D.Device file.now pages.old device.old listing.now pages.new
+        result }
+    ensures room { LacksTreePages D.Device file.now pages.old device.old listing.now result }
     ensures full { is_spent pages.old ≡ false → OnTrees D.Device (spec_of file.now) pages.old
-        device.old listing.now (λ named generation left right. result ≡ Err StoreFault.Full →
-        is_change (changed_by verb file.now.organization number bytes.now named.file).outcome
-        ≡ true) }
+        device.old listing.now (λ named generation left right. result ≡ Err StoreFault.Full
+        → is_change (changed_by change.entry.verb file.now.organization change.entry.number
+        change.entry.bytes.now named.file).outcome ≡ true) }
     ensures damaged { OnTrees D.Device (spec_of file.now) pages.old device.old listing.now
         (λ named generation left right. result ≡ Err StoreFault.Damaged → ⊥) }
     ensures same { IfOk result (λ turn. is_change turn.outcome ≡ false
@@ -78,7 +77,9 @@ pub(crate) fn change_trees<D: Device>(
     ensures spent { result ≡ Err StoreFault.Spent → is_spent pages.old ≡ true }
     ensures cause { IfErr result IsWriteFault }
 {
-    match verb {
+    let number = change.number;
+    let bytes = change.bytes;
+    match change.verb {
         RowVerb::Insert => insert_trees(alloc, pages, device, file, listing, number, bytes),
         RowVerb::Replace => replace_trees(alloc, pages, device, file, listing, number, bytes),
         RowVerb::Remove => remove_trees(alloc, pages, device, file, listing, number, bytes),
@@ -109,15 +110,9 @@ fn insert_trees<D: Device>(
         (λ named generation left right. IfOk result (λ turn. is_change turn.outcome ≡ true →
         HasFileTrees (named_after named (insertion number bytes.now named.file)) (generation + 1)
         (pages_on D.Device pages.new device.old) left right turn.listing.items)) }
-    ensures few { OnTrees D.Device
-        (spec_of file.now) pages.old device.old listing.now (λ named generation left right.
-        OnOk result (FewChanged (84 * length file.now.alternates.items
-        + (42 + pages_for (chained_bytes (spec_of file.now)))) pages.old pages.new)) }
-    ensures room { OnTrees D.Device (spec_of file.now) pages.old device.old listing.now
-        (λ named generation left right. result ≡ Err StoreFault.Full →
-        free_count (committed_of pages.old)
-        < length (changed_pages_of pages.old) + (84 * length file.now.alternates.items
-        + (42 + pages_for (chained_bytes (spec_of file.now))))) }
+    ensures few { ChangesFewTreePages D.Device file.now pages.old device.old listing.now pages.new
+        result }
+    ensures room { LacksTreePages D.Device file.now pages.old device.old listing.now result }
     ensures full { is_spent pages.old ≡ false → OnTrees D.Device (spec_of file.now) pages.old
         device.old listing.now (λ named generation left right. result ≡ Err StoreFault.Full →
         is_change (insertion number bytes.now named.file).outcome ≡ true) }
@@ -140,23 +135,23 @@ fn insert_trees<D: Device>(
     }
     let mut prime = row_tree(alloc, file, listing);
     let own = number_of_new(file.organization, number, arrival);
-    if !insert_row(alloc, &mut prime, pages, device, file, own, arrival, bytes)? {
+    let row = NewRow {
+        number: own,
+        arrival,
+        bytes,
+    };
+    if !insert_row(alloc, &mut prime, pages, device, file, row)? {
         return Ok(RowTurn::none(alloc, Outcome::Taken));
     }
     let root = prime.root();
-    let listing = move_row(
-        alloc,
-        pages,
-        device,
-        file,
-        listing,
-        RowVerb::Insert,
-        &[],
+    let row_move = RowMove {
+        verb: RowVerb::Insert,
+        old_value: &[],
         arrival,
+        next: arrival + 1,
         bytes,
-        root,
-        arrival + 1,
-    )?;
+    };
+    let listing = move_row(alloc, pages, device, file, listing, row_move, root)?;
     Ok(RowTurn { outcome, listing })
 }
 
@@ -183,15 +178,9 @@ fn replace_trees<D: Device>(
         (λ named generation left right. IfOk result (λ turn. is_change turn.outcome ≡ true →
         HasFileTrees (named_after named (replacement number bytes.now named.file)) (generation + 1)
         (pages_on D.Device pages.new device.old) left right turn.listing.items)) }
-    ensures few { OnTrees D.Device
-        (spec_of file.now) pages.old device.old listing.now (λ named generation left right.
-        OnOk result (FewChanged (84 * length file.now.alternates.items
-        + (42 + pages_for (chained_bytes (spec_of file.now)))) pages.old pages.new)) }
-    ensures room { OnTrees D.Device (spec_of file.now) pages.old device.old listing.now
-        (λ named generation left right. result ≡ Err StoreFault.Full →
-        free_count (committed_of pages.old)
-        < length (changed_pages_of pages.old) + (84 * length file.now.alternates.items
-        + (42 + pages_for (chained_bytes (spec_of file.now))))) }
+    ensures few { ChangesFewTreePages D.Device file.now pages.old device.old listing.now pages.new
+        result }
+    ensures room { LacksTreePages D.Device file.now pages.old device.old listing.now result }
     ensures full { OnTrees D.Device (spec_of file.now) pages.old device.old listing.now
         (λ named generation left right. result ≡ Err StoreFault.Full →
         is_change (replacement number bytes.now named.file).outcome ≡ true) }
@@ -213,7 +202,12 @@ fn replace_trees<D: Device>(
         None => return Ok(RowTurn::none(alloc, Outcome::Missing)),
     };
     let old = row.value();
-    let outcome = find_duplicate_key(alloc, pages, device, file, listing, verb, old, bytes)?;
+    let new_record = NewRecord {
+        verb,
+        old_value: old,
+        bytes,
+    };
+    let outcome = find_duplicate_key(alloc, pages, device, file, listing, new_record)?;
     if !is_done(outcome) {
         return Ok(RowTurn::none(alloc, outcome));
     }
@@ -225,9 +219,14 @@ fn replace_trees<D: Device>(
     replace_row(&mut prime, pages, device, row.key(), &value)?;
     let next = arrival_next(file, old, bytes, arrival);
     let root = prime.root();
-    let listing = move_row(
-        alloc, pages, device, file, listing, verb, old, arrival, bytes, root, next,
-    )?;
+    let row_move = RowMove {
+        verb,
+        old_value: old,
+        arrival,
+        next,
+        bytes,
+    };
+    let listing = move_row(alloc, pages, device, file, listing, row_move, root)?;
     Ok(RowTurn { outcome, listing })
 }
 
@@ -255,15 +254,9 @@ fn remove_trees<D: Device>(
         HasFileTrees (named_after named
         (removal (pair_of file.now.organization key.now number) named.file)) (generation + 1)
         (pages_on D.Device pages.new device.old) left right turn.listing.items)) }
-    ensures few { OnTrees D.Device
-        (spec_of file.now) pages.old device.old listing.now (λ named generation left right.
-        OnOk result (FewChanged (84 * length file.now.alternates.items
-        + (42 + pages_for (chained_bytes (spec_of file.now)))) pages.old pages.new)) }
-    ensures room { OnTrees D.Device (spec_of file.now) pages.old device.old listing.now
-        (λ named generation left right. result ≡ Err StoreFault.Full →
-        free_count (committed_of pages.old)
-        < length (changed_pages_of pages.old) + (84 * length file.now.alternates.items
-        + (42 + pages_for (chained_bytes (spec_of file.now))))) }
+    ensures few { ChangesFewTreePages D.Device file.now pages.old device.old listing.now pages.new
+        result }
+    ensures room { LacksTreePages D.Device file.now pages.old device.old listing.now result }
     ensures full { OnTrees D.Device (spec_of file.now) pages.old device.old listing.now
         (λ named generation left right. result ≡ Err StoreFault.Full →
         is_change (removal (pair_of file.now.organization key.now number) named.file).outcome
@@ -285,19 +278,15 @@ fn remove_trees<D: Device>(
     remove_row(&mut prime, pages, device, row.key())?;
     let next = next_arrival(listing);
     let root = prime.root();
-    let listing = move_row(
-        alloc,
-        pages,
-        device,
-        file,
-        listing,
-        RowVerb::Remove,
-        row.value(),
+    let old_value = row.value();
+    let row_move = RowMove {
+        verb: RowVerb::Remove,
+        old_value,
+        arrival: next,
         next,
-        &[],
-        root,
-        next,
-    )?;
+        bytes: &[],
+    };
+    let listing = move_row(alloc, pages, device, file, listing, row_move, root)?;
     Ok(RowTurn {
         outcome: Outcome::Done,
         listing,

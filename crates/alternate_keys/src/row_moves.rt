@@ -11,7 +11,7 @@ ghost use Rattle.alternate_keys.specs.Moved.{HasValues, OnMoving, PairsMayMove};
 ghost use Rattle.alternate_keys.specs.Placed.{HasFileTrees};
 
 use crate::move_pairs::move_pairs;
-use crate::row_verb::RowVerb;
+use crate::row_move::RowMove;
 use pages::PageMap;
 use records::{FileSpec, StoreFault};
 use station::Device;
@@ -25,41 +25,40 @@ pub(crate) fn move_row<D: Device>(
     device: &mut D,
     file: &FileSpec,
     listing: &[u8],
-    verb: RowVerb,
-    old: &[u8],
-    arrival: u64,
-    bytes: &[u8],
+    row_move: RowMove<'_>,
     root: u32,
-    next: u64,
 ) -> Result<Vec<u8>, StoreFault>
     requires open { IsOpen pages.old }
     requires sectors { sectors_of pages.old ≤ D.sectors device.old }
     requires listing { length listing.now ≡ 83 }
-    requires values { HasValues verb (spec_of file.now) old.now bytes.now }
+    requires values { HasValues row_move.verb (spec_of file.now) row_move.old_value.now
+        row_move.bytes.now }
     ensures edits { EditsPages D.Device (result ≡ Err StoreFault.Device) pages.old device.old
         pages.new device.new }
-    ensures placed { OnMoving D.Device verb (spec_of file.now) pages.old device.old listing.now root
-        old.now bytes.now arrival next (λ held after generation left right.
-        IfOk result (λ new. HasFileTrees after (generation + 1)
+    ensures placed { OnMoving D.Device row_move.entry.verb
+        (spec_of file.now) pages.old device.old listing.now root row_move.entry.old_value.now
+        row_move.entry.bytes.now row_move.entry.arrival row_move.entry.next
+        (λ held after generation left right. IfOk result (λ new. HasFileTrees after (generation + 1)
         (pages_on D.Device pages.new device.old) left right new.items)) }
-    ensures few { OnMoving D.Device verb (spec_of file.now) pages.old device.old listing.now root
-        old.now bytes.now arrival next (λ held after generation left right.
+    ensures few { OnMoving D.Device row_move.entry.verb (spec_of file.now)
+        pages.old device.old listing.now root row_move.entry.old_value.now row_move.entry.bytes.now
+        row_move.entry.arrival row_move.entry.next (λ held after generation left right.
         OnOk result (FewChanged (84 * length file.now.alternates.items) pages.old pages.new)) }
-    ensures room { OnMoving D.Device verb (spec_of file.now) pages.old device.old listing.now root
-        old.now bytes.now arrival next (λ held after generation left right.
+    ensures room { OnMoving D.Device row_move.entry.verb (spec_of file.now)
+        pages.old device.old listing.now root row_move.entry.old_value.now row_move.entry.bytes.now
+        row_move.entry.arrival row_move.entry.next (λ held after generation left right.
         result ≡ Err StoreFault.Full → free_count (committed_of pages.old) < length
         (changed_pages_of pages.old) + 84 * length file.now.alternates.items) }
-    ensures damaged { OnMoving D.Device verb (spec_of file.now) pages.old device.old listing.now
-        root old.now bytes.now arrival next (λ held after generation left right.
-        PairsMayMove verb held.file old.now bytes.now arrival → result ≡ Err StoreFault.Damaged
-        → ⊥) }
+    ensures damaged { OnMoving D.Device row_move.entry.verb (spec_of file.now)
+        pages.old device.old listing.now root row_move.entry.old_value.now row_move.entry.bytes.now
+        row_move.entry.arrival row_move.entry.next (λ held after generation left right.
+        PairsMayMove row_move.entry.verb held.file row_move.entry.old_value.now
+        row_move.entry.bytes.now row_move.entry.arrival → result ≡ Err StoreFault.Damaged → ⊥) }
     ensures long { IfOk result (λ new. length new.items ≡ 83) }
     ensures spent { result ≡ Err StoreFault.Spent → is_spent pages.old ≡ true }
     ensures cause { IfErr result IsWriteFault }
 {
-    let roots = move_pairs(
-        alloc, pages, device, file, listing, verb, old, arrival, bytes,
-    )?;
-    let new = spell_listing(alloc, file, root, &roots, next)?;
+    let roots = move_pairs(alloc, pages, device, file, listing, row_move)?;
+    let new = spell_listing(alloc, file, root, &roots, row_move.next)?;
     Ok(new)
 }

@@ -1,6 +1,6 @@
 //! How a tree is looked into.
 
-/// Which entry of a tree is looked for, beside a key.
+/// Which entry of a tree is looked for, by a key.
 #[derive(Clone, Copy, PartialEq, Eq)]
 pub enum SearchStart {
     /// None.

@@ -1,7 +1,6 @@
 //! A volume gets the second mark.
 ghost use Rattle.std.specs.Prelude.{◌≡◌, ◌≤◌, ◌<◌, ◌+◌, ◌++◌, ◌↔◌, true, false, Err, ℕ, List, length, IfOk, IfErr, OnOk, OnErr, IsOkUnless};
 ghost use Rattle.std.specs.List.{All};
-ghost use Rattle.station.specs.History.{EachImage};
 ghost use Rattle.station.specs.Opening.{IsOpening};
 ghost use Rattle.pages.specs.Pages.{map_now, is_spent, mark_of, committed_of, sectors_of, filled_of, next_generation, IsOpen};
 ghost use Rattle.pages.specs.Use.{free_count};
@@ -16,8 +15,9 @@ ghost use Rattle.volume_format.specs.Forest.{TreeLevels};
 ghost use Rattle.volume_format.specs.Volume.{MapHolds};
 ghost use Rattle.alternate_keys.specs.Created.{OnFiles, OnListed, Prepares};
 ghost use Rattle.alternate_keys.specs.Faults.{IsReadFault, IsWriteFault};
-ghost use Rattle.alternate_keys.specs.Migrated.{with_mark, IfMarked, IsMigrated, IsMigrating, IsMigrateRefusal, AreCatalogLeaves, AreFilled, ListsCounted};
-ghost use Rattle.alternate_keys.specs.Opened.{BlamesDevice, FailsWith, IfForeign, OnHeldFiles, PassesThrough, SyncsAtMost, SyncsOnly};
+ghost use Rattle.alternate_keys.specs.Migrated.{with_mark, IfMarked, AreCatalogLeaves, AreFilled, ListsCounted};
+ghost use Rattle.alternate_keys.specs.Migrated.{LeavesSameFiles, MigratesFiles, OnlyOpensForeign, RefusesToMigrate};
+ghost use Rattle.alternate_keys.specs.Opened.{BlamesDevice, IfForeign, PassesThrough, SyncsAtMost, SyncsOnly};
 ghost use Rattle.alternate_keys.specs.Placed.{HasTrees};
 
 use crate::clearing::clear_among;
@@ -47,12 +47,10 @@ pub fn migrate<D: Device>(alloc: Global, device: &mut D) -> Result<(), StoreFaul
     ensures failures { BlamesDevice D.Device device.old device.new result }
 
     // At each moment a crash leaves what was possible before, or the same files.
-    ensures moments { OnHeldFiles D.Device device.old (λ files.
-        PassesThrough D.Device device.old device.new (IsMigrating (D.state device.old) files)) }
+    ensures moments { LeavesSameFiles D.Device device.old device.new }
 
     // After `Ok` it leaves them on a volume with the second mark.
-    ensures migrated { OnHeldFiles D.Device device.old
-        (λ files. OnOk result (EachImage (IsMigrated files) (D.state device.new))) }
+    ensures migrated { MigratesFiles D.Device device.old device.new result }
 
     // A volume that has this mark is left as it was, also if the call is refused.
     ensures idle { IfMarked D.Device device.old 1
@@ -65,12 +63,10 @@ pub fn migrate<D: Device>(alloc: Global, device: &mut D) -> Result<(), StoreFaul
         → SyncsOnly D.Device device.old device.new }
 
     // The other store's volume is only opened.
-    ensures foreign { IfForeign D.Device device.old (FailsWith StoreFault.Layout result
-        × SyncsAtMost D.Device device.old device.new) }
+    ensures foreign { OnlyOpensForeign D.Device device.old device.new result }
     ensures opening { IfForeign D.Device device.old
         (PassesThrough D.Device device.old device.new (IsOpening (D.state device.old))) }
-    ensures refused { D.is_honest device.old
-        → IfErr result (IsMigrateRefusal (D.state device.old).disk.present) }
+    ensures refused { RefusesToMigrate D.Device device.old result }
 {
     let mut pages = match PageMap::open(alloc, device, CACHE) {
         Ok(pages) => pages,

@@ -19,23 +19,29 @@ use records::{FileSpec, Found, KeyOfReference};
 use row_trees::RowTree;
 use station::Device;
 
-/// Seeks a row in the trees of a file: the tree of the rows, and that of the key, which is looked into from `at` on. A search after a key
-/// begins in the leaf that is noted. The row's record is put into `bytes`, which stays if there is no such row, and after a refusal.
-pub fn seek_row<D: Device>(
+/// A search under a key of a file: which entry of the key's tree is looked for, and by which bytes of a key.
+#[derive(Clone, Copy)]
+pub(crate) struct KeySearch<'a> {
+    pub(crate) file: &'a FileSpec,
+    pub(crate) key: KeyOfReference,
+    pub(crate) aim: SearchStart,
+    pub(crate) at: &'a [u8],
+}
+
+/// Seeks a row in the trees of a file: the tree of the rows, and that of the key. A search after a key begins in the leaf that is noted.
+/// The row's record is put into `bytes`, which stays if there is no such row, and after a refusal.
+pub(crate) fn seek_row<D: Device>(
     notes: &mut SearchNotes,
     prime: &RowTree,
     under: &Tree,
     pages: &mut PageMap,
     device: &mut D,
-    file: &FileSpec,
-    key: KeyOfReference,
-    aim: SearchStart,
-    at: &[u8],
+    key_search: KeySearch<'_>,
     bytes: &mut [u8],
 ) -> Result<Option<Found>, PagesError>
     requires open { IsOpen pages.old }
     requires sectors { sectors_of pages.old ≤ D.sectors device.old }
-    requires key { IsKey (spec_of file.now) key }
+    requires key { IsKey (spec_of key_search.file.now) key_search.key }
     requires short { under.now.layout.key_length ≤ 128 }
     ensures looks { LooksAt D.Device (result ≡ Err PagesError.Device) pages.old device.old pages.new
         device.new }
@@ -43,23 +49,29 @@ pub fn seek_row<D: Device>(
     // If the leaf that is noted is one of its tree, so is the leaf that is noted then, and this is the answer.
     ensures place { OnPages D.Device pages.old device.old
         (λ before. IsLeafPlace notes.old.place before → IsLeafPlace notes.new.place before) }
-    ensures found { ReturnsSought D.Device file.now key pages.old device.old prime.now under.now aim
-        at.now notes.old.place result }
-    ensures bytes { ReadsSought D.Device file.now key pages.old device.old prime.now under.now aim
-        at.now notes.old.place bytes.old bytes.new result }
-    ensures damaged { FindsNoDamage D.Device file.now key pages.old device.old prime.now
-        under.now aim at.now notes.old.place bytes.old result }
+    ensures found { ReturnsSought D.Device key_search.entry.file.now key_search.entry.key pages.old
+        device.old prime.now under.now key_search.entry.aim key_search.entry.at.now notes.old.place
+        result }
+    ensures bytes { ReadsSought D.Device key_search.entry.file.now key_search.entry.key pages.old
+        device.old prime.now under.now key_search.entry.aim key_search.entry.at.now notes.old.place
+        bytes.old bytes.new result }
+    ensures damaged { FindsNoDamage D.Device key_search.entry.file.now key_search.entry.key
+        pages.old device.old prime.now under.now key_search.entry.aim key_search.entry.at.now
+        notes.old.place bytes.old result }
     ensures file { (notes.new.name.items ≡ notes.old.name.items)
         × (notes.new.listing ≡ notes.old.listing) }
     ensures spent { OnlyIfSpent pages.old result }
     ensures kept { OnErr result (bytes.new ≡ bytes.old) }
     ensures cause { IfErr result IsRecordRefusal }
 {
+    let file = key_search.file;
+    let aim = key_search.aim;
+    let at = key_search.at;
     let place = &mut notes.place;
     if !look_near(under, pages, device, aim, at, place, &mut notes.entry)? {
         return Ok(None);
     }
-    match key {
+    match key_search.key {
         KeyOfReference::Prime => {
             let record = &mut notes.record;
             let entry = &notes.entry;
@@ -68,7 +80,7 @@ pub fn seek_row<D: Device>(
             Ok(Some(told))
         }
         KeyOfReference::Alternate(_) => {
-            let length = file.key_place(key).length as usize;
+            let length = file.key_place(key_search.key).length as usize;
             let told = read_alternate_row(notes, prime, under, pages, device, length, bytes)?;
             Ok(Some(told))
         }

@@ -7,7 +7,7 @@ ghost use Rattle.alternate_keys.specs.Stands.{IsStoreOf, Lacks};
 use crate::creating::create_in;
 use crate::finding::find_in;
 use crate::row_verb::RowVerb;
-use crate::seeking::seek_in;
+use crate::seeking::{KeyStart, seek_in};
 use crate::store::PagedStore;
 use records::{FileSpec, Found, Keeps, KeyOfReference, Outcome, Presence, Side, Store, StoreFault};
 use station::Device;
@@ -48,14 +48,13 @@ impl Store for PagedStore {
         if self.spent {
             return Err(StoreFault::Spent);
         }
+        let key_start = KeyStart { key, side, value };
         seek_in(
             &mut self.notes,
             &mut self.pages,
             device,
             file,
-            key,
-            side,
-            value,
+            key_start,
             number,
             bytes,
         )

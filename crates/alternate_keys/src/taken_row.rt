@@ -20,7 +20,7 @@ ghost use Rattle.alternate_keys.specs.Seen.{HasRows, row_tree_of};
 use crate::commit::is_done;
 use crate::file_tree::file_tree;
 use crate::row_verb::RowVerb;
-use crate::values::find_duplicate_key;
+use crate::values::{NewRecord, find_duplicate_key};
 use btree::Tree;
 use chains::page_count;
 use file_bytes::{number_of_new, row_key};
@@ -71,16 +71,12 @@ pub(crate) fn look_at_new_row<D: Device>(
     ensures spent { result ≡ Err StoreFault.Spent → is_spent pages.old ≡ true }
     ensures cause { IfErr result IsReadFault }
 {
-    let outcome = find_duplicate_key(
-        alloc,
-        pages,
-        device,
-        file,
-        listing,
-        RowVerb::Insert,
-        &[],
+    let new_record = NewRecord {
+        verb: RowVerb::Insert,
+        old_value: &[],
         bytes,
-    )?;
+    };
+    let outcome = find_duplicate_key(alloc, pages, device, file, listing, new_record)?;
     if !is_done(outcome) {
         return Ok(outcome);
     }

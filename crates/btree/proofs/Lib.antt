@@ -61,6 +61,7 @@ pub mod ReplaceCalls
 pub mod CountCalls
 pub mod DescentCalls
 pub mod ParentCalls
+pub mod EditedPages
 mod Examples
 mod Changing
 mod Children

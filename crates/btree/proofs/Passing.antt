@@ -190,6 +190,30 @@ pub spent_exactly : {T : Type 0} (r : Result T PagesError) (spent : Bool) → On
     → (spent ≡ true → ⊥) → (r ≡ Err Spent) ↔ (spent ≡ true)
 spent_exactly r spent why never = (λ is. damaged_unspent r why is, λ was. absurd (never was))
 
+-- nor does a search in them, which memory may be wanting for
+memory_or_device : Memory ≡ Device → ⊥
+memory_or_device is = cc
+
+memory_or_spent : Memory ≡ Spent → ⊥
+memory_or_spent is = cc
+
+pub search_alone : {T A : Type 0} (r : Result T PagesError) (size : ℕ)
+    → OnErr r ((r ≡ Err Damaged) ⊎ ((r ≡ Err Memory) × (128 < size))) → r ≡ Err Device → A
+search_alone (Ok x) size why is = never_ok is
+search_alone (Err y) size why is = ⊎_elim (λ a. damaged_not_device (sym a ∙ is))
+    (λ a. absurd (memory_or_device (same_error (sym a.0 ∙ is)))) why
+
+search_unspent : {T A : Type 0} (r : Result T PagesError) (size : ℕ)
+    → OnErr r ((r ≡ Err Damaged) ⊎ ((r ≡ Err Memory) × (128 < size))) → r ≡ Err Spent → A
+search_unspent (Ok x) size why is = never_ok is
+search_unspent (Err y) size why is = ⊎_elim (λ a. damaged_not_spent (sym a ∙ is))
+    (λ a. absurd (memory_or_spent (same_error (sym a.0 ∙ is)))) why
+
+pub search_spent : {T : Type 0} (r : Result T PagesError) (spent : Bool) (size : ℕ)
+    → OnErr r ((r ≡ Err Damaged) ⊎ ((r ≡ Err Memory) × (128 < size))) → (spent ≡ true → ⊥)
+    → (r ≡ Err Spent) ↔ (spent ≡ true)
+search_spent r spent size why never = (λ is. search_unspent r size why is, λ was. absurd (never was))
+
 pub put_not_damaged : {T A : Type 0} (x : PagesError) → IsPutRefusal x
     → (◌≡◌ {A = Result T PagesError} (Err x) (Err Damaged)) → A
 put_not_damaged x why is = absurd (subst IsPutRefusal (same_error is) why)

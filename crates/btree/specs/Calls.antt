@@ -4,7 +4,7 @@ use Rattle.station.specs.Calls.{OnlyReads}
 use Rattle.station.specs.Disk.{Sector}
 use Rattle.station.specs.declared.device.Device.{Ghosts as Devices}
 use Rattle.pages.specs.declared.page_map.PageMap.{PageMap}
-use Rattle.pages.specs.Pages.{map_now, sectors_of, Agrees}
+use Rattle.pages.specs.Pages.{map_now, sectors_of, catalog_of, Agrees, IsOpen, SameCommitted}
 use Rattle.btree_pages.specs.declared.row_layout.RowLayout.{RowLayout}
 use Rattle.pages.specs.declared.error.PagesError.{PagesError}
 use Rattle.pages.specs.declared.error.PagesError.TheVariants.{Device}
@@ -33,6 +33,18 @@ module _ {D : Type 0} (device : Devices D) where
   -- the device is only read by a call with this result, and it failed if `Device` is returned
   abbrev pub OnlyReadsFor : {T : Type 0} → D → D → Result T PagesError → Type 0
   OnlyReadsFor before after result = OnlyReads device (result ≡ Err Device) before after
+
+  -- A call that changes pages leaves what is committed. Where `blamed` holds, the device failed.
+  pub record EditsPages (blamed : Type 0) (old : PageMap) (before : D) (new : PageMap) (after : D) : Type 0 where
+    pub only : OnlyReads device blamed before after
+    pub committed : SameCommitted old new
+    pub catalog : catalog_of new ≡ catalog_of old
+    pub agrees : device.is_honest before → Agrees old (device.state before).disk → Agrees new (device.state after).disk
+    pub is_open : IsOpen new
+
+  -- The device failed if `Device` is returned.
+  abbrev pub EditsPagesFor : {T : Type 0} → PageMap → D → PageMap → D → Result T PagesError → Type 0
+  EditsPagesFor old before new after result = EditsPages (result ≡ Err Device) old before new after
 
   -- and where the pages under this root are a tree besides: of its levels
   abbrev pub OnTree : RowLayout → ℕ → PageMap → D → (List (List TreeNode) → Type 0) → Type 0

@@ -41,7 +41,7 @@ PutsRows layout kind old new rows page = (image : List Sector) → ReplacesNodes
 abbrev pub two_rows : RowLayout → SplitResult → Right → List (List ℕ)
 two_rows layout split right = row_of layout (node_with split.page split.left.rows) ∷ row_of layout (node_with right.page right.node.rows) ∷ []
 
--- the row at a place of the node that stands on a page has this rest
+-- the row at a place of the node on a page has this rest
 abbrev pub PutsRest : PageMap → PageMap → ℕ → Node → ℕ → List ℕ → Type 0
 PutsRest old new page node place rest =
     (image : List Sector) → CanStand (pages_of_map old image) page node →

@@ -37,7 +37,7 @@ HasShape layout node = (node.layout ≡ layout) × (fewest node.kind ≤ length 
 abbrev pub HasKindShape : RowLayout → Kind → Node → Type 0
 HasKindShape layout kind node = (node.layout ≡ layout) × (node.kind ≡ kind) × (fewest kind ≤ length node.rows) × (length node.rows ≤ 4080)
 
--- where this is told, no node of a tree stands on the page, none of this kind, and the pages under the root are no tree
+-- if this is reported, the page has no node of a tree, none of this kind, and the pages under the root are no tree
 abbrev pub NoneStands : RowLayout → ℕ → Type 0 → List (Option Sector) → Type 0
 NoneStands layout page told pages = told → (kind : Kind) (node : TreeNode) → node.page ≡ page → IsOnPage layout pages kind node → ⊥
 

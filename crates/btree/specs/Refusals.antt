@@ -60,3 +60,7 @@ IsInsertRefusal Damaged = ⊤
 IsInsertRefusal Memory = ⊤
 IsInsertRefusal Spent = ⊤
 IsInsertRefusal ForeignMark = ⊥
+
+-- an error is returned only for a reason of these
+abbrev pub ErrOnlyIfInsertRefusal : {T : Type 0} → Result T PagesError → Type 0
+ErrOnlyIfInsertRefusal result = IfErr result IsInsertRefusal

@@ -29,7 +29,7 @@ rows_of level = flat_map (λ node. node.rows) level
 abbrev pub node_of : RowLayout → Kind → List (List ℕ) → Node
 node_of layout kind rows = record { layout = layout; kind = kind; rows = rows }
 
--- what stands on a page
+-- the node on a page, if there is one
 abbrev pub node_on : RowLayout → Option Sector → Option Node
 node_on layout None = None
 node_on layout (Some bytes) = node_in layout bytes
@@ -42,7 +42,7 @@ abbrev pub fewest : Kind → ℕ
 fewest Leaf = 1
 fewest Inner = 2
 
--- the node stands on its page
+-- the node is on its page
 pub record IsOnPage (layout : RowLayout) (pages : List (Option Sector)) (kind : Kind) (tree_node : TreeNode) : Type 0 where
   pub node : node_at layout pages tree_node.page ≡ Some (node_of layout kind tree_node.rows)
   pub lengths : All (λ row. length row ≡ row_length layout kind) tree_node.rows

@@ -11,7 +11,7 @@ ghost use Rattle.btree.specs.Moves.{Moves, numbers_of};
 ghost use Rattle.btree.specs.Changes.{pages_of_map};
 ghost use Rattle.btree.specs.Clears.{HasPages, IsDown, levels_below};
 ghost use Rattle.btree.specs.Refusals.{IsRestRefusal, ErrOnlyIfChangeRefusal};
-ghost use Rattle.btree.specs.Calls.{OnPages, OnChange, FitsDevice, OnlyReadsFor, KeepsAgreement, DamagedOnlyIfNoTree};
+ghost use Rattle.btree.specs.Calls.{OnPages, OnChange, FitsDevice, OnlyReadsFor, EditsPagesFor, KeepsAgreement, DamagedOnlyIfNoTree};
 ghost use Rattle.btree.specs.Results.{OnlyIfSpent, ExactlyIfSpent, OnlyIfSpentAt, ErrOnlyIfSame, OkOnlyIfEmpty, SameLayout, SameCatalog, FillsNoMore};
 ghost use Rattle.btree.specs.TreeEdits.{OkOnlyIfCleared};
 
@@ -35,7 +35,7 @@ impl Tree {
     ) -> Result<(), PagesError>
         requires open { IsOpen pages.old }
         requires sectors { FitsDevice D.Device pages.old device.old }
-        ensures only { OnlyReadsFor D.Device device.old device.new result }
+        ensures edits { EditsPagesFor D.Device pages.old device.old pages.new device.new result }
 
         // Each page of the tree leaves the map, and the others stay as they are.
         ensures cleared { OkOnlyIfCleared D.Device self.old pages.old device.old pages.new result }
@@ -44,10 +44,6 @@ impl Tree {
         ensures root { OkOnlyIfEmpty self.new result }
         ensures same { ErrOnlyIfSame self.old self.new result }
         ensures filled { FillsNoMore pages.old pages.new }
-        ensures committed { SameCommitted pages.old pages.new }
-        ensures catalog { SameCatalog pages.old pages.new }
-        ensures agrees { KeepsAgreement D.Device pages.old device.old pages.new device.new }
-        ensures open { IsOpen pages.new }
         ensures spent { OnlyIfSpentAt self.old.root pages.old result }
         ensures cause { ErrOnlyIfChangeRefusal result }
     {

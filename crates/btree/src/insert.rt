@@ -1,12 +1,12 @@
 //! A new entry.
-ghost use Rattle.std.specs.Prelude.{◌≡◌, Ok, None, length, IfOk, IfErr};
+ghost use Rattle.std.specs.Prelude.{◌≡◌, ◌≢◌, Ok, None, length, IfOk};
 ghost use Rattle.pages.specs.Pages.{IsOpen, SameCommitted, IsUnchanged};
 ghost use Rattle.btree_pages.specs.RowLayouts.{IsRowLayout};
 ghost use Rattle.btree.specs.Changes.{Inserts};
-ghost use Rattle.btree.specs.Refusals.{IsInsertRefusal};
-ghost use Rattle.btree.specs.Calls.{OnNoTree, OnTree, OnTreeChange, FitsDevice, OnlyReadsFor, KeepsAgreement, IfTree, DamagedOnlyIfNoTree};
-ghost use Rattle.btree.specs.Results.{ReturnsDamaged, ExactlyIfSpent, FullIfUsed, FewChanged, FewFilled, FullOnlyIfFewFree, FalseOnlyIfSame, ErrOnlyIfSame, SameLayout, SameCatalog};
-ghost use Rattle.btree.specs.TreeEdits.{FalseOnlyIfPresent, TrueOnlyIfInserted};
+ghost use Rattle.btree.specs.Refusals.{ErrOnlyIfInsertRefusal};
+ghost use Rattle.btree.specs.Calls.{OnNoTree, OnTree, OnTreeChange, FitsDevice, OnlyReadsFor, EditsPagesFor, KeepsAgreement, DamagedOnlyIfNoTree};
+ghost use Rattle.btree.specs.Results.{ReturnsDamaged, ExactlyIfSpent, FullIfUsed, FewChanged, FewFilled, FalseOnlyIfSame, ErrOnlyIfSame, SameLayout, SameCatalog};
+ghost use Rattle.btree.specs.TreeEdits.{FalseOnlyIfPresent, TrueOnlyIfInserted, EditsFewOnTree, FullOnlyIfFewFreeOnTree};
 
 use crate::descend::{descend, follow};
 use crate::enter_leaf::enter_leaf;
@@ -41,7 +41,7 @@ impl Tree {
         requires sectors { FitsDevice D.Device pages.old device.old }
         requires key { length key.now ≡ self.old.layout.key_length }
         requires value { length value.now ≡ self.old.layout.value_length }
-        ensures only { OnlyReadsFor D.Device device.old device.new result }
+        ensures edits { EditsPagesFor D.Device pages.old device.old pages.new device.new result }
 
         // The list of entries has the new one at its place, and the pages around the tree stay.
         ensures inserted { TrueOnlyIfInserted D.Device self.old pages.old device.old key.now
@@ -53,21 +53,13 @@ impl Tree {
         ensures refused { ErrOnlyIfSame self.old self.new result }
 
         // At most so many pages are changed, whatever the answer.
-        ensures changed_pages { IfTree D.Device self.old pages.old device.old
-            (FewChanged 42 pages.old pages.new) }
-        ensures filled { IfTree D.Device self.old pages.old device.old
-            (FewFilled 42 pages.old pages.new) }
-        ensures committed { SameCommitted pages.old pages.new }
-        ensures catalog { SameCatalog pages.old pages.new }
-        ensures agrees { KeepsAgreement D.Device pages.old device.old pages.new device.new }
-        ensures open { IsOpen pages.new }
+        ensures few { EditsFewOnTree D.Device 42 self.old pages.old device.old pages.new }
 
         // `Full` means that each page number is used, and so that few sectors were free. `Spent` comes exactly where the map is spent.
         ensures full { FullIfUsed pages.new result }
-        ensures room { IfTree D.Device self.old pages.old device.old
-            (FullOnlyIfFewFree 42 pages.old result) }
+        ensures room { FullOnlyIfFewFreeOnTree D.Device 42 self.old pages.old device.old result }
         ensures spent { ExactlyIfSpent pages.old result }
-        ensures cause { IfErr result IsInsertRefusal }
+        ensures cause { ErrOnlyIfInsertRefusal result }
     {
         let alloc = self.alloc;
         let layout = self.layout();
@@ -85,7 +77,7 @@ impl Tree {
     }
 }
 
-/// Puts a new entry into the tree under a root, whatever it takes. Answers and refusals are those of `insert_entry`.
+/// Puts a new entry into the tree under a root that isn't 0, whatever it takes. Answers and refusals are those of `insert_entry`.
 #[cold]
 #[inline(never)]
 fn insert_slowly<D: Device>(
@@ -99,10 +91,11 @@ fn insert_slowly<D: Device>(
 ) -> Result<Option<u32>, PagesError>
     requires open { IsOpen pages.old }
     requires sectors { FitsDevice D.Device pages.old device.old }
+    requires root { root ≢ 0 }
     requires layout { IsRowLayout layout }
     requires key { length key.now ≡ layout.key_length }
     requires value { length value.now ≡ layout.value_length }
-    ensures only { OnlyReadsFor D.Device device.old device.new result }
+    ensures edits { EditsPagesFor D.Device pages.old device.old pages.new device.new result }
     ensures inserted { OnTreeChange D.Device layout root pages.old pages.new device.old
         (λ before levels after.
         IfOk result (Inserts layout before levels after key.now value.now)) }
@@ -112,18 +105,10 @@ fn insert_slowly<D: Device>(
         (λ levels. FewChanged 42 pages.old pages.new) }
     ensures filled { OnTree D.Device layout root pages.old device.old
         (λ levels. FewFilled 42 pages.old pages.new) }
-    ensures committed { SameCommitted pages.old pages.new }
-    ensures catalog { SameCatalog pages.old pages.new }
-    ensures agrees { KeepsAgreement D.Device pages.old device.old pages.new device.new }
-    ensures open { IsOpen pages.new }
     ensures full { FullIfUsed pages.new result }
     ensures spent { ExactlyIfSpent pages.old result }
-    ensures cause { IfErr result IsInsertRefusal }
+    ensures cause { ErrOnlyIfInsertRefusal result }
 {
-    if root == 0 {
-        let new = first_leaf(pages, layout, key, value)?;
-        return Ok(Some(new));
-    }
     // How many page numbers there are is needed below.
     let _page_count = pages.page_count();
     let descent = descend(alloc, pages, device, layout, root, key)?;
@@ -167,10 +152,11 @@ fn insert_entry<D: Device>(
     ensures open { IsOpen pages.new }
     ensures full { FullIfUsed pages.new result }
     ensures spent { ExactlyIfSpent pages.old result }
-    ensures cause { IfErr result IsInsertRefusal }
+    ensures cause { ErrOnlyIfInsertRefusal result }
 {
     if root == 0 {
-        return insert_slowly(alloc, pages, device, layout, root, key, value);
+        let new = first_leaf(pages, layout, key, value)?;
+        return Ok(Some(new));
     }
     let way = follow(alloc, pages, device, layout, root, key)?;
     if enter_leaf(pages, layout, way.page, key, value)? {

@@ -83,36 +83,8 @@ fn copy_node(bytes: &[u8; 4096], layout: RowLayout) -> Result<TreePage, PagesErr
     Ok(view_node(bytes, layout)?.to_page())
 }
 
-/// The page of that number, read from the device past the cache, where memory has no place for it. Refusals are those of `read_node`.
-fn node_read<D: Device>(
-    pages: &mut PageMap,
-    device: &mut D,
-    layout: RowLayout,
-    page: u32,
-) -> Result<TreePage, PagesError>
-    requires open { IsOpen pages.old }
-    requires sectors { FitsDevice D.Device pages.old device.old }
-    requires layout { IsRowLayout layout }
-    ensures only { OnlyReadsFor D.Device device.old device.new result }
-    ensures unchanged { IsUnchanged pages.old pages.new }
-    ensures agrees { KeepsAgreement D.Device pages.old device.old pages.new device.new }
-    ensures open { IsOpen pages.new }
-    ensures node { OnPages D.Device pages.old device.old
-        (λ before. IfOk result (λ node. node_at layout before page ≡ Some node)) }
-    ensures shape { IfOk result (HasShape layout) }
-    ensures is_node { IfOk result IsNode }
-    ensures damaged { OnPages D.Device pages.old device.old
-        (NoneStands layout page (ReturnsDamaged result)) }
-    ensures spent { ExactlyIfSpent pages.old result }
-    ensures cause { IfErr result IsReadRefusal }
-{
-    match pages.read(device, page)? {
-        Some(bytes) => copy_node(&bytes, layout),
-        None => Err(PagesError::Damaged),
-    }
-}
-
-/// A page that isn't in memory, and is brought there. Refusals are those of `read_node`.
+/// A page that isn't in memory. It is brought there, or read past the cache if memory has no place for it. Refusals are those of
+/// `read_node`.
 #[cold]
 #[inline(never)]
 fn node_loaded<D: Device>(
@@ -141,5 +113,8 @@ fn node_loaded<D: Device>(
     if let Some(bytes) = pages.view(page) {
         return copy_node(bytes, layout);
     }
-    node_read(pages, device, layout, page)
+    match pages.read(device, page)? {
+        Some(bytes) => copy_node(&bytes, layout),
+        None => Err(PagesError::Damaged),
+    }
 }

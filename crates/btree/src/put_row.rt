@@ -13,7 +13,7 @@ use crate::split_result::{Right, SplitResult};
 use btree_pages::TreePage;
 use pages::{PageMap, PagesError};
 
-/// Puts a row at a place of the node that stands on a page. Where the page is full, it gives rows to a new one to its right.
+/// Puts a row at a place of the node on a page. If the page is full, it gives rows to a new one to its right.
 pub(crate) fn put_row(
     pages: &mut PageMap,
     page: u32,

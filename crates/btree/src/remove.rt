@@ -8,10 +8,10 @@ ghost use Rattle.btree.specs.Outcomes.{spare};
 ghost use Rattle.btree.specs.Shrinks.{HasCollapsed, HasStayed, IsShrunkRoot, NeverIsShrunkRoot, Collapses};
 ghost use Rattle.btree.specs.Removals.{Removes};
 ghost use Rattle.btree.specs.Refusals.{IsRestRefusal, ErrOnlyIfChangeRefusal};
-ghost use Rattle.btree.specs.Calls.{OnNoTree, OnTree, OnTreeChange, FitsDevice, OnlyReadsFor, KeepsAgreement, DamagedOnlyIfNoTree};
+ghost use Rattle.btree.specs.Calls.{OnNoTree, OnTree, OnTreeChange, FitsDevice, OnlyReadsFor, EditsPagesFor, KeepsAgreement, DamagedOnlyIfNoTree};
 ghost use Rattle.btree.specs.Results.{ReturnsDamaged, OnlyIfSpent, ExactlyIfSpentAt, FewChanged, FewFilled, FalseOnlyIfSame, ErrOnlyIfSame, SameLayout, SameCatalog};
 ghost use Rattle.btree.specs.Puts.{NeverIn};
-ghost use Rattle.btree.specs.TreeEdits.{FalseOnlyIfAbsent, TrueOnlyIfRemoved, OkOnlyIfFewChanged, OkOnlyIfFewFilled};
+ghost use Rattle.btree.specs.TreeEdits.{FalseOnlyIfAbsent, TrueOnlyIfRemoved, OkOnlyIfEditsFew};
 
 use crate::descend::descend;
 use crate::removal_outcome::{Child, RemovalOutcome};
@@ -34,7 +34,7 @@ impl Tree {
     ) -> Result<bool, PagesError>
         requires open { IsOpen pages.old }
         requires sectors { FitsDevice D.Device pages.old device.old }
-        ensures only { OnlyReadsFor D.Device device.old device.new result }
+        ensures edits { EditsPagesFor D.Device pages.old device.old pages.new device.new result }
 
         // The list of entries is without the one of the key, and the pages around the tree stay. No more leaves than before have less
         // than a quarter of the rows that they have room for, unless one leaf is all that is left.
@@ -46,14 +46,8 @@ impl Tree {
         ensures layout { SameLayout self.old self.new }
 
         // At most so many pages are changed.
-        ensures changed_pages { OkOnlyIfFewChanged D.Device 42 self.old pages.old device.old
-            pages.new result }
-        ensures filled { OkOnlyIfFewFilled D.Device 42 self.old pages.old device.old pages.new
+        ensures few { OkOnlyIfEditsFew D.Device 42 self.old pages.old device.old pages.new
             result }
-        ensures committed { SameCommitted pages.old pages.new }
-        ensures catalog { SameCatalog pages.old pages.new }
-        ensures agrees { KeepsAgreement D.Device pages.old device.old pages.new device.new }
-        ensures open { IsOpen pages.new }
         ensures refused { ErrOnlyIfSame self.old self.new result }
         ensures spent { ExactlyIfSpentAt self.old.root pages.old result }
         ensures cause { ErrOnlyIfChangeRefusal result }

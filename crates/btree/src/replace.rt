@@ -3,7 +3,7 @@ ghost use Rattle.std.specs.Prelude.{◌≡◌, ◌<◌, length, IfErr, OnOk};
 ghost use Rattle.pages.specs.Pages.{IsOpen, SameCommitted, KeepsCommitted};
 ghost use Rattle.btree_pages.specs.RowLayouts.{rest_length};
 ghost use Rattle.btree.specs.Refusals.{IsRestRefusal, ErrOnlyIfChangeRefusal};
-ghost use Rattle.btree.specs.Calls.{FitsDevice, OnlyReadsFor, KeepsAgreement, DamagedOnlyIfNoTree};
+ghost use Rattle.btree.specs.Calls.{FitsDevice, OnlyReadsFor, EditsPagesFor, KeepsAgreement, DamagedOnlyIfNoTree};
 ghost use Rattle.btree.specs.Results.{ReturnsDamaged, OnlyIfSpent, ExactlyIfSpentAt, FewChanged, FewFilled, FalseOnlyIfUnchanged, SameCatalog};
 ghost use Rattle.btree.specs.Puts.{PutsRest, NeverIn};
 ghost use Rattle.btree.specs.TreeEdits.{FalseOnlyIfAbsent, TrueOnlyIfReplaced};
@@ -29,7 +29,7 @@ impl Tree {
         requires open { IsOpen pages.old }
         requires sectors { FitsDevice D.Device pages.old device.old }
         requires value { length value.now ≡ self.old.layout.value_length }
-        ensures only { OnlyReadsFor D.Device device.old device.new result }
+        ensures edits { EditsPagesFor D.Device pages.old device.old pages.new device.new result }
 
         // The entry of the key has the new value, and the pages around the tree stay.
         ensures replaced { TrueOnlyIfReplaced D.Device self.old pages.old device.old key.now
@@ -40,10 +40,6 @@ impl Tree {
         ensures tree { self.new ≡ self.old }
         ensures changed_pages { FewChanged 1 pages.old pages.new }
         ensures filled { FewFilled 1 pages.old pages.new }
-        ensures committed { SameCommitted pages.old pages.new }
-        ensures catalog { SameCatalog pages.old pages.new }
-        ensures agrees { KeepsAgreement D.Device pages.old device.old pages.new device.new }
-        ensures open { IsOpen pages.new }
         ensures spent { ExactlyIfSpentAt self.old.root pages.old result }
         ensures cause { ErrOnlyIfChangeRefusal result }
     {
@@ -107,7 +103,7 @@ impl Tree {
     }
 }
 
-/// The row at a place of the node that stands on a page gets another rest. `Damaged` means that there is no such page.
+/// The row at a place of the node on a page gets another rest. `Damaged` means that there is no such page.
 fn put_rest(
     pages: &mut PageMap,
     page: u32,

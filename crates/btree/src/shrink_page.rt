@@ -46,7 +46,7 @@ pub(crate) fn write_back(
     Ok(RemovalOutcome::Renamed(Child { page, node }))
 }
 
-/// The row at a place leaves the leaf that stands on a page.
+/// The row at a place leaves the leaf on a page.
 pub(crate) fn take_out(
     pages: &mut PageMap,
     page: u32,

@@ -95,41 +95,8 @@ fn look_in(
     Ok(Look::Missing)
 }
 
-/// What the page of that number answers, read from the device past the cache, where memory has no place for it. Refusals are those of
-/// `look_at`.
-#[cold]
-#[inline(never)]
-fn look_read<D: Device>(
-    pages: &mut PageMap,
-    device: &mut D,
-    layout: RowLayout,
-    page: u32,
-    key: &[u8],
-    sought: Sought,
-    entry: &mut Entry,
-) -> Result<Look, PagesError>
-    requires open { IsOpen pages.old }
-    requires sectors { FitsDevice D.Device pages.old device.old }
-    requires layout { IsRowLayout layout }
-    ensures only { OnlyReadsFor D.Device device.old device.new result }
-    ensures unchanged { IsUnchanged pages.old pages.new }
-    ensures agrees { KeepsAgreement D.Device pages.old device.old pages.new device.new }
-    ensures open { IsOpen pages.new }
-    ensures look { OnPages D.Device pages.old device.old
-        (λ before. IfOk result (LooksAt layout before page key.now sought entry.new)) }
-    ensures lengths { IfOk result (λ look. look ≡ Look.Here → HasLengths layout entry.new) }
-    ensures damaged { OnPages D.Device pages.old device.old
-        (NoneStands layout page (ReturnsDamaged result)) }
-    ensures spent { ExactlyIfSpent pages.old result }
-    ensures cause { IfErr result IsReadRefusal }
-{
-    match pages.read(device, page)? {
-        Some(bytes) => look_in(&bytes, layout, key, sought, entry),
-        None => Err(PagesError::Damaged),
-    }
-}
-
-/// What a page answers that isn't in memory, and is brought there. Refusals are those of `look_at`.
+/// What a page answers that isn't in memory. It is brought there, or read past the cache if memory has no place for it. Refusals are
+/// those of `look_at`.
 #[cold]
 #[inline(never)]
 fn look_loaded<D: Device>(
@@ -160,7 +127,10 @@ fn look_loaded<D: Device>(
     if let Some(bytes) = pages.view(page) {
         return look_in(bytes, layout, key, sought, entry);
     }
-    look_read(pages, device, layout, page, key, sought, entry)
+    match pages.read(device, page)? {
+        Some(bytes) => look_in(&bytes, layout, key, sought, entry),
+        None => Err(PagesError::Damaged),
+    }
 }
 
 /// What the page of that number answers. The entry is put into `entry`. `Damaged` means that it is no page of a tree.

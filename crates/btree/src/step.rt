@@ -72,40 +72,8 @@ fn step_in(
     Ok(Some(Child { place, page }))
 }
 
-/// The same on the page of that number, read from the device past the cache, where memory has no place for it. Refusals are those of
-/// `step_at`.
-#[cold]
-#[inline(never)]
-fn step_read<D: Device>(
-    alloc: Global,
-    pages: &mut PageMap,
-    device: &mut D,
-    layout: RowLayout,
-    page: u32,
-    key: &[u8],
-    right: &mut Option<Key>,
-) -> Result<Option<Child>, PagesError>
-    requires open { IsOpen pages.old }
-    requires sectors { FitsDevice D.Device pages.old device.old }
-    requires layout { IsRowLayout layout }
-    ensures only { OnlyReadsFor D.Device device.old device.new result }
-    ensures unchanged { IsUnchanged pages.old pages.new }
-    ensures agrees { KeepsAgreement D.Device pages.old device.old pages.new device.new }
-    ensures open { IsOpen pages.new }
-    ensures step { OnPages D.Device pages.old device.old (λ before.
-        IfOk result (λ child. StepsAt layout before page key.now right.old right.new child)) }
-    ensures damaged { OnPages D.Device pages.old device.old
-        (NoneStands layout page (ReturnsDamaged result)) }
-    ensures spent { ExactlyIfSpent pages.old result }
-    ensures cause { IfErr result (IsSearchRefusal layout) }
-{
-    match pages.read(device, page)? {
-        Some(bytes) => step_in(alloc, &bytes, layout, key, right),
-        None => Err(PagesError::Damaged),
-    }
-}
-
-/// The same on a page that isn't in memory, and is brought there. Refusals are those of `step_at`.
+/// The same on a page that isn't in memory. It is brought there, or read past the cache if memory has no place for it. Refusals are
+/// those of `step_at`.
 #[cold]
 #[inline(never)]
 fn step_loaded<D: Device>(
@@ -135,5 +103,8 @@ fn step_loaded<D: Device>(
     if let Some(bytes) = pages.view(page) {
         return step_in(alloc, bytes, layout, key, right);
     }
-    step_read(alloc, pages, device, layout, page, key, right)
+    match pages.read(device, page)? {
+        Some(bytes) => step_in(alloc, &bytes, layout, key, right),
+        None => Err(PagesError::Damaged),
+    }
 }

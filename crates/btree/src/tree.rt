@@ -204,16 +204,9 @@ impl Tree {
         if self.root == 0 {
             return Ok(None);
         }
+        let root = self.root;
         let mut entry = Entry::blank();
-        let end = search(
-            pages,
-            device,
-            self.layout,
-            self.root,
-            key,
-            sought,
-            &mut entry,
-        )?;
+        let end = search(pages, device, self.layout, root, key, sought, &mut entry)?;
         if end.found {
             return Ok(Some(entry));
         }

@@ -1,19 +1,25 @@
 -- From a level to the one below it, and from a root to its levels.
 use Rattle.std.proofs.Common.{◌≡◌, ◌≤◌, ◌<◌, ◌+◌, ◌-◌, ◌^◌, ◌++◌, ℕ, Bool, List, [], ◌∷◌, length, refl, sym, ap, subst}
 use Rattle.std.proofs.Common.{◌∙◌}
-use Rattle.std.proofs.Common.{arith}
-use Rattle.std.specs.Prelude.{slice_index_or, Option, Some}
+use Rattle.std.proofs.Common.{arith, true, false}
+use Rattle.std.specs.Prelude.{slice_index_or, Option, Some, Result, Ok, Err}
 use Rattle.std.specs.List.{All}
 use Rattle.station.specs.Disk.{Sector}
+use Rattle.pages.specs.Pages.{is_spent, page_count}
+use Rattle.pages.specs.declared.page_map.PageMap.{PageMap}
+use Rattle.pages.specs.declared.error.PagesError.{PagesError}
+use Rattle.pages.specs.declared.error.PagesError.TheVariants.{Spent}
 use Rattle.btree_pages.specs.declared.row_layout.RowLayout.{RowLayout}
 use Rattle.btree_pages.specs.declared.row_layout.Kind.{Kind}
 use Rattle.btree_pages.specs.Node.{Node}
 use Rattle.btree_pages.specs.Keys.{key_of}
 use Rattle.btree_check.specs.declared.separator.Separator.{Separator}
+use Rattle.btree.specs.Changes.{pages_of_map}
 use Rattle.btree.specs.Tree.{TreeNode, node_at, pages_of, IsTree, IsTreeOrEmpty}
 use Rattle.btree.proofs.Depth.{few_levels}
 use Rattle.btree.proofs.One.{small_numbers}
-use Rattle.btree.proofs.Frames.{holds_tree, tree_holds}
+use Rattle.btree.proofs.TreeNodes.{few_pages}
+use Rattle.btree.proofs.Frames.{holds_tree, tree_holds, false_unless, ok_or_err}
 use Rattle.btree_check.specs.Walks.{separator_pages, IsUnmarked, CanMark, Marks, IsLevel, IsUnder, FindsInner}
 use Rattle.btree_check.specs.Walks.{FindsLevels, FindsTree, NoLevels}
 use Rattle.btree_check.proofs.Checking.{finds_inner, other_levels, tree_found, tree_under, tree_can}
@@ -82,23 +88,37 @@ finds_root layout view pages after root number key separators none old new layou
       marks = found.marks;
     }))
 
-pub root_held : (layout view : RowLayout) (pages : List (Option Sector)) (root number : ℕ)
+root_held : (layout view : RowLayout) (pages : List (Option Sector)) (root number : ℕ)
     (levels : List (List TreeNode)) → layout ≡ view → root ≡ number → (root ≡ 0 → ⊥)
     → IsTreeOrEmpty view pages number levels → IsTree layout pages root levels
 root_held layout view pages root number levels layout_is root_is some holds = holds_tree layout pages root levels
     (subst (λ (l : RowLayout). IsTreeOrEmpty l pages root levels) (sym layout_is)
     (subst (λ (r : ℕ). IsTreeOrEmpty view pages r levels) (sym root_is) holds)) some
 
-pub root_missing : (layout : RowLayout) (pages after : List (Option Sector)) (root : ℕ) (key : List ℕ) (top : Node)
-    (separators none : List Separator) (seen : List Bool) (levels : List (List TreeNode)) (depth : ℕ) (told : Type 0)
-    → IsTree layout pages root levels → after ≡ pages → separators ≡ none ++ record { key = key; page = root } ∷ []
-    → none ≡ [] → node_at layout pages root ≡ Some top → key ≡ key_of layout (slice_index_or top.rows 0 [])
-    → length pages ≤ 2 ^ 20 → All (IsUnmarked seen) (pages_of levels) → 20 ≤ depth
-    → NoLevels layout separators seen depth told after → told → ⊥
-root_missing layout pages after root key top separators none seen levels depth told tree same pushed empty read key_is
-    few unmarked deep never is =
+-- a map from which a page was read has few pages, since it isn't spent
+pub few_read : {T : Type 0} (top : T) (result : Result T PagesError) (p : PageMap) (image : List Sector) (number : ℕ)
+    → result ≡ Ok top → (is_spent p ≡ true → result ≡ Err Spent) → length (pages_of_map p image) ≡ page_count p
+    → number ≡ page_count p → (is_spent p ≡ false → number ≤ 921600) → length (pages_of_map p image) ≤ 2 ^ 20
+few_read top result p image number was spent_if counted count few =
+    few_pages (pages_of_map p image) (page_count p) number counted count
+    (few (false_unless (is_spent p) (λ spent. ok_or_err top Spent (sym was ∙ spent_if spent))))
+
+pub root_missing : (layout view : RowLayout) (pages after : List (Option Sector)) (root number : ℕ) (key : List ℕ)
+    (top : Node) (separators none : List Separator) (seen : List Bool) (levels : List (List TreeNode)) (depth : ℕ)
+    (told : Type 0) → layout ≡ view → root ≡ number → (root ≡ 0 → ⊥) → IsTreeOrEmpty view pages number levels
+    → after ≡ pages → separators ≡ none ++ record { key = key; page = root } ∷ [] → none ≡ []
+    → node_at layout pages root ≡ Some top → top.layout ≡ layout
+    → key ≡ key_of top.layout (slice_index_or top.rows 0 []) → length pages ≤ 2 ^ 20
+    → All (IsUnmarked seen) (pages_of levels) → 20 ≤ depth → NoLevels layout separators seen depth told after
+    → told → ⊥
+root_missing layout view pages after root number key top separators none seen levels depth told layout_is root_is some
+    holds same pushed empty read top_is key_is few unmarked deep never is =
+    let tree : IsTree layout pages root levels =
+    root_held layout view pages root number levels layout_is root_is some holds in
+    let least : key ≡ key_of layout (slice_index_or top.rows 0 []) =
+    key_is ∙ ap (λ (f : RowLayout). key_of f (slice_index_or top.rows 0 [])) top_is in
     let under : IsUnder layout pages (record { key = key; page = root } ∷ []) levels =
-    tree_under layout pages root key top levels read key_is tree in
+    tree_under layout pages root key top levels read least tree in
     never is levels
     (subst (λ (n : List Separator). IsUnder layout after n levels)
     (sym (root_separator separators none key root pushed empty))

@@ -1,7 +1,7 @@
 -- A level is read and marked, page by page.
 use Rattle.std.proofs.Common.{◌≡◌, ◌≤◌, ◌<◌, ◌+◌, ℕ, Bool, List, [], ◌∷◌, ◌++◌, length, length-append, map, take, sym}
 use Rattle.std.proofs.Common.{ap}
-use Rattle.std.proofs.Common.{subst, ◌∙◌}
+use Rattle.std.proofs.Common.{subst, ◌∙◌, arith}
 use Rattle.std.specs.Prelude.{slice_index_or, Option}
 use Rattle.std.proofs.lemmas.List.{length-map}
 use Rattle.station.specs.Disk.{Sector}
@@ -98,7 +98,7 @@ module _ {D : Type 0} (device : Devices D) where
         (subst (λ (p : List (Option Sector)). IsOnPage layout p kind here.node) (sym (same h)) here.stands)
 
     -- an inner page whose rows name pages
-    pub inner_next : (other : RowLayout) (rows : List (List ℕ)) (lower next : List Separator)
+    inner_next : (other : RowLayout) (rows : List (List ℕ)) (lower next : List Separator)
         → OnPages device two mid (λ pages. HasSeparator layout pages Inner separator rows) → other ≡ layout
         → next ≡ lower ++ map (separator_in other) rows
         → map separator_row (map (separator_in other) rows) ≡ rows
@@ -113,6 +113,26 @@ module _ {D : Type 0} (device : Devices D) where
           level_next layout pages Inner separators place was.0 separator rows low is was.1 (named Inner rows has h a),
           subst (λ all. Lists layout all next) (sym (rows_more was.0 separator.page rows))
               (subst (λ f. Lists f (rows_of was.0 ++ rows) next) layout_is more),
+        )
+
+    -- An inner page was read and marked, and its rows name two pages at least.
+    pub inner_read : (three : PageMap) (last : D) (later : List Bool) (other : RowLayout) (rows : List (List ℕ))
+        (lower next : List Separator) (blamed : Type 0) → OnlyReads device blamed mid last → IsUnchanged two three
+        → (device.is_honest mid → Agrees two (device.state mid).disk → Agrees three (device.state last).disk)
+        → IsOpen three → Marks marks (separator.page ∷ []) later
+        → OnPages device two mid (λ pages. HasSeparator layout pages Inner separator rows) → other ≡ layout
+        → 2 ≤ length rows → next ≡ lower ++ map (separator_in other) rows
+        → map separator_row (map (separator_in other) rows) ≡ rows → place ≤ length lower
+        → OnPages device one first (λ pages. FindsInner layout pages (take place separators) lower)
+        → ReadsPages one three first last seen later (separator_pages (take (place + 1) separators))
+        × (place + 1 ≤ length next)
+        × OnPages device one first (λ pages. FindsInner layout pages (take (place + 1) separators) next)
+    inner_read three last later other rows lower next blamed only unchanged agrees is_open marked has layout_is some
+        added back more finds = (
+          reads_next one two three first mid last seen marks later separators place separator blamed reads only
+              unchanged agrees is_open low is marked,
+          omega (arith, some, more, count_listed other rows lower next added),
+          inner_next other rows lower next has layout_is added back finds,
         )
 
     -- so many names are no more than the rows of the level

@@ -1,5 +1,5 @@
 -- What a commit does, in words of the map of pages and of the device.
-use Rattle.std.specs.Prelude.{◌≡◌, ◌⊎◌, List, [], false, Result, Err, OnOk}
+use Rattle.std.specs.Prelude.{◌≡◌, ◌⊎◌, List, [], true, false, Result, Err, OnOk, OnErr, IsOk}
 use Rattle.station.specs.Disk.{Sector}
 use Rattle.station.specs.State.{SameConsole}
 use Rattle.station.specs.History.{Through}
@@ -9,8 +9,10 @@ use Rattle.pages.specs.Image.{Map, IsCommitted, map_of}
 use Rattle.pages.specs.Changes.{BeforeOrAfter}
 use Rattle.pages.specs.Cache.{Gathers}
 use Rattle.pages.specs.Volumes.{volume_of}
-use Rattle.pages.specs.Pages.{committed_of, map_now, changed_pages_of, catalog_of, mark_of, cache_of, is_spent}
-use Rattle.pages.specs.Pages.{Agrees, HasChanges, SamePages, next_generation}
+use Rattle.pages.specs.Pages.{committed_of, map_now, changed_pages_of, filled_of, catalog_of, mark_of, cache_of}
+use Rattle.pages.specs.Pages.{is_spent}
+use Rattle.pages.specs.Pages.{Agrees, HasChanges, IsFull, SamePages, next_generation}
+use Rattle.pages.specs.Edits.{SameCache, SameCapacity, IfFull}
 use Rattle.pages.specs.declared.error.PagesError.{PagesError}
 use Rattle.pages.specs.declared.error.PagesError.TheVariants.{Full, Memory}
 use Rattle.pages.specs.declared.page_map.PageMap.{PageMap}
@@ -36,6 +38,24 @@ IsAsCommitted p = (image : List Sector) → map_now p image ≡ map_of image (co
 abbrev pub GathersChanges : PageMap → PageMap → Type 0
 GathersChanges old new = (image : List Sector)
     → Gathers (changed_pages_of old) (map_now old image).pages (cache_of old) (cache_of new)
+
+-- After `Ok`, the changed pages come into the cache, so far as memory and its capacity allow. A refusal leaves the
+-- cache.
+pub record CachesChanges {T : Type 0} (result : Result T PagesError) (old new : PageMap) : Type 0 where
+  pub gathers : OnOk result (GathersChanges old new)
+  pub cache : OnErr result (SameCache old new)
+  pub capacity : SameCapacity old new
+
+-- after `Ok`, the map is that of the last commit, nothing is changed, and the value is not spent
+pub record SettlesChanges {T : Type 0} (result : Result T PagesError) (new : PageMap) : Type 0 where
+  pub committed : OnOk result (IsAsCommitted new)
+  pub changed_pages : OnOk result (changed_pages_of new ≡ [])
+  pub filled : OnOk result (filled_of new ≡ 0)
+  pub unspent : OnOk result (is_spent new ≡ false)
+
+-- after a refusal, the value is spent
+abbrev pub IsSpentOnErr : {T : Type 0} → Result T PagesError → PageMap → Type 0
+IsSpentOnErr result p = OnErr result (is_spent p ≡ true)
 
 -- a refusal for lack of sectors or generations, or of memory
 abbrev pub IsRefusalForRoom : {T : Type 0} → Result T PagesError → Type 0
@@ -72,6 +92,13 @@ module _ {D : Type 0} (device : Devices D) where
   Advances result old new before after = IfDiskAgrees old before
       (HasChanges old → OnOk result (map_on new after ≡ next_generation (map_on old before)))
 
+  -- After `Ok`, the disk holds the map, with the same pages. It is of the next generation if something was changed.
+  pub record HoldsNewMap {T : Type 0} (result : Result T PagesError) (old new : PageMap) (before after : D) :
+      Type 0 where
+    pub agrees : HoldsNew result old new before after
+    pub map : KeepsPages result old new before after
+    pub advances : Advances result old new before after
+
   -- if the device is honest, and its disk holds the volume
   abbrev pub IfDiskHolds : VolumeMap → D → Type 0 → Type 0
   IfDiskHolds m now claim = device.is_honest now → IsCommitted (volume_of m) (device.state now).disk → claim
@@ -90,6 +117,20 @@ module _ {D : Type 0} (device : Devices D) where
   abbrev pub DoesNothing : D → D → Type 0
   DoesNothing old new = device.is_honest old → (device.state new ≡ device.state old)
       × (device.history new ≡ device.history old)
+
+  -- if nothing was changed, nothing is done; and `Ok` is returned, unless the value is spent
+  pub record RestsIfUnchanged {T : Type 0} (result : Result T PagesError) (old new : PageMap) (before after : D) :
+      Type 0 where
+    pub rests : IfAtRest old (new ≡ old)
+    pub nothing : IfUnchanged old (DoesNothing before after)
+    pub idle : IfUnspent old (IfUnchanged old (IsOk result))
+
+  -- `Full` is returned only if too few sectors are free or no generation is left, and then nothing was done. In that
+  -- case `Full` is returned, or `Memory`, unless the value is spent.
+  pub record RefusesForRoom {T : Type 0} (result : Result T PagesError) (p : PageMap) (before after : D) : Type 0 where
+    pub full : IfFull result (IsFull p)
+    pub told : IfUnspent p (IsFull p → IsRefusalForRoom result)
+    pub unchanged : IfFull result (DoesNothing before after)
 
   -- on an honest device nothing was printed or read
   abbrev pub KeepsConsole : D → D → Type 0

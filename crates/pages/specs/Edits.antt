@@ -1,5 +1,7 @@
 -- What a call that changes a page leaves of the map of pages, and which refusals it reports.
-use Rattle.std.specs.Prelude.{◌≡◌, ◌≤◌, ◌+◌, ◌↔◌, ℕ, List, Option, None, Result, Err, true, false, slice_set}
+use Rattle.std.specs.Prelude.{◌≡◌, ◌≤◌, ◌+◌, ◌↔◌, ℕ, List, Option, None, Some, Result, Err, OnOk, OnErr, IfOk, true}
+use Rattle.std.specs.Prelude.{false}
+use Rattle.std.specs.Prelude.{slice_set}
 use Rattle.station.specs.Disk.{Sector}
 use Rattle.pages.specs.Changes.{ChangesPage}
 use Rattle.pages.specs.Cache.{cache_without}
@@ -50,6 +52,27 @@ ForgetsPage old new page = cache_of new ≡ cache_without page (cache_of old)
 -- of the pages that were changed, at most so many more have bytes
 abbrev pub FillsAtMost : ℕ → PageMap → PageMap → Type 0
 FillsAtMost most old new = filled_of new ≤ filled_of old + most
+
+-- After `Ok`, a page has these bytes. A call that adds a page returns its number.
+abbrev pub PutsPage : {T : Type 0} → Result T PagesError → PageMap → PageMap → ℕ → Sector → Type 0
+PutsPage result old new page bytes = OnOk result (ReplacesPage (Some bytes) old new page)
+
+abbrev pub AddsPage : Result ℕ PagesError → PageMap → PageMap → Sector → Type 0
+AddsPage result old new bytes = IfOk result (ReplacesPage (Some bytes) old new)
+
+-- after a refusal, the map and its changes are the same
+abbrev pub SameMapOnErr : {T : Type 0} → Result T PagesError → PageMap → PageMap → Type 0
+SameMapOnErr result old new = OnErr result (SameMap old new)
+
+abbrev pub SameChangesOnErr : {T : Type 0} → Result T PagesError → PageMap → PageMap → Type 0
+SameChangesOnErr result old new = OnErr result (SameChanges old new)
+
+abbrev pub SameFilledOnErr : {T : Type 0} → Result T PagesError → PageMap → PageMap → Type 0
+SameFilledOnErr result old new = OnErr result (SameFilled old new)
+
+-- after a refusal, the cache is the same
+abbrev pub SameCacheOnErr : {T : Type 0} → Result T PagesError → PageMap → PageMap → Type 0
+SameCacheOnErr result old new = OnErr result (SameCache old new)
 
 -- a page is not in the map
 abbrev pub LacksPage : PageMap → ℕ → Type 0

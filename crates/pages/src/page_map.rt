@@ -1,7 +1,6 @@
 //! The pages of a volume, as their user sees them: a finite map from page numbers to pages, beside the page of the catalog's root.
-ghost use Rattle.std.specs.Prelude.{◌≡◌, ◌⊎◌, ◌+◌, ◌^◌, is_some, IfSome, IsOkUnless, if◌then◌else◌, ◌<◌, ◌≤◌, Err, Some, None, true, false, replicate, List, [], length, map, IsOk, IfOk, OnOk, OnErr};
+ghost use Rattle.std.specs.Prelude.{◌≡◌, ◌⊎◌, ◌+◌, ◌^◌, is_some, IfSome, IsOkUnless, if◌then◌else◌, ◌<◌, ◌≤◌, Err, Some, None, true, false, replicate, List, length, IfOk, OnOk, OnErr};
 ghost use Rattle.station.specs.Disk.{Sector};
-ghost use Rattle.station.specs.Calls.{OnlyReads};
 ghost use Rattle.pages.specs.Layout.{version_of};
 ghost use Rattle.pages.specs.Errors.{IsOpenError, IsReadError, FailsWithError};
 ghost use Rattle.pages.specs.Errors.{IsEditRefusal, IsAllocateRefusal, IsCommitRefusal};
@@ -51,17 +50,17 @@ pub struct PageMap {
 }
 
 impl PageMap {
-    ghost use Rattle.pages.specs.Pages.{committed_of, map_now, page_of, changed_pages_of, filled_of, FillsPage, catalog_of, mark_of, is_spent, sectors_of, page_count, IsPage, IsFull, Agrees, IsOpen, SameCommitted, IsUnchanged, KeepsCommitted, cache_of};
+    ghost use Rattle.pages.specs.Pages.{committed_of, map_now, page_of, changed_pages_of, filled_of, FillsPage, catalog_of, mark_of, is_spent, sectors_of, page_count, IsPage, Agrees, IsOpen, SameCommitted, IsUnchanged, KeepsCommitted, cache_of};
     ghost use Rattle.std.specs.Map.{lookup};
     ghost use Rattle.std.specs.Prelude.{Ok, nat_eq, option_copied, Contains, IsSome};
     ghost use Rattle.lru.specs.LruCache.{lru_cache, promoted};
     ghost use Rattle.pages.specs.Cache.{Loads};
     ghost use Rattle.station.specs.Disk.{Disk};
-    ghost use Rattle.pages.specs.Commits.{map_on, IfDiskAgrees, IfUnchanged, IfUnspent, IfAtRest, IsAsCommitted, GathersChanges, KeepsAgreement, HoldsNew, KeepsPages, Advances, LeavesOldOrNew, DoesNothing, KeepsConsole, IsRefusalForRoom};
-    ghost use Rattle.pages.specs.Edits.{SameMap, SameChanges, SameFilled, SameMark, SameSectors, SameCache, SameCapacity, ReplacesPage, AddsChange, ForgetsPage, FillsAtMost, LacksPage, ReportsSpent, ReportsFull, IfFull};
-    ghost use Rattle.pages.specs.Reads.{IfChanged, IfCached, RecallsPage, IsPageReadRefusal};
+    ghost use Rattle.pages.specs.Commits.{map_on, IfDiskAgrees, IsAsCommitted, KeepsAgreement, LeavesOldOrNew, HoldsNewMap, SettlesChanges, RestsIfUnchanged, RefusesForRoom, IsSpentOnErr, CachesChanges};
+    ghost use Rattle.pages.specs.Edits.{SameMap, SameChanges, SameFilled, SameMark, SameSectors, SameCache, SameCapacity, SameMapOnErr, SameChangesOnErr, SameFilledOnErr, SameCacheOnErr, ReplacesPage, PutsPage, AddsPage, AddsChange, ForgetsPage, FillsAtMost, LacksPage, ReportsSpent, ReportsFull, IfFull};
+    ghost use Rattle.pages.specs.Reads.{IfChanged, StaysIfChanged, StaysIfCached, LeavesDeviceIfCached, LeavesDeviceIfNone, LoadsNothingIfAbsent, SameOnErr, ReadsPage, RecallsPage, IsPageReadRefusal};
     ghost use Rattle.pages.specs.Opens.{IsJustOpened, HasFilled, HasCapacity, LeavesPossible, Syncs, SyncsAtMost, HoldsCommitted, RefusesDisk, IfHoldsMap, IfHoldsForeign, IfDamaged};
-    ghost use Rattle.pages.specs.Devices.{KeepsHonesty, KeepsSectors, BlamesDevice};
+    ghost use Rattle.pages.specs.Devices.{KeepsHonesty, KeepsSectors, BlamesDevice, OnlyReadsDevice, OnlyWritesDevice, FitsDevice};
 
     /// Opens the volume of a device. It syncs first, and writes nothing. The cache holds at most `capacity` pages, from 1 to 4,096.
     pub fn open<D: Device>(
@@ -246,22 +245,20 @@ impl PageMap {
         page: u32,
     ) -> Result<Option<[u8; 4096]>, PagesError>
         requires open { IsOpen self.old }
-        requires sectors { sectors_of self.old ≤ D.sectors device.old }
-        ensures only { OnlyReads D.Device (result ≡ Err PagesError.Device) device.old device.new }
-        ensures page { IfDiskAgrees D.Device self.old device.old (IfOk result
-            (λ bytes. bytes ≡ page_of (map_on D.Device self.old device.old) page)) }
+        requires sectors { FitsDevice D.Device self.old device.old }
+        ensures only { OnlyReadsDevice D.Device result device.old device.new }
+        ensures page { ReadsPage D.Device result self.old device.old page }
 
         // The map stays, and what is known of it. A refusal changes nothing.
         ensures unchanged { IsUnchanged self.old self.new }
         ensures agrees { KeepsAgreement D.Device self.old self.new device.old device.new }
         ensures open { IsOpen self.new }
-        ensures err { OnErr result (self.new ≡ self.old) }
+        ensures err { SameOnErr result self.old self.new }
 
         // A page in memory is answered without the device, and so is none. The cache has another as its most recently used one, if memory has a place for it.
-        ensures changed { IfChanged self.old page
-            ((device.new ≡ device.old) × (self.new ≡ self.old)) }
-        ensures absent { result ≡ Ok None → device.new ≡ device.old }
-        ensures hit { IfCached self.old page (device.new ≡ device.old) }
+        ensures changed { StaysIfChanged page self.old self.new device.old device.new }
+        ensures absent { LeavesDeviceIfNone result device.old device.new }
+        ensures hit { LeavesDeviceIfCached page self.old device.old device.new }
         ensures recalls { RecallsPage self.old self.new page result }
         ensures capacity { SameCapacity self.old self.new }
 
@@ -293,15 +290,15 @@ impl PageMap {
         bytes: &mut [u8; 4096],
     ) -> Result<bool, PagesError>
         requires open { IsOpen self.now }
-        requires sectors { sectors_of self.now ≤ D.sectors device.old }
-        ensures only { OnlyReads D.Device (result ≡ Err PagesError.Device) device.old device.new }
+        requires sectors { FitsDevice D.Device self.now device.old }
+        ensures only { OnlyReadsDevice D.Device result device.old device.new }
         ensures page { IfDiskAgrees D.Device self.now device.old (IfOk result
             (λ is_there. page_of (map_on D.Device self.now device.old) page
             ≡ (if is_there then Some bytes.new else None))) }
 
         // A page in memory is read without the device, and so is none.
         ensures changed { IfChanged self.now page (device.new ≡ device.old) }
-        ensures hit { IfCached self.now page (device.new ≡ device.old) }
+        ensures hit { LeavesDeviceIfCached page self.now device.old device.new }
         ensures absent { result ≡ Ok false
             → (device.new ≡ device.old) × (bytes.new ≡ bytes.old) }
 
@@ -332,8 +329,8 @@ impl PageMap {
     #[inline(never)]
     pub fn load<D: Device>(&mut self, device: &mut D, page: u32) -> Result<(), PagesError>
         requires open { IsOpen self.old }
-        requires sectors { sectors_of self.old ≤ D.sectors device.old }
-        ensures only { OnlyReads D.Device (result ≡ Err PagesError.Device) device.old device.new }
+        requires sectors { FitsDevice D.Device self.old device.old }
+        ensures only { OnlyReadsDevice D.Device result device.old device.new }
 
         // The map stays, and what is known of it. A refusal leaves the cache too.
         ensures unchanged { IsUnchanged self.old self.new }
@@ -342,12 +339,9 @@ impl PageMap {
         ensures err { OnErr result (SameCache self.old self.new) }
 
         // What is in memory stays as it is, and the device isn't asked. Nor is it for a page that the map hasn't, and the cache stays.
-        ensures changed { IfChanged self.old page
-            ((device.new ≡ device.old) × (self.new ≡ self.old)) }
-        ensures hit { IfCached self.old page
-            ((device.new ≡ device.old) × (self.new ≡ self.old)) }
-        ensures absent { (image : List Sector) → page_of (map_now self.old image) page ≡ None
-            → (device.new ≡ device.old) × SameCache self.old self.new }
+        ensures changed { StaysIfChanged page self.old self.new device.old device.new }
+        ensures hit { StaysIfCached page self.old self.new device.old device.new }
+        ensures absent { LoadsNothingIfAbsent page self.old self.new device.old device.new }
         ensures loads { Loads page (cache_of self.old) (cache_of self.new) }
 
         // `Spent` comes exactly where the value is spent, and otherwise the device alone refuses.
@@ -408,16 +402,16 @@ impl PageMap {
     pub fn edit(&mut self, page: u32, bytes: &[u8; 4096]) -> Result<(), PagesError>
         requires open { IsOpen self.old }
         requires page { IsPage self.old page }
-        ensures map { OnOk result (ReplacesPage (Some bytes.now) self.old self.new page) }
+        ensures map { PutsPage result self.old self.new page bytes.now }
         ensures changes_page { OnOk result (AddsChange self.old self.new page) }
-        ensures unchanged { OnErr result (SameChanges self.old self.new) }
+        ensures unchanged { SameChangesOnErr result self.old self.new }
         ensures filled { FillsAtMost 1 self.old self.new }
         ensures fills { OnOk result (FillsPage self.old self.new page) }
-        ensures unfilled { OnErr result (SameFilled self.old self.new) }
-        ensures err { OnErr result (SameMap self.old self.new) }
+        ensures unfilled { SameFilledOnErr result self.old self.new }
+        ensures err { SameMapOnErr result self.old self.new }
         ensures capacity { SameCapacity self.old self.new }
         ensures forgets { OnOk result (ForgetsPage self.old self.new page) }
-        ensures cache { OnErr result (SameCache self.old self.new) }
+        ensures cache { SameCacheOnErr result self.old self.new }
         ensures keeps { KeepsCommitted self.old self.new }
         ensures cause { IsEditRefusal result }
         ensures spent { ReportsSpent self.old result }
@@ -439,16 +433,16 @@ impl PageMap {
         requires page { IsPage self.old page }
 
         // After `Ok` the page has these bytes.
-        ensures map { OnOk result (ReplacesPage (Some bytes.now) self.old self.new page) }
+        ensures map { PutsPage result self.old self.new page bytes.now }
         ensures changes_page { OnOk result (AddsChange self.old self.new page) }
         ensures fills { OnOk result (FillsPage self.old self.new page) }
         ensures forgets { OnOk result (ForgetsPage self.old self.new page) }
 
         // A refusal changes nothing.
-        ensures err { OnErr result (SameMap self.old self.new) }
-        ensures unchanged { OnErr result (SameChanges self.old self.new) }
-        ensures unfilled { OnErr result (SameFilled self.old self.new) }
-        ensures cache { OnErr result (SameCache self.old self.new) }
+        ensures err { SameMapOnErr result self.old self.new }
+        ensures unchanged { SameChangesOnErr result self.old self.new }
+        ensures unfilled { SameFilledOnErr result self.old self.new }
+        ensures cache { SameCacheOnErr result self.old self.new }
 
         // Whatever the result is.
         ensures filled { FillsAtMost 1 self.old self.new }
@@ -472,16 +466,16 @@ impl PageMap {
         // After `Ok` the page has these bytes.
         ensures page { IfOk result (IsPage self.old) }
         ensures unused { IfOk result (LacksPage self.old) }
-        ensures map { IfOk result (ReplacesPage (Some bytes.now) self.old self.new) }
+        ensures map { AddsPage result self.old self.new bytes.now }
         ensures changes_page { IfOk result (AddsChange self.old self.new) }
         ensures fills { IfOk result (FillsPage self.old self.new) }
         ensures forgets { IfOk result (ForgetsPage self.old self.new) }
 
         // A refusal changes nothing.
-        ensures err { OnErr result (SameMap self.old self.new) }
-        ensures unchanged { OnErr result (SameChanges self.old self.new) }
-        ensures unfilled { OnErr result (SameFilled self.old self.new) }
-        ensures cache { OnErr result (SameCache self.old self.new) }
+        ensures err { SameMapOnErr result self.old self.new }
+        ensures unchanged { SameChangesOnErr result self.old self.new }
+        ensures unfilled { SameFilledOnErr result self.old self.new }
+        ensures cache { SameCacheOnErr result self.old self.new }
         ensures same { IfFull result (self.new ≡ self.old) }
 
         // Whatever the result is.
@@ -504,17 +498,16 @@ impl PageMap {
         requires open { IsOpen self.old }
         ensures page { IfOk result (IsPage self.old) }
         ensures unused { IfOk result (LacksPage self.old) }
-        ensures map { IfOk result
-            (ReplacesPage (Some (replicate 4096 0)) self.old self.new) }
+        ensures map { AddsPage result self.old self.new (replicate 4096 0) }
         ensures changes_page { IfOk result (AddsChange self.old self.new) }
-        ensures unchanged { OnErr result (SameChanges self.old self.new) }
+        ensures unchanged { SameChangesOnErr result self.old self.new }
         ensures filled { FillsAtMost 1 self.old self.new }
         ensures fills { IfOk result (FillsPage self.old self.new) }
-        ensures unfilled { OnErr result (SameFilled self.old self.new) }
-        ensures err { OnErr result (SameMap self.old self.new) }
+        ensures unfilled { SameFilledOnErr result self.old self.new }
+        ensures err { SameMapOnErr result self.old self.new }
         ensures capacity { SameCapacity self.old self.new }
         ensures forgets { IfOk result (ForgetsPage self.old self.new) }
-        ensures cache { OnErr result (SameCache self.old self.new) }
+        ensures cache { SameCacheOnErr result self.old self.new }
         ensures keeps { KeepsCommitted self.old self.new }
         ensures full { ReportsFull self.old result }
         ensures same { IfFull result (self.new ≡ self.old) }
@@ -534,13 +527,13 @@ impl PageMap {
         requires page { IsPage self.old page }
         ensures map { OnOk result (ReplacesPage None self.old self.new page) }
         ensures changes_page { OnOk result (AddsChange self.old self.new page) }
-        ensures unchanged { OnErr result (SameChanges self.old self.new) }
+        ensures unchanged { SameChangesOnErr result self.old self.new }
         ensures filled { filled_of self.new ≤ filled_of self.old }
-        ensures unfilled { OnErr result (SameFilled self.old self.new) }
-        ensures err { OnErr result (SameMap self.old self.new) }
+        ensures unfilled { SameFilledOnErr result self.old self.new }
+        ensures err { SameMapOnErr result self.old self.new }
         ensures capacity { SameCapacity self.old self.new }
         ensures forgets { OnOk result (ForgetsPage self.old self.new page) }
-        ensures cache { OnErr result (SameCache self.old self.new) }
+        ensures cache { SameCacheOnErr result self.old self.new }
         ensures keeps { KeepsCommitted self.old self.new }
         ensures cause { IsEditRefusal result }
         ensures spent { ReportsSpent self.old result }
@@ -634,46 +627,30 @@ impl PageMap {
     /// that returns a `Result` answers `Spent`, until the volume is opened again.
     pub fn commit<D: Device>(&mut self, device: &mut D) -> Result<(), PagesError>
         requires open { IsOpen self.old }
-        requires sectors { sectors_of self.old ≤ D.sectors device.old }
-        ensures honest { KeepsHonesty D.Device device.old device.new }
-        ensures sectors { KeepsSectors D.Device device.old device.new }
-        ensures failures { BlamesDevice D.Device result device.old device.new }
-        ensures console { KeepsConsole D.Device device.old device.new }
+        requires sectors { FitsDevice D.Device self.old device.old }
+        ensures only { OnlyWritesDevice D.Device result device.old device.new }
 
         // At each moment a crash leaves the map of the last commit, or this one.
         ensures moments { LeavesOldOrNew D.Device self.old device.old device.new }
 
-        // After `Ok` the disk holds this one.
-        ensures agrees { HoldsNew D.Device result self.old self.new device.old device.new }
-        ensures map { KeepsPages D.Device result self.old self.new device.old device.new }
-        ensures committed { OnOk result (IsAsCommitted self.new) }
-        ensures changed_pages { OnOk result (changed_pages_of self.new ≡ []) }
-        ensures filled { OnOk result (filled_of self.new ≡ 0) }
+        // After `Ok` the disk holds this one: the map of the next generation, where something was changed.
+        ensures holds { HoldsNewMap D.Device result self.old self.new device.old device.new }
+        ensures settles { SettlesChanges result self.new }
         ensures mark { SameMark self.old self.new }
-        ensures unspent { OnOk result (is_spent self.new ≡ false) }
+        ensures same_sectors { SameSectors self.old self.new }
+        ensures open { IsOpen self.new }
 
-        // Where something was changed, it is the map of the next generation, and else nothing is other than before.
-        ensures advances { Advances D.Device result self.old self.new device.old device.new }
-        ensures rests { IfAtRest self.old (self.new ≡ self.old) }
-
-        // With nothing changed nothing is done.
-        ensures nothing { IfUnchanged self.old (DoesNothing D.Device device.old device.new) }
-        ensures idle { IfUnspent self.old (IfUnchanged self.old (IsOk result)) }
+        // With nothing changed nothing is done, and nothing is other than before.
+        ensures rest { RestsIfUnchanged D.Device result self.old self.new device.old device.new }
 
         // `Full` means that too few sectors are free, or that no generation is left, and then nothing was done.
-        ensures full { IfFull result (IsFull self.old) }
-        ensures told { IfUnspent self.old (IsFull self.old → IsRefusalForRoom result) }
-        ensures unchanged { IfFull result (DoesNothing D.Device device.old device.new) }
-        ensures open { IsOpen self.new }
-        ensures same_sectors { SameSectors self.old self.new }
-        ensures refused { OnErr result (is_spent self.new ≡ true) }
+        ensures room { RefusesForRoom D.Device result self.old device.old device.new }
+        ensures refused { IsSpentOnErr result self.new }
         ensures cause { IsCommitRefusal result }
         ensures spent { ReportsSpent self.old result }
 
         // The pages that were changed come into the cache, so far as memory and its capacity allow.
-        ensures gathers { OnOk result (GathersChanges self.old self.new) }
-        ensures cache { OnErr result (SameCache self.old self.new) }
-        ensures capacity { SameCapacity self.old self.new }
+        ensures caches { CachesChanges result self.old self.new }
     {
         if self.spent {
             return Err(PagesError::Spent);

@@ -1,11 +1,10 @@
 //! File statements, whatever the files are kept in.
-ghost use Rattle.std.specs.Prelude.{◌≡◌, ◌≤◌, ◌<◌, true, false, List, length, Err, IsOk, OnErr};
+ghost use Rattle.std.specs.Prelude.{◌≡◌, ◌≤◌, ◌<◌, List, length};
 ghost use Rattle.station.specs.Disk.{Disk, Sector, IsCrashImage};
 ghost use Rattle.records.specs.Files.{Files};
-ghost use Rattle.records.specs.Calls.{Changes, IsIdleUnless, Rests};
 ghost use Rattle.records.specs.Connector.{Entry, Connector};
-ghost use Rattle.records.specs.FileStep.{entry_at, area, Suits, needs_no_store, makes_file, has_changed, can_change_files, SameConnectors};
-ghost use Rattle.records.specs.VerbCalls.{ReturnsStep, ChangesByStep, LacksOnChange, LacksNothing};
+ghost use Rattle.records.specs.FileStep.{entry_at, Suits};
+ghost use Rattle.records.specs.VerbCalls.{CallsStore, SureWithoutStore, ReturnsStep, ChangesByStep, LacksOnChange, LacksByVerb, SameOnRefusal};
 
 use crate::fault::StoreFault;
 use crate::keeps::Keeps;
@@ -38,13 +37,12 @@ pub trait FileVerbs: Keeps {
         requires file { file < length (entries self.old) }
         requires verb { Suits (entry_at (entries self.old) file) verb }
         requires bytes { length bytes.old ≡ (entry_at (entries self.old) file).spec.record_length }
-        ensures changes { Changes Self.Keeps D.Device result self.old device.old self.new
+        ensures store { CallsStore Self.Keeps D.Device verb result self.old device.old self.new
             device.new }
         ensures entries { entries self.new ≡ entries self.old }
 
         // A CLOSE, and what a test of the connectors bars, isn't refused, and its step asks nothing of the files.
-        ensures sure { needs_no_store (entries self.old) (connectors self.old) file verb ≡ true
-            → IsOk result }
+        ensures sure { SureWithoutStore connectors entries self.old file verb result }
         ensures step { ReturnsStep Self.Keeps D.Device entries connectors self.old device.old
             file verb bytes.old number.old result self.new bytes.new number.new }
         ensures turns { ChangesByStep Self.Keeps D.Device entries connectors self.old device.old
@@ -54,13 +52,9 @@ pub trait FileVerbs: Keeps {
         // disk holds; `Old` only by an OPEN that would make the file.
         ensures full { LacksOnChange Self.Keeps D.Device entries connectors self.old device.old
             file verb bytes.old number.old result }
-        ensures never_full { can_change_files verb ≡ false → LacksNothing result }
-        ensures old { result ≡ Err StoreFault.Old → makes_file verb ≡ true }
-        ensures idle { IsIdleUnless D.Device (has_changed verb) result device.old device.new }
-        ensures refused { OnErr result (SameConnectors (connectors self.old) (connectors self.new)
-            (area bytes.old number.old) (area bytes.new number.new)) }
-        ensures rests { OnErr result
-            (Rests Self.Keeps D.Device self.old device.old self.new device.new) };
+        ensures lacks { LacksByVerb verb result }
+        ensures refused { SameOnRefusal connectors self.old bytes.old number.old result self.new
+            bytes.new number.new };
 
     /// Whatever a crash leaves of a disk holds the files.
     ghost held: { (verbs : Self) (disk : Disk) (image : List Sector) (files : Files)

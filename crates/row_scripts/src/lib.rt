@@ -5,13 +5,15 @@ mod cases;
 mod counters;
 mod fault;
 mod repeats;
+mod scripts;
 mod tally;
 mod texts;
 mod words;
 
-pub use cases::{Case, read_cases};
+pub use cases::Case;
 pub use fault::Fault;
 pub use repeats::Row;
+pub use scripts::{CheckCase, run_scripts};
 pub use tally::{Difference, Tally};
 pub use texts::{escape, put_text, unquote};
 pub use words::{Words, number_of};

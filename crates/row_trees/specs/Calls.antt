@@ -1,14 +1,14 @@
 -- What the calls on a tree of rows are asked for, said once.
 use Rattle.std.specs.Prelude.{◌≡◌, ◌<◌, ◌+◌, ◌++◌, ℕ, Bool, true, false, List, length, None, IsSome}
 use Rattle.std.specs.Prelude.{Result, Ok, Err, OnOk}
-use Rattle.station.specs.Calls.{OnlyReads}
 use Rattle.station.specs.declared.device.Device.{Ghosts as Devices}
-use Rattle.pages.specs.Pages.{catalog_of, committed_of, changed_pages_of, Agrees, IsOpen, IsUnchanged, SameCommitted}
+use Rattle.pages.specs.Pages.{committed_of, changed_pages_of, Agrees, IsUnchanged}
 use Rattle.pages.specs.Use.{free_count}
 use Rattle.pages.specs.declared.error.PagesError.{PagesError}
 use Rattle.pages.specs.declared.error.PagesError.TheVariants.{Full, Damaged}
 use Rattle.pages.specs.declared.page_map.PageMap.{PageMap}
 use Rattle.btree.specs.Calls.{pages_on}
+pub use Rattle.btree.specs.Calls.{EditsPages, EditsPagesFor}
 use Rattle.btree.specs.Entries.{Entry, entry_with, with_new_entry, with_value, without_entry}
 use Rattle.btree.specs.Results.{FewChanged}
 use Rattle.chains.specs.Chain.{pages_for}
@@ -25,14 +25,6 @@ abbrev pub LeavesTree : {E : Type 0} → ChainedTree → PageMap → ChainedTree
 LeavesTree rows pages rows' pages' result = result ≡ Ok false → IsUnchanged pages pages' × (rows' ≡ rows)
 
 module _ {D : Type 0} (d : Devices D) where
-  -- A call that changes pages leaves what is committed. Where `blamed` holds, the device failed.
-  pub record EditsPages (blamed : Type 0) (old : PageMap) (device : D) (new : PageMap) (device' : D) : Type 0 where
-    pub only : OnlyReads d blamed device device'
-    pub committed : SameCommitted old new
-    pub catalog : catalog_of new ≡ catalog_of old
-    pub agrees : d.is_honest device → Agrees old (d.state device).disk → Agrees new (d.state device').disk
-    pub is_open : IsOpen new
-
   -- where the device is honest and agrees with the map of pages, and the tree stands there
   abbrev pub OnRowTree : ChainedTree → PageMap → D → (TreeLevels → Type 0) → Type 0
   OnRowTree rows pages now claim =

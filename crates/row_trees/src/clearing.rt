@@ -1,11 +1,11 @@
 //! A tree of rows gives up its pages.
 ghost use Rattle.std.specs.Prelude.{◌≡◌, ◌≢◌, ◌≤◌, [], Err, OnOk, OnErr, IfErr};
-ghost use Rattle.pages.specs.Pages.{sectors_of, filled_of, IsOpen};
-ghost use Rattle.btree.specs.Calls.{pages_on};
+ghost use Rattle.pages.specs.Pages.{filled_of, IsOpen};
+ghost use Rattle.btree.specs.Calls.{FitsDevice, pages_on};
 ghost use Rattle.btree.specs.Moves.{Moves};
 ghost use Rattle.btree.specs.Refusals.{IsChangeRefusal};
 ghost use Rattle.btree.specs.Results.{OnlyIfSpent};
-ghost use Rattle.row_trees.specs.Calls.{EditsPages, OnRowTree, ClearsTree, ReturnsNoDamage};
+ghost use Rattle.row_trees.specs.Calls.{EditsPagesFor, OnRowTree, ClearsTree, ReturnsNoDamage};
 ghost use Rattle.row_trees.specs.RowTree.{FitsForm};
 
 use crate::row_tree::RowTree;
@@ -23,9 +23,8 @@ impl RowTree {
         device: &mut D,
     ) -> Result<(), PagesError>
         requires open { IsOpen pages.old }
-        requires sectors { sectors_of pages.old ≤ D.sectors device.old }
-        ensures edits { EditsPages D.Device (result ≡ Err PagesError.Device) pages.old device.old
-            pages.new device.new }
+        requires sectors { FitsDevice D.Device pages.old device.old }
+        ensures edits { EditsPagesFor D.Device pages.old device.old pages.new device.new result }
         ensures cleared { ClearsTree D.Device self.old pages.old device.old pages.new result }
         ensures damaged { ReturnsNoDamage D.Device self.old pages.old device.old result }
         ensures filled { filled_of pages.new ≤ filled_of pages.old }
@@ -52,11 +51,10 @@ fn release_chains<D: Device>(
     device: &mut D,
 ) -> Result<(), PagesError>
     requires open { IsOpen pages.old }
-    requires sectors { sectors_of pages.old ≤ D.sectors device.old }
+    requires sectors { FitsDevice D.Device pages.old device.old }
     requires chains { record_bytes ≢ 0 }
     requires form { FitsForm record_bytes tree.now.layout }
-    ensures edits { EditsPages D.Device (result ≡ Err PagesError.Device) pages.old device.old
-        pages.new device.new }
+    ensures edits { EditsPagesFor D.Device pages.old device.old pages.new device.new result }
     ensures released { OnRowTree D.Device (record { tree = tree.now; record_bytes = record_bytes })
         pages.old device.old (λ planted. OnOk result
         (Moves (pages_on D.Device pages.old device.old) planted.chains

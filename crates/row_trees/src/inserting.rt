@@ -1,9 +1,10 @@
 //! A new row is added to a tree.
-ghost use Rattle.std.specs.Prelude.{◌≡◌, ◌≤◌, Err, length, IfErr, OnErr};
-ghost use Rattle.pages.specs.Pages.{sectors_of, IsOpen};
-ghost use Rattle.btree.specs.Refusals.{IsInsertRefusal};
+ghost use Rattle.std.specs.Prelude.{◌≡◌, length, OnErr};
+ghost use Rattle.pages.specs.Pages.{IsOpen};
+ghost use Rattle.btree.specs.Calls.{FitsDevice};
+ghost use Rattle.btree.specs.Refusals.{ErrOnlyIfInsertRefusal};
 ghost use Rattle.btree.specs.Results.{OnlyIfSpent};
-ghost use Rattle.row_trees.specs.Calls.{EditsPages, LeavesTree, InsertsRow, FindsKey, ReturnsNoDamage, ChangesFewPages, LacksPages};
+ghost use Rattle.row_trees.specs.Calls.{EditsPagesFor, LeavesTree, InsertsRow, FindsKey, ReturnsNoDamage, ChangesFewPages, LacksPages};
 ghost use Rattle.row_trees.specs.RowTree.{value_length};
 
 use crate::row_tree::RowTree;
@@ -23,11 +24,10 @@ impl RowTree {
         value: &[u8],
     ) -> Result<bool, PagesError>
         requires open { IsOpen pages.old }
-        requires sectors { sectors_of pages.old ≤ D.sectors device.old }
+        requires sectors { FitsDevice D.Device pages.old device.old }
         requires key { length key.now ≡ self.old.tree.layout.key_length }
         requires value { length value.now ≡ value_length self.old }
-        ensures edits { EditsPages D.Device (result ≡ Err PagesError.Device) pages.old device.old
-            pages.new device.new }
+        ensures edits { EditsPagesFor D.Device pages.old device.old pages.new device.new result }
         ensures inserted { InsertsRow D.Device self.old pages.old device.old self.new pages.new
             key.now value.now result }
         ensures there { FindsKey D.Device self.old pages.old device.old key.now result }
@@ -40,7 +40,7 @@ impl RowTree {
         ensures form { self.new.record_bytes ≡ self.old.record_bytes }
         ensures refused { OnErr result (self.new ≡ self.old) }
         ensures spent { OnlyIfSpent pages.old result }
-        ensures cause { IfErr result IsInsertRefusal }
+        ensures cause { ErrOnlyIfInsertRefusal result }
     {
         if self.record_bytes == 0 {
             return self.tree.insert(pages, device, key, value);

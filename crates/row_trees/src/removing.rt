@@ -1,9 +1,10 @@
 //! A row leaves a tree.
-ghost use Rattle.std.specs.Prelude.{◌≡◌, ◌≤◌, Err, IfErr};
-ghost use Rattle.pages.specs.Pages.{sectors_of, IsOpen};
+ghost use Rattle.std.specs.Prelude.{◌≡◌, IfErr};
+ghost use Rattle.pages.specs.Pages.{IsOpen};
+ghost use Rattle.btree.specs.Calls.{FitsDevice};
 ghost use Rattle.btree.specs.Refusals.{IsChangeRefusal};
 ghost use Rattle.btree.specs.Results.{OnlyIfSpent};
-ghost use Rattle.row_trees.specs.Calls.{EditsPages, LeavesTree, RemovesRow, MissesKey, ReturnsNoDamage, ChangesFewPagesOnOk};
+ghost use Rattle.row_trees.specs.Calls.{EditsPagesFor, LeavesTree, RemovesRow, MissesKey, ReturnsNoDamage, ChangesFewPagesOnOk};
 
 use crate::row_tree::RowTree;
 use crate::stored_value::first_page;
@@ -21,9 +22,8 @@ impl RowTree {
         key: &[u8],
     ) -> Result<bool, PagesError>
         requires open { IsOpen pages.old }
-        requires sectors { sectors_of pages.old ≤ D.sectors device.old }
-        ensures edits { EditsPages D.Device (result ≡ Err PagesError.Device) pages.old device.old
-            pages.new device.new }
+        requires sectors { FitsDevice D.Device pages.old device.old }
+        ensures edits { EditsPagesFor D.Device pages.old device.old pages.new device.new result }
         ensures removed { RemovesRow D.Device self.old pages.old device.old self.new pages.new
             key.now result }
         ensures missing { MissesKey D.Device self.old pages.old device.old key.now result }

@@ -1,10 +1,11 @@
 //! A row gets another record.
-ghost use Rattle.std.specs.Prelude.{◌≡◌, ◌≤◌, ◌+◌, false, Ok, Err, length, IfErr};
-ghost use Rattle.pages.specs.Pages.{sectors_of, IsOpen, IsUnchanged};
+ghost use Rattle.std.specs.Prelude.{◌≡◌, ◌+◌, false, Ok, length, IfErr};
+ghost use Rattle.pages.specs.Pages.{IsOpen, IsUnchanged};
+ghost use Rattle.btree.specs.Calls.{FitsDevice};
 ghost use Rattle.btree.specs.Refusals.{IsChangeRefusal};
 ghost use Rattle.btree.specs.Results.{OnlyIfSpent, FewChanged};
 ghost use Rattle.chains.specs.Chain.{pages_for};
-ghost use Rattle.row_trees.specs.Calls.{EditsPages, ReplacesRow, MissesKey, ReturnsNoDamage};
+ghost use Rattle.row_trees.specs.Calls.{EditsPagesFor, ReplacesRow, MissesKey, ReturnsNoDamage};
 ghost use Rattle.row_trees.specs.RowTree.{value_length};
 
 use crate::row_tree::RowTree;
@@ -25,10 +26,9 @@ impl RowTree {
         value: &[u8],
     ) -> Result<bool, PagesError>
         requires open { IsOpen pages.old }
-        requires sectors { sectors_of pages.old ≤ D.sectors device.old }
+        requires sectors { FitsDevice D.Device pages.old device.old }
         requires value { length value.now ≡ value_length self.old }
-        ensures edits { EditsPages D.Device (result ≡ Err PagesError.Device) pages.old device.old
-            pages.new device.new }
+        ensures edits { EditsPagesFor D.Device pages.old device.old pages.new device.new result }
         ensures replaced { ReplacesRow D.Device self.old pages.old device.old pages.new key.now
             value.now result }
         ensures missing { MissesKey D.Device self.old pages.old device.old key.now result }

@@ -1,5 +1,5 @@
 -- Each state that a station has been in.
-use Rattle.std.specs.Prelude.{◌≡◌, ℕ, List, [], ◌∷◌, ◌++◌, take}
+use Rattle.std.specs.Prelude.{◌≡◌, ℕ, List, [], ◌∷◌, ◌++◌, take, Bool, IsTrue}
 use Rattle.std.specs.List.{AllByRecursion}
 use Rattle.station.specs.Disk.{Sector, IsCrashImage}
 use Rattle.station.specs.State.{State, state_after_show, states_while_showing}
@@ -24,6 +24,10 @@ pub record Spans (past later : List State) (P : State → Type 0) : Type 0 where
   pub during : List State
   pub adds : later ≡ past ++ during
   pub each : AllByRecursion P during
+
+-- Each state between two histories passes the test p.
+abbrev pub SpansTrue : List State → List State → (State → Bool) → Type 0
+SpansTrue past later p = Spans past later (λ s. IsTrue (p s))
 
 -- Each state that calls passed through has P, and so has the one that they left.
 pub record Through (past later : List State) (new : State) (P : State → Type 0) : Type 0 where

@@ -2,7 +2,7 @@
 ghost use Rattle.std.specs.Prelude.{◌≡◌, ◌↔◌, ℕ, List, Bool, IsTrue};
 ghost use Rattle.station.specs.Disk.{Sector, idle_disk, IsCrashImage};
 ghost use Rattle.station.specs.State.{State, MayHaveWritten, Begins, state_after_show};
-ghost use Rattle.station.specs.History.{Spans, EndsIn, EachImage, HasShownSome};
+ghost use Rattle.station.specs.History.{SpansTrue, EndsIn, EachImage, HasShownSome};
 ghost use Rattle.station.specs.Choice.{chosen_sectors, state_after_crash};
 ghost use Rattle.station.specs.Changes.{ChangesOnly};
 
@@ -25,15 +25,14 @@ pub fn crash_laws()
 
 /// Of each state that calls pass through.
 pub fn moment_laws()
-    ensures composes { (a b c : List State) (p : State → Bool) → Spans a b (λ s. IsTrue (p s))
-        → Spans b c (λ s. IsTrue (p s)) → Spans a c (λ s. IsTrue (p s)) }
+    ensures composes { (a b c : List State) (p : State → Bool) → SpansTrue a b p
+        → SpansTrue b c p → SpansTrue a c p }
     ensures weakens { (a b : List State) (p q : State → Bool)
-        → ((s : State) → IsTrue (p s) → IsTrue (q s)) → Spans a b (λ s. IsTrue (p s))
-        → Spans a b (λ s. IsTrue (q s)) }
+        → ((s : State) → IsTrue (p s) → IsTrue (q s)) → SpansTrue a b p → SpansTrue a b q }
 
     // What is so at the entry, and at each moment after it, is so of the state that was left.
     ensures arrives { (a b : List State) (old new : State) (p : State → Bool) → EndsIn a old
-        → EndsIn b new → IsTrue (p old) → Spans a b (λ s. IsTrue (p s)) → IsTrue (p new) }
+        → EndsIn b new → IsTrue (p old) → SpansTrue a b p → IsTrue (p new) }
 {}
 
 /// Of a show that failed.

@@ -1,14 +1,29 @@
 //! A case over each of its volumes.
 use crate::case::Case;
 use crate::connectors::Kind;
-use crate::disturbance::{Disturbance, is_disturbed};
+use crate::disturbance::{Disturbance, Replays, is_disturbed};
 use crate::run::Run;
-use row_scripts::{Difference, Fault, Row, Tally};
+use row_scripts::{CheckCase, Difference, Fault, Row, Tally};
 use std::alloc::{AllocError, Global};
 use std::io;
 
+/// Cases that are run over each of their volumes.
+pub struct EachVolume;
+
+impl CheckCase for EachVolume {
+    fn check<R: Print + AllocGlobal>(
+        &self,
+        rt: &R,
+        script: &str,
+        case: row_scripts::Case,
+        tally: &mut Tally,
+    ) -> io::Result<()> {
+        check_case(rt, script, case, tally)
+    }
+}
+
 /// Runs a case over each of its volumes, and prints the first row that differs over each.
-pub fn check_case<R: Print + AllocGlobal>(
+fn check_case<R: Print + AllocGlobal>(
     rt: &R,
     script: &str,
     rows: row_scripts::Case,
@@ -35,19 +50,32 @@ pub fn check_case<R: Print + AllocGlobal>(
     Ok(())
 }
 
-/// Does the row at a place. A statement or `migrate` after the row `disturbed` is also disturbed at each of its calls; `start` is the
-/// place after that row.
-fn do_row(
-    run: &mut Run<'_>,
+/// Does the row at a place. A statement or `migrate` after the row `disturbed` is also disturbed at each of its calls.
+fn do_row<'a>(
+    run: &mut Run<'a>,
     kind: Kind,
     place: usize,
     row: &Row,
-    start: Option<usize>,
+    replays: &mut Option<Replays<'a>>,
 ) -> Result<(), Fault> {
-    let start = match start {
-        Some(start) if is_disturbed(&row.text) => start,
-        _ => return run.row(&row.text),
-    };
+    if row.text.starts_with(b"disturbed") {
+        run.row(&row.text)?;
+        *replays = Some(Replays::of(run, kind, place.saturating_add(1))?);
+        return Ok(());
+    }
+    match replays {
+        Some(replays) if is_disturbed(&row.text) => do_disturbed(run, place, row, replays),
+        _ => run.row(&row.text),
+    }
+}
+
+/// Does the row at a place, and then again with a disturbance at each of its calls.
+fn do_disturbed(
+    run: &mut Run<'_>,
+    place: usize,
+    row: &Row,
+    replays: &mut Replays<'_>,
+) -> Result<(), Fault> {
     run.volume.forget_calls();
     let before = run.volume.files()?;
     run.row(&row.text)?;
@@ -56,15 +84,14 @@ fn do_row(
     let disturbance = Disturbance {
         alloc: run.alloc,
         case: run.case,
-        kind,
         sectors: run.saved_sectors(),
-        start,
+        start: replays.start,
         place,
         row: &row.text,
         before,
         after,
     };
-    disturbance.at_each_call()
+    disturbance.at_each_call(replays)
 }
 
 /// Does the rows up to the first that differs.
@@ -78,12 +105,9 @@ fn do_rows(
         Ok(run) => run,
         Err(fault) => return Ok(Some(Difference::at(alloc, 0, fault)?)),
     };
-    let mut start = None;
+    let mut replays = None;
     for (place, row) in case.rows.iter().enumerate() {
-        if row.text.starts_with(b"disturbed") {
-            start = Some(place.saturating_add(1));
-        }
-        if let Err(fault) = do_row(&mut run, kind, place, row, start) {
+        if let Err(fault) = do_row(&mut run, kind, place, row, &mut replays) {
             return Ok(Some(Difference::at(alloc, row.line, fault)?));
         }
         tally.pass();

@@ -1,5 +1,5 @@
 //! Connectors to the files of a case, over a store of either kind.
-ghost use Rattle.std.specs.Prelude.{◌≡◌, ◌≤◌, IfOk};
+ghost use Rattle.std.specs.Prelude.{◌≡◌, IfOk};
 
 use crate::answer::Answer;
 use crate::statement::Statement;
@@ -92,10 +92,8 @@ impl OverHalves {
         record: &mut [u8],
         number: &mut u64,
     ) -> Result<Answer, Fault> {
-        if self.sectors > station.count() {
-            return Err(refusal(StoreFault::Damaged));
-        }
-        perform_over(&mut self.all, station, statement, record, number)
+        let sectors = self.sectors;
+        perform_over(&mut self.all, sectors, station, statement, record, number)
     }
 }
 
@@ -107,10 +105,8 @@ impl OverTrees {
         record: &mut [u8],
         number: &mut u64,
     ) -> Result<Answer, Fault> {
-        if self.sectors > station.count() {
-            return Err(refusal(StoreFault::Damaged));
-        }
-        perform_over(&mut self.all, station, statement, record, number)
+        let sectors = self.sectors;
+        perform_over(&mut self.all, sectors, station, statement, record, number)
     }
 }
 
@@ -162,18 +158,21 @@ fn connect<T: Store + Drop>(
     Ok(all)
 }
 
-/// Does a statement on its record and number.
+/// Does a statement on its record and number, on a volume of so many sectors; or refuses a station that has fewer.
 fn perform_over<T: Store + Drop>(
     all: &mut Connectors<T>,
+    sectors: u32,
     station: &mut MemoryStation,
     statement: &Statement,
     record: &mut [u8],
     number: &mut u64,
 ) -> Result<Answer, Fault>
-    requires { ⟦<Connectors<T> as Keeps>⟧.needs all.old
-        ≤ ⟦<MemoryStation as Device>⟧.sectors station.old }
+    requires { ⟦<Connectors<T> as Keeps>⟧.needs all.old ≡ sectors }
     ensures { ⟦<Connectors<T> as Keeps>⟧.needs all.new ≡ ⟦<Connectors<T> as Keeps>⟧.needs all.old }
 {
+    if sectors > station.count() {
+        return Err(refusal(StoreFault::Damaged));
+    }
     if !all.accepts(statement.select, statement.verb, record.len()) {
         return Err(Fault::Spelling("the file has no such key"));
     }

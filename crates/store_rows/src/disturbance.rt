@@ -27,7 +27,6 @@ const CHOICES: [[u32; 2]; 4] = [[0, 0], [1, 0], [0, 1], [1, 1]];
 pub struct Disturbance<'a> {
     pub alloc: Global,
     pub case: &'a Case,
-    pub kind: Kind,
     /// The sectors at the row `disturbed`, where no file is open, and that row's place.
     pub sectors: &'a [[u8; 4096]],
     pub start: usize,
@@ -36,6 +35,25 @@ pub struct Disturbance<'a> {
     pub row: &'a [u8],
     pub before: Vec<u8>,
     pub after: Vec<u8>,
+}
+
+/// Two runs of a case, begun again for each disturbance. So their stations keep their memory.
+#[derive(Drop)]
+pub struct Replays<'a> {
+    /// The place after the row `disturbed`.
+    pub start: usize,
+    one: Run<'a>,
+    other: Run<'a>,
+}
+
+impl<'a> Replays<'a> {
+    /// Over the sectors that the row `disturbed` saved.
+    pub fn of(run: &Run<'a>, kind: Kind, start: usize) -> Result<Replays<'a>, Fault> {
+        let sectors = run.saved_sectors();
+        let one = Run::closed(run.alloc, run.case, kind, sectors)?;
+        let other = Run::closed(run.alloc, run.case, kind, sectors)?;
+        Ok(Replays { start, one, other })
+    }
 }
 
 /// Whether a failed statement spends the store. `None`: it may.
@@ -61,24 +79,25 @@ fn is_needed(row: &[u8]) -> bool {
 }
 
 impl<'a> Disturbance<'a> {
-    /// The case before the statement.
-    fn replay(&self) -> Result<Run<'a>, Fault> {
-        let mut run = Run::from(self.alloc, self.case, self.kind, self.sectors)?;
+    /// Brings a run to the place before the statement.
+    fn replay(&self, run: &mut Run<'_>) -> Result<(), Fault> {
+        run.restart(self.sectors)?;
         for row in self.case.rows.iter().take(self.place).skip(self.start) {
             if is_needed(&row.text) {
                 run.row(&row.text)?;
             }
         }
-        Ok(run)
+        Ok(())
     }
 
     /// The statement, disturbed at a call, and whether it ended before that call.
     fn perform_disturbed(
         &self,
+        run: &mut Run<'_>,
         n: u64,
         is_stop: bool,
-    ) -> Result<(Run<'a>, Statement, bool), Fault> {
-        let mut run = self.replay()?;
+    ) -> Result<(Statement, bool), Fault> {
+        self.replay(run)?;
         let statement = run.statement(self.row)?;
         run.volume.disturb(n, is_stop);
         let effect = run.perform(&statement)?;
@@ -86,7 +105,7 @@ impl<'a> Disturbance<'a> {
         if !is_done {
             self.check_refusal(&effect, &statement, DEVICE)?;
         }
-        Ok((run, statement, is_done))
+        Ok((statement, is_done))
     }
 
     fn check_refusal(
@@ -114,27 +133,27 @@ impl<'a> Disturbance<'a> {
     }
 
     /// A stop at a call, and each image that it may leave.
-    fn check_stop(&self, n: u64) -> Result<(), Fault> {
-        let (stable, _, is_done) = self.perform_disturbed(n, true)?;
-        let (last, _, _) = self.perform_disturbed(n, true)?;
-        let mut stable = stable.volume;
-        let mut last = last.volume;
+    fn check_stop(&self, replays: &mut Replays<'_>, n: u64) -> Result<(), Fault> {
+        let (_, is_done) = self.perform_disturbed(&mut replays.one, n, true)?;
+        let (_, _) = self.perform_disturbed(&mut replays.other, n, true)?;
+        let stable = &mut replays.one.volume;
+        let last = &mut replays.other.volume;
         stable.crash(&[]);
         last.crash(&[u32::MAX; 64]);
-        let images = Images::of(self.alloc, &mut stable, &mut last)?;
+        let images = Images::of(self.alloc, stable, last)?;
         for image in 0..images.count() {
-            images.leave(&mut stable, image)?;
-            self.check_files(&mut stable, is_done)?;
+            images.leave(stable, image)?;
+            self.check_files(stable, is_done)?;
         }
         Ok(())
     }
 
     /// A failure at a call. The answer is whether the statement ended before that call.
-    fn check_failure(&self, n: u64) -> Result<bool, Fault> {
-        let (mut run, statement, is_done) = self.perform_disturbed(n, false)?;
+    fn check_failure(&self, run: &mut Run<'_>, n: u64) -> Result<bool, Fault> {
+        let (statement, is_done) = self.perform_disturbed(run, n, false)?;
         let mut is_after = is_done;
         if !is_done {
-            is_after = self.perform_again(&mut run, &statement)?;
+            is_after = self.perform_again(run, &statement)?;
         }
         if !is_after {
             let choice = u32::try_from(n % 3).unwrap_or(0);
@@ -145,7 +164,7 @@ impl<'a> Disturbance<'a> {
     }
 
     /// The second attempt after a failure. The answer is whether the statement was done, and all rows after it.
-    fn perform_again(&self, run: &mut Run<'a>, statement: &Statement) -> Result<bool, Fault> {
+    fn perform_again(&self, run: &mut Run<'_>, statement: &Statement) -> Result<bool, Fault> {
         let effect = run.perform(statement)?;
         let is_spent = effect.answer == SPENT;
         if spends(statement.verb).unwrap_or(is_spent) {
@@ -163,7 +182,7 @@ impl<'a> Disturbance<'a> {
     }
 
     /// The connector is as before: the status of CLOSE shows whether it is open.
-    fn check_spent(&self, run: &mut Run<'a>, statement: &Statement) -> Result<(), Fault> {
+    fn check_spent(&self, run: &mut Run<'_>, statement: &Statement) -> Result<(), Fault> {
         let status = match statement.verb {
             Verb::Open(_) => Answer::Status(*b"42"),
             _ => Answer::Status(*b"00"),
@@ -183,8 +202,15 @@ impl<'a> Disturbance<'a> {
 
     /// `migrate`, disturbed at a call, and a crash. Then the files are there, a second `migrate` ends, and a third one writes nothing.
     /// The answer is whether the first one ended before that call.
-    fn migrate_disturbed(&self, n: u64, is_stop: bool, choices: &[u32]) -> Result<bool, Fault> {
-        let mut volume = self.replay()?.volume;
+    fn migrate_disturbed(
+        &self,
+        run: &mut Run<'_>,
+        n: u64,
+        is_stop: bool,
+        choices: &[u32],
+    ) -> Result<bool, Fault> {
+        self.replay(run)?;
+        let volume = &mut run.volume;
         volume.disturb(n, is_stop);
         let is_done = match volume.migrate() {
             Ok(()) => true,
@@ -192,9 +218,9 @@ impl<'a> Disturbance<'a> {
             Err(fault) => return Err(fault),
         };
         volume.crash(choices);
-        self.check_files(&mut volume, true)?;
+        self.check_files(volume, true)?;
         volume.migrate()?;
-        self.check_files(&mut volume, true)?;
+        self.check_files(volume, true)?;
         let writes = volume.writes();
         volume.migrate()?;
         if volume.writes() != writes {
@@ -204,18 +230,18 @@ impl<'a> Disturbance<'a> {
     }
 
     /// `migrate`, stopped and failed at a call. The answer is whether it ended before that call.
-    fn migrate_to_call(&self, n: u64) -> Result<bool, Fault> {
+    fn migrate_to_call(&self, run: &mut Run<'_>, n: u64) -> Result<bool, Fault> {
         let mut is_done = false;
         for choices in CHOICES {
-            self.migrate_disturbed(n, true, &choices)?;
-            is_done = self.migrate_disturbed(n, false, &choices)?;
+            self.migrate_disturbed(run, n, true, &choices)?;
+            is_done = self.migrate_disturbed(run, n, false, &choices)?;
         }
         Ok(is_done)
     }
 
-    fn migrate_to_each_call(&self) -> Result<(), Fault> {
+    fn migrate_to_each_call(&self, run: &mut Run<'_>) -> Result<(), Fault> {
         for n in 1..MOST_CALLS {
-            if self.migrate_to_call(n)? {
+            if self.migrate_to_call(run, n)? {
                 return Ok(());
             }
         }
@@ -223,14 +249,14 @@ impl<'a> Disturbance<'a> {
     }
 
     /// Disturbs the statement at each of its calls.
-    pub fn at_each_call(&self) -> Result<(), Fault> {
+    pub fn at_each_call(&self, replays: &mut Replays<'_>) -> Result<(), Fault> {
         if is_migration(self.row) {
-            return self.migrate_to_each_call();
+            return self.migrate_to_each_call(&mut replays.one);
         }
         for n in 1..MOST_CALLS {
-            let is_done = self.check_failure(n)?;
+            let is_done = self.check_failure(&mut replays.one, n)?;
             if self.before != self.after {
-                self.check_stop(n)?;
+                self.check_stop(replays, n)?;
             }
             if is_done {
                 return Ok(());

@@ -18,9 +18,11 @@ impl Images {
     /// The sectors that differ in two volumes after the same stop: the one has the stable values, the other the last values.
     pub fn of(alloc: Global, stable: &mut Volume, last: &mut Volume) -> Result<Images, Fault> {
         let mut sectors = Vec::new(alloc);
+        let mut one = [0; 4096];
+        let mut other = [0; 4096];
         for number in 0..stable.count() {
-            let one = stable.sector(number)?;
-            let other = last.sector(number)?;
+            stable.read(number, &mut one)?;
+            last.read(number, &mut other)?;
             if one != other {
                 sectors.push(UnsyncedSector {
                     number,

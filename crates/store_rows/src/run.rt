@@ -11,7 +11,10 @@ use row_scripts::{Fault, Words, escape, put_text, unquote};
 use std::alloc::Global;
 
 /// The station keeps a record of its calls. After so many writes it is made anew.
-const MOST_WRITES: u64 = 4096;
+const MOST_WRITES: u64 = 8192;
+
+/// A case that begins again after so many writes gets a new station, so that its own writes are fewer than those above.
+const FEW_WRITES: u64 = 1024;
 
 /// A case on its volume.
 #[derive(Drop)]
@@ -90,17 +93,29 @@ impl<'a> Run<'a> {
         Ok(run)
     }
 
-    /// A case whose rows go on over a volume with these sectors, in which no file is open.
-    pub fn from(
+    /// A case over a volume with these sectors that isn't open.
+    pub fn closed(
         alloc: Global,
         case: &'a Case,
         kind: Kind,
         sectors: &[[u8; 4096]],
     ) -> Result<Run<'a>, Fault> {
         let volume = Volume::with(alloc, kind, sectors)?;
-        let mut run = Run::over(alloc, case, volume);
-        run.open()?;
-        Ok(run)
+        Ok(Run::over(alloc, case, volume))
+    }
+
+    /// Begins again: the rows go on over a volume with these sectors, in which no file is open.
+    pub fn restart(&mut self, sectors: &[[u8; 4096]]) -> Result<(), Fault> {
+        self.volume.close();
+        self.volume.put_all(sectors)?;
+        if self.volume.writes() > FEW_WRITES {
+            self.volume.renew()?;
+        }
+        self.saved.clear();
+        self.writes = self.volume.writes();
+        self.row_count = 0;
+        self.is_disturbed = false;
+        self.open()
     }
 
     fn over(alloc: Global, case: &'a Case, volume: Volume) -> Run<'a> {
@@ -393,8 +408,9 @@ impl<'a> Run<'a> {
     /// `keep`: saves the sectors.
     fn keep(&mut self) -> Result<(), Fault> {
         self.saved.clear();
+        let mut bytes = [0; 4096];
         for number in 0..self.volume.count() {
-            let bytes = self.volume.sector(number)?;
+            self.volume.read(number, &mut bytes)?;
             self.saved.push(bytes)?;
         }
         Ok(())
@@ -402,13 +418,7 @@ impl<'a> Run<'a> {
 
     /// `back`: puts the saved sectors back.
     fn back(&mut self) -> Result<(), Fault> {
-        let mut number = 0u32;
-        for saved in self.saved.iter() {
-            if self.volume.sector(number)? != *saved {
-                self.volume.put(number, saved)?;
-            }
-            number = number.saturating_add(1);
-        }
+        self.volume.put_all(&self.saved)?;
         self.volume.forget_calls();
         Ok(())
     }

@@ -136,6 +136,12 @@ impl Volume {
         }
     }
 
+    /// Stops the program. No call fails from now on, and no write that waits for a sync is lost.
+    pub fn close(&mut self) {
+        self.verbs = Verbs::Closed;
+        self.station.fail_at(u64::MAX);
+    }
+
     /// Stops the program. Each sector that waits for a sync gets the value of its choice.
     pub fn crash(&mut self, choices: &[u32]) {
         self.verbs = Verbs::Closed;
@@ -152,8 +158,10 @@ impl Volume {
         let count = self.station.count();
         let mut sectors = Vec::new(self.alloc);
         sectors.reserve(count as usize)?;
+        let mut bytes = [0; 4096];
         for number in 0..count {
-            sectors.push(self.sector(number)?)?;
+            self.read(number, &mut bytes)?;
+            sectors.push(bytes)?;
         }
         if sectors.len() != count as usize {
             return Err(Fault::Spelling("the station lost sectors"));
@@ -186,14 +194,17 @@ impl Volume {
 
     /// A sector.
     pub fn sector(&mut self, number: u32) -> Result<[u8; 4096], Fault> {
+        let mut bytes = [0; 4096];
+        self.read(number, &mut bytes)?;
+        Ok(bytes)
+    }
+
+    /// Copies a sector.
+    pub fn read(&mut self, number: u32, bytes: &mut [u8; 4096]) -> Result<(), Fault> {
         if number >= self.station.count() {
             return Err(Fault::Spelling("there is no such sector"));
         }
-        let mut bytes = [0; 4096];
-        self.station
-            .read(number, &mut bytes)
-            .map_err(device_refusal)?;
-        Ok(bytes)
+        self.station.read(number, bytes).map_err(device_refusal)
     }
 
     /// Writes a sector, which is durable then.
@@ -202,6 +213,20 @@ impl Volume {
             return Err(Fault::Spelling("there is no such sector"));
         }
         self.station.write(number, bytes).map_err(device_refusal)?;
+        self.station.sync().map_err(device_refusal)
+    }
+
+    /// Writes the sectors that differ from these. Then all sectors are durable.
+    pub fn put_all(&mut self, sectors: &[[u8; 4096]]) -> Result<(), Fault> {
+        let mut present = [0; 4096];
+        let mut number = 0u32;
+        for bytes in sectors.iter() {
+            self.read(number, &mut present)?;
+            if present != *bytes {
+                self.put(number, bytes)?;
+            }
+            number = number.saturating_add(1);
+        }
         self.station.sync().map_err(device_refusal)
     }
 }

@@ -1,12 +1,27 @@
 //! A case over a tree. Its first row is `tree KEY VALUE CACHED`: the bytes of keys and values, and how many pages are in memory.
 use crate::tree_run::TreeRun;
 use btree_pages::RowLayout;
-use row_scripts::{Case, Difference, Fault, Row, Tally, Words};
+use row_scripts::{Case, CheckCase, Difference, Fault, Row, Tally, Words};
 use std::alloc::{AllocError, Global};
 use std::io;
 
+/// Cases that are run over a tree.
+pub struct OneTree;
+
+impl CheckCase for OneTree {
+    fn check<R: Print + AllocGlobal>(
+        &self,
+        rt: &R,
+        script: &str,
+        case: Case,
+        tally: &mut Tally,
+    ) -> io::Result<()> {
+        check_case(rt, script, &case, tally)
+    }
+}
+
 /// Runs a case, and prints the first row that differs.
-pub fn check_case<R: Print + AllocGlobal>(
+fn check_case<R: Print + AllocGlobal>(
     rt: &R,
     script: &str,
     case: &Case,

@@ -1,20 +1,19 @@
-use Rattle.std.proofs.Common.{◌≡◌, inr, ⊎_elim, Bool, false, Err, List, ℕ, length, sym, ap, subst, ◌∙◌, arith}
-use Rattle.std.specs.Prelude.{if◌then◌else◌, IfErr}
+use Rattle.std.proofs.Common.{◌≡◌, inr, ⊎_elim, true, false, Err, sym, ap, subst, ◌∙◌}
+use Rattle.std.specs.Prelude.{IfErr}
 use Rattle.station.specs.State.{State}
 use Rattle.station.proofs.Calls.{reads_writes, blamed_where, writes_then}
-use Rattle.pages.specs.Pages.{committed_of, Agrees}
+use Rattle.pages.specs.Pages.{Agrees}
 use Rattle.records.specs.declared.fault.StoreFault.TheVariants.{Device}
 use Rattle.records.specs.Changes.{FileChange}
-use Rattle.records.specs.Files.{File, Files, file_at, with_file}
-use Rattle.chains.specs.Chain.{pages_for}
-use Rattle.volume_format.specs.Chained.{chained_bytes}
+use Rattle.records.specs.Files.{File, Files}
 use Rattle.records.specs.Stores.{Has, spec_of, is_change, files_after}
 use Rattle.alternate_keys.specs.Moved.{changed_by}
-use Rattle.alternate_keys.specs.Stands.{Represents, keys_of, record_pages}
+use Rattle.alternate_keys.specs.Settles.{IsChanged}
+use Rattle.alternate_keys.specs.Stands.{Represents}
 use Rattle.alternate_keys.proofs.Committing.{changed_from, refused_turned, put_turned}
 use Rattle.alternate_keys.proofs.Faults.{never_old, refused_by_call}
 use Rattle.alternate_keys.proofs.Still.{stands_still}
-use Rattle.alternate_keys.proofs.Turning.{changed_spec, keys_then, pages_then, lacks_before, lacks_then}
+use Rattle.alternate_keys.proofs.Turning.{changed_spec, files_rest, lacks_changed, lacks_committed}
 use Rattle.alternate_keys.specs.Faults.{IsWriteFault}
 use Rattle.alternate_keys.proofs.Calling.{sectors_still}
 use Rattle.alternate_keys.proofs.Passing.{passed, spent_before}
@@ -36,33 +35,21 @@ change g c held = changed_by c.args.verb c.args.file.now.organization c.args.num
 abbrev after : (g : Over) (c : After-prepare g) → Files → File → Files
 after g c files held = files_after c.args.file.now.name.items files (change g c held)
 
-keys : (g : Over) (c : After-prepare g) (files : Files) (held : File) → Has files c.args.file.now held
-    → keys_of (file_at c.args.file.now.name.items (after g c files held)) ≡ length c.args.file.now.alternates.items
-keys g c files held has =
-    keys_then c.args.file.now.name.items files held (change g c held) (spec_of c.args.file.now) has.there has.spec
-    (changed_spec c.args.verb c.args.file.now.organization c.args.number c.args.bytes.now held)
-
-chains : (g : Over) (c : After-prepare g) (files : Files) (held : File) → Has files c.args.file.now held
-    → record_pages (file_at c.args.file.now.name.items (after g c files held))
-    ≡ pages_for (chained_bytes (spec_of c.args.file.now))
-chains g c files held has =
-    pages_then c.args.file.now.name.items files held (change g c held) (spec_of c.args.file.now) has.there has.spec
-    (changed_spec c.args.verb c.args.file.now.organization c.args.number c.args.bytes.now held)
+same_spec : (g : Over) (c : After-prepare g) (held : File) → (change g c held).file.spec ≡ held.spec
+same_spec g c held = changed_spec c.args.verb c.args.file.now.organization c.args.number c.args.bytes.now held
 
 pub returns-in_err-outcome-clause-turned : goal.returns-in_err-outcome-clause-turned
 returns-in_err-outcome-clause-turned g c = λ honest files held stands has.
     let at = (goal.at.returns-in_err-outcome-clause-turned g c).After-prepare in
-    let none = ap (λ (l : List ℕ). length l) stands.rested in
     refused_turned g.D.Device _ c.args.pages.now c.prepare.new.pages c.args.device.now c.prepare.new.device honest
     c.prepare.ensures.edits.only files (after g at files held) stands c.from_residual.result false
     c.args.file.now.name.items c.in_err-outcome.field-0.0 c.from_residual.ensures.1
     (λ is. c.prepare.ensures.damaged honest stands.agrees files held stands.holds has
     (refused_by_call c.in_err-outcome.was c.from_residual.ensures.1 is))
-    (λ is. let room = c.prepare.ensures.room honest stands.agrees files held stands.holds has
-    (refused_by_call c.in_err-outcome.was c.from_residual.ensures.1 is) in
-    lacks_before (committed_of c.args.pages.now) c.args.file.now.name.items (after g at files held)
-    (length c.args.file.now.alternates.items) _ (keys g at files held has) (chains g at files held has)
-    (omega (arith, room, none)))
+    (λ is. lacks_changed c.args.pages.now c.args.file.now.name.items files held (change g at held)
+    (spec_of c.args.file.now) has.there has.spec (same_spec g at held) stands.rested
+    (c.prepare.ensures.room honest stands.agrees files held stands.holds has
+    (refused_by_call c.in_err-outcome.was c.from_residual.ensures.1 is)))
     (λ is. absurd (never_old c.prepare.result c.prepare.ensures.cause
     (refused_by_call c.in_err-outcome.was c.from_residual.ensures.1 is)))
 
@@ -82,36 +69,39 @@ rested : (g : Over) (c : After-finish g) → g.D.Device.is_honest c.args.device.
 rested g c honest files held stands ch outcome_is none =
     let edits = c.prepare.ensures.edits in
     let still = edits.only.state honest in
-    let same : files ≡ files_after c.args.file.now.name.items files ch =
-    sym (ap (λ (b : Bool). if b then with_file c.args.file.now.name.items ch.file files else files)
-    (ap is_change (sym outcome_is) ∙ none)) in
+    let same = files_rest c.args.file.now.name.items files ch (ap is_change (sym outcome_is) ∙ none) in
     let here = stands_still c.args.pages.now c.prepare.new.pages (g.D.Device.state c.args.device.now).disk files
     (c.in_ok-outcome.ensures.same none) (subst (λ (s : State). Agrees c.prepare.new.pages s.disk) still
     (edits.agrees honest stands.agrees)) stands in
     subst (λ (l : Files). Represents c.prepare.new.pages (g.D.Device.state c.prepare.new.device).disk l) same
     (subst (λ (s : State). Represents c.prepare.new.pages s.disk files) (sym still) here)
 
+-- where something was changed, what is committed has the files from before, and the next generation those after it
+will_change : (g : Over) (c : After-finish g) → g.D.Device.is_honest c.args.device.now → (files : Files) (held : File)
+    → Represents c.args.pages.now (g.D.Device.state c.args.device.now).disk files → Has files c.args.file.now held
+    → is_change c.in_ok-outcome.outcome ≡ true
+    → IsChanged g.D.Device c.prepare.new.pages c.prepare.new.device files (files_after c.args.file.now.name.items files
+    (changed_by c.args.verb c.args.file.now.organization c.args.number c.args.bytes.now held))
+will_change g c honest files held stands has done =
+    let edits = c.prepare.ensures.edits in
+    changed_from g.D.Device _ c.args.pages.now c.prepare.new.pages c.args.device.now c.prepare.new.device honest
+    edits.only files _ stands edits.committed (edits.agrees honest stands.agrees)
+    (c.in_ok-outcome.ensures.will honest stands.agrees files held stands.holds has done)
+
 pub returns-clause-turned : goal.returns-clause-turned
 returns-clause-turned g c = λ honest files held stands has.
     let at = goal.at.returns-clause-turned g c in
-    let edits = c.prepare.ensures.edits in
-    let agrees = edits.agrees honest stands.agrees in
     let later : Files = after g at.After-prepare files held in
-    let none = ap (λ (l : List ℕ). length l) stands.rested in
-    let few = c.in_ok-outcome.ensures.few honest stands.agrees files held stands.holds has in
     put_turned g.D.Device _ c.args.pages.now c.prepare.new.pages c.args.device.now c.prepare.new.device honest
-    edits.only
-    files later stands c.finish.result false c.args.file.now.name.items c.finish.new.pages c.finish.new.device
-    (c.finish.ensures.settles files later
-    (λ done. changed_from g.D.Device _ c.args.pages.now c.prepare.new.pages c.args.device.now c.prepare.new.device
-    honest edits.only files later stands edits.committed agrees
-    (c.in_ok-outcome.ensures.will honest stands.agrees files held stands.holds has done))
+    c.prepare.ensures.edits.only files later stands c.finish.result false c.args.file.now.name.items
+    c.finish.new.pages c.finish.new.device
+    (c.finish.ensures.settles files later (will_change g at.After-finish honest files held stands has)
     (rested g at.After-finish honest files held stands (change g at.After-prepare held)
     (c.in_ok-outcome.ensures.outcome honest stands.agrees files held stands.holds has)))
-    (λ full. lacks_then c.args.pages.now c.prepare.new.pages c.args.file.now.name.items later
-    (length c.args.file.now.alternates.items) _ (keys g at.After-prepare files held has)
-    (chains g at.After-prepare files held has) edits.committed
-    (c.few_needed.ensures c.prepare.new.pages) (omega (arith, few, none)) full)
+    (λ full. lacks_committed c.args.pages.now c.prepare.new.pages c.args.file.now.name.items files held
+    (change g at.After-prepare held) (spec_of c.args.file.now) has.there has.spec (same_spec g at.After-prepare held)
+    c.prepare.ensures.edits.committed (c.few_needed.ensures c.prepare.new.pages) stands.rested
+    (c.in_ok-outcome.ensures.few honest stands.agrees files held stands.holds has) full)
     (λ is. never_old c.finish.result c.finish.ensures.cause is)
 
 pub returns-in_err-outcome-clause-full : goal.returns-in_err-outcome-clause-full

@@ -1,15 +1,16 @@
-use Rattle.std.proofs.Common.{◌≡◌, ◌<◌, ◌+◌, ◌*◌, ◌%◌, ◌^◌, Err, ℕ, List, length, sym, ap, subst, ◌∙◌, arith}
+use Rattle.std.proofs.Common.{◌≡◌, ◌<◌, ◌+◌, ◌*◌, ◌%◌, ◌^◌, true, Err, ℕ, List, length, sym, ap, subst, ◌∙◌, arith}
 use Rattle.std.specs.Prelude.{drop, IfErr}
 use Rattle.byteorder.specs.Endian.{big_number}
 use Rattle.pages.specs.Layout.{version_of}
 use Rattle.pages.specs.Pages.{mark_of}
 use Rattle.btree.proofs.Frames.{unchanged_on}
 use Rattle.records.specs.declared.fault.StoreFault.TheVariants.{Device}
-use Rattle.records.specs.Files.{File, Files}
+use Rattle.records.specs.Files.{File, Files, NamedFile}
 use Rattle.chains.specs.Chain.{pages_for}
 use Rattle.volume_format.specs.Chained.{chained_bytes}
 use Rattle.records.specs.Stores.{spec_of, is_change}
 use Rattle.volume_format.specs.Calls.{LooksAt}
+use Rattle.volume_format.specs.Forest.{TreeLevels}
 use Rattle.row_trees.specs.Calls.{EditsPages}
 use Rattle.alternate_keys.specs.Moved.{changed_by}
 use Rattle.alternate_keys.proofs.Bytes.{bytes_by}
@@ -63,6 +64,16 @@ changed : (g : Over) (c : Else-not-is_done g) {held : File} {files : Files} (at 
 changed g c at seen trees =
     changed_from g.D.Device at seen c.change_trees.ensures.edits (c.in_ok-turn.ensures.placed trees.honest trees.agrees
     _ _ _ _ trees.has (sym c.is_done.ensures ∙ c.if-not-is_done.false))
+
+-- the change was made
+is_made : (g : Over) (c : Else-not-is_done g) {named : NamedFile} {generation : ℕ} {left right : List TreeLevels}
+    → HoldsTrees g.D.Device (spec_of c.args.file.now) named generation left right c.listing_part.result.now
+    c.find_listing.new.pages c.find_listing.new.device
+    → is_change (changed_by c.args.verb c.args.file.now.organization c.args.number c.args.bytes.now named.file).outcome
+    ≡ true
+is_made g c trees =
+    sym (ap is_change (c.in_ok-turn.ensures.outcome trees.honest trees.agrees _ _ _ _ trees.has))
+    ∙ sym c.is_done.ensures ∙ c.if-not-is_done.false
 
 -- the mark that was read is that of the map
 mark_read : (g : Over) (c : After-change_trees g) → version_of c.mark.result ≡ mark_of c.args.pages.now
@@ -157,19 +168,15 @@ returns-clause-will g c = λ honest agrees files held holds has change.
     let to = goal.at.returns-clause-will g c in
     let seen = looks g to.After-find_listing in
     let trees = listed g to.After-change_trees at has.spec seen in
-    let outcome = c.in_ok-turn.ensures.outcome trees.honest trees.agrees _ _ _ _ trees.has in
-    let change_is = sym (ap is_change outcome) ∙ sym c.is_done.ensures ∙ c.if-not-is_done.false in
+    let change_is = is_made g to.Else-not-is_done trees in
     files_listed g.D.Device at (changed g to.Else-not-is_done at seen trees) c.rows_after-rows.result
-    c.replace_listing.ensures.edits
-    c.deref-2.ensures.value c.deref-3.ensures.value
-    (rows_spelled (map_at g.D.Device at).mark c.args.verb c.args.file.now.organization
-    c.in_ok-turn.turn.listing.items c.args.number c.args.bytes.now held c.stored_rows.result c.rows_after-rows.result
-    trees.has.is_named.file.ascend (counted g to.After-change_trees at) c.rows_after-rows.ensures change_is)
-    c.in_ok-replace_listing.ensures.replaced change_is
-    (are_then c.args.verb c.args.file.now files held holds.are has c.args.number c.args.bytes.now c.requires.asked
-    (bytes_by c.args.bytes.now c.type_inv.bytes))
-    (λ first. short_then c.args.verb c.args.file.now files held has c.args.number c.args.bytes.now
-    (holds.short first))
+    c.replace_listing.ensures.edits c.deref-2.ensures.value c.deref-3.ensures.value (rows_spelled
+    (map_at g.D.Device at).mark c.args.verb c.args.file.now.organization c.in_ok-turn.turn.listing.items c.args.number
+    c.args.bytes.now held c.stored_rows.result c.rows_after-rows.result trees.has.is_named.file.ascend
+    (counted g to.After-change_trees at) c.rows_after-rows.ensures change_is) c.in_ok-replace_listing.ensures.replaced
+    change_is (are_then c.args.verb c.args.file.now files held holds.are has c.args.number c.args.bytes.now
+    c.requires.asked (bytes_by c.args.bytes.now c.type_inv.bytes)) (λ first. short_then c.args.verb c.args.file.now
+    files held has c.args.number c.args.bytes.now (holds.short first))
 
 pub returns-in_err-entry-clause-edits : goal.returns-in_err-entry-clause-edits
 returns-in_err-entry-clause-edits g c =

@@ -10,13 +10,10 @@ use Rattle.alternate_keys.specs.Created.{HasStored}
 use Rattle.alternate_keys.proofs.Calling.{edits_nothing, edits_then}
 use Rattle.alternate_keys.proofs.ClearedKeys.{stored_next, forest_next}
 use Rattle.alternate_keys.proofs.Faults.{refused_by_call}
+use Rattle.alternate_keys.proofs.Walks.{drop_none}
 use Rattle.alternate_keys.proofs.clearing.clear_alternates.Given.{Over}
 use Rattle.alternate_keys.proofs.clearing.clear_alternates.Goals as goal
 use Rattle.alternate_keys.proofs.clearing.clear_alternates.Goals.{After-clear_tree}
-
-drop_none : {X : Type 0} (xs : List X) → drop 0 xs ≡ xs
-drop_none [] = refl
-drop_none (x ∷ xs) = refl
 
 drop_all : {X : Type 0} (xs : List X) → drop (length xs) xs ≡ []
 drop_all [] = refl

@@ -1,10 +1,10 @@
-use Rattle.std.proofs.Common.{◌≡◌, inl, inr, Ok, Err, ℕ, List, [], length, sym, ap, subst, ◌∙◌, arith, refl}
+use Rattle.std.proofs.Common.{◌≡◌, inl, inr, Ok, Err, ℕ, List, [], length, sym, ap, ◌∙◌, arith, refl}
 use Rattle.std.specs.Prelude.{map, IfErr}
 use Rattle.std.specs.List.{flat_map}
 use Rattle.pages.specs.Layout.{version_of}
 use Rattle.pages.specs.Pages.{map_now, mark_of}
 use Rattle.btree.specs.Calls.{pages_on}
-use Rattle.btree.specs.Entries.{entry_with, with_new_entry}
+use Rattle.btree.specs.Entries.{entry_with}
 use Rattle.records.specs.declared.fault.StoreFault.TheVariants.{Device, Damaged}
 use Rattle.records.specs.Files.{Files}
 use Rattle.file_bytes.specs.Description.{padded_name}
@@ -14,11 +14,10 @@ use Rattle.volume_format.specs.Grows.{IsTreeAmong}
 use Rattle.volume_format.specs.Volume.{MapHolds, trees_of, catalog_entry}
 use Rattle.volume_format.proofs.Values.{reads_back}
 use Rattle.row_trees.specs.Calls.{EditsPages}
-use Rattle.alternate_keys.proofs.Added.{entry_as}
 use Rattle.alternate_keys.proofs.Calling.{looks_edits, edits_blamed, edits_last, prepares_of, prepares_set}
 use Rattle.alternate_keys.proofs.Faults.{refused_by_call, never_full, never_device, never_full_memory, never_damaged}
 use Rattle.alternate_keys.proofs.Faults.{never_spent}
-use Rattle.alternate_keys.proofs.Making.{catalog_here, catalog_after}
+use Rattle.alternate_keys.proofs.Making.{catalog_here, catalog_with}
 use Rattle.alternate_keys.proofs.Passing.{none_or_some, damaged_not_device, memory_is_write}
 use Rattle.alternate_keys.proofs.Still.{room_before}
 use Rattle.alternate_keys.proofs.Passing.{damaged_not_spent, never_ok, passed, read_is_write, spent_before}
@@ -161,26 +160,18 @@ returns-then-not-branch-clause-damaged g c = λ honest agrees files holds none r
 
 pub returns-clause-added : goal.returns-clause-added
 returns-clause-added g c = λ honest agrees files holds.
-    let at = goal.at.returns-clause-added g c in
+    let at = (goal.at.returns-clause-added g c).After-insert_among in
     let looks = c.is_full.ensures.looks in
     let entries = map (catalog_entry (mark_of c.args.pages.now)) holds.kept in
-    let came = c.in_ok-insert_among.ensures.inserted (looks.only.honest.0 honest) (looks.agrees honest agrees) []
-    (flat_map trees_of holds.kept) entries (stands g at.After-insert_among honest files holds)
-    (ap Ok c.if-not-branch.false) in
-    let spelled : c.deref.result.now ≡ catalog_value (mark_of c.args.pages.now) c.args.listing.now 0 =
-    c.deref.ensures.value ∙ c.in_ok-value.ensures.bytes
-    ∙ ap (λ (m : ℕ). catalog_value m c.args.listing.now 0) (mark_read g at.After-insert_among) in
-    let listed = subst (λ (v : List ℕ). IsTreeAmong (pages_on g.D.Device c.insert_among.new.pages c.is_full.new.device)
-    [] (flat_map trees_of holds.kept) c.insert_among.new.tree
-    (with_new_entry entries (entry_as c.pad_name.result v))) spelled came.1 in
-    catalog_after g.D.Device (mark_of c.args.pages.now) c.insert_among.new.pages c.set_catalog.new.self
-    c.args.device.now c.is_full.new.device (flat_map trees_of holds.kept) c.insert_among.new.tree
-    (λ (k : List ℕ). with_new_entry entries
-    (entry_as k (catalog_value (mark_of c.args.pages.now) c.args.listing.now 0))) c.pad_name.result
-    (padded_name c.args.name.now) (looks.only.state honest)
-    (c.insert_among.ensures.layout ∙ c.catalog_tree-catalog.ensures.layout
-    ∙ ap catalog_layout (mark_read g at.After-insert_among)) (sym c.root.ensures ∙ sym c.set_catalog.ensures.catalog)
-    c.pad_name.ensures c.set_catalog.ensures.pages listed
+    catalog_with g.D.Device (mark_of c.args.pages.now) c.insert_among.new.pages c.set_catalog.new.self
+    c.args.device.now c.is_full.new.device (flat_map trees_of holds.kept) c.insert_among.new.tree entries
+    c.pad_name.result (padded_name c.args.name.now) c.deref.result.now (catalog_value (mark_of c.args.pages.now)
+    c.args.listing.now 0) (looks.only.state honest) (c.insert_among.ensures.layout
+    ∙ c.catalog_tree-catalog.ensures.layout ∙ ap catalog_layout (mark_read g at)) (sym c.root.ensures
+    ∙ sym c.set_catalog.ensures.catalog) c.pad_name.ensures (c.deref.ensures.value ∙ c.in_ok-value.ensures.bytes
+    ∙ ap (λ (m : ℕ). catalog_value m c.args.listing.now 0) (mark_read g at)) c.set_catalog.ensures.pages
+    (c.in_ok-insert_among.ensures.inserted (looks.only.honest.0 honest) (looks.agrees honest agrees) []
+    (flat_map trees_of holds.kept) entries (stands g at honest files holds) (ap Ok c.if-not-branch.false)).1
 
 pub returns-clause-few_files : goal.returns-clause-few_files
 returns-clause-few_files g c = λ honest agrees files holds.

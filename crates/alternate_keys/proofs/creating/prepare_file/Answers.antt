@@ -1,30 +1,26 @@
 use Rattle.std.proofs.Common.{◌≡◌, ◌++◌, true, ℕ, List, [], length, refl, sym, ap, subst, ◌∙◌, arith}
-use Rattle.std.specs.Prelude.{map, Option, None, IsSome, IfErr}
-use Rattle.std.specs.List.{flat_map}
+use Rattle.std.specs.Prelude.{map, Option, None, IfErr}
 use Rattle.station.specs.State.{State}
 use Rattle.pages.specs.Image.{Map}
 use Rattle.pages.specs.Pages.{map_now, catalog_of, mark_of, Agrees, SameCommitted}
 use Rattle.btree.specs.Calls.{pages_on}
-use Rattle.btree.specs.Entries.{Entry, entry_with, with_new_entry, with_value}
+use Rattle.btree.specs.Entries.{Entry, entry_with}
 use Rattle.btree.proofs.Frames.{same_pages}
 use Rattle.records.specs.Files.{Files, file_at, with_file, empty_file}
 use Rattle.records.specs.Spec.{is_name}
 use Rattle.records.specs.Stores.{spec_of}
 use Rattle.file_bytes.specs.Description.{padded_name}
-use Rattle.volume_format.specs.Catalog.{catalog_value}
 use Rattle.volume_format.specs.Forest.{IsForest}
-use Rattle.volume_format.specs.Volume.{MapHolds, trees_of, catalog_entry}
+use Rattle.volume_format.specs.Volume.{MapHolds, catalog_entry}
 use Rattle.alternate_keys.specs.Created.{OnFiles}
 use Rattle.alternate_keys.specs.Listed.{IsListed}
-use Rattle.alternate_keys.proofs.Added.{entry_as}
 use Rattle.alternate_keys.proofs.Empties.{empty_placed}
 use Rattle.alternate_keys.proofs.Faults.{refused_by_call, never_full, never_full_memory, never_spent}
 use Rattle.alternate_keys.proofs.FoundTrees.{listed_as}
 use Rattle.alternate_keys.proofs.MadeFile.{holds_at, lacks_filled, lacks_needed}
-use Rattle.alternate_keys.proofs.Making.{IsThere, IsEmptied, is_there, left_there, right_there, all_around}
-use Rattle.alternate_keys.proofs.Making.{catalog_put, lacks_added, made_new, made_there, map_still, stands_emptied}
+use Rattle.alternate_keys.proofs.Making.{IsThere, IsEmptied, is_there_as, entry_is_there, left_there, right_there}
+use Rattle.alternate_keys.proofs.Making.{all_around, lacks_added, made_added, made_replaced, map_still, stands_emptied}
 use Rattle.alternate_keys.proofs.Passing.{committed_on, memory_is_write, never_ok, passed, read_is_write, spent_before}
-use Rattle.alternate_keys.proofs.Preparing.{some_entry}
 use Rattle.alternate_keys.specs.Faults.{IsWriteFault}
 use Rattle.alternate_keys.proofs.Calling.{sectors_still}
 use Rattle.alternate_keys.proofs.creating.prepare_file.Given.{Over}
@@ -44,16 +40,12 @@ found : (g : Over) (c : After-clear_trees g) → OnFiles g.D.Device c.args.pages
     (pages_on g.D.Device c.find_listing.new.pages c.find_listing.new.device) c.listing_part.result.now)
 found g c honest agrees files holds =
     let old = g.D.Device.state c.args.device.now in
-    let m : Map = map_now c.args.pages.now old.disk.present in
-    let name : List ℕ = c.args.file.now.name.items in
     let bounds = c.map_bounds.ensures.open c.args.pages.now old.disk.present c.requires.open c.requires.unspent in
-    is_there m files holds name c.args.file.now.named
-    (pages_on g.D.Device c.find_listing.new.pages c.find_listing.new.device) c.listing_part.result.now
-    c.in_ok-entry.field-0 c.in-Some.entry (c.in_ok-entry.ensures.entry honest agrees files holds
-    ∙ ap (λ (n : List ℕ). entry_with (map (catalog_entry (mark_of c.args.pages.now)) holds.kept) (padded_name n))
-    c.deref.ensures.value)
-    (listed_as m files c.deref.result.now name c.in_ok-entry.field-0 c.deref.ensures.value
-    (c.in_ok-entry.ensures.listed honest agrees files holds)) c.in-Some.is c.listing_part.ensures.part bounds.0 bounds.1
+    is_there_as (map_now c.args.pages.now old.disk.present) files holds c.deref.result.now c.args.file.now.name.items
+    c.args.file.now.named (pages_on g.D.Device c.find_listing.new.pages c.find_listing.new.device)
+    c.listing_part.result.now c.in_ok-entry.field-0 c.in-Some.entry c.deref.ensures.value
+    (c.in_ok-entry.ensures.entry honest agrees files holds) (c.in_ok-entry.ensures.listed honest agrees files holds)
+    c.in-Some.is c.listing_part.ensures.part bounds.0 bounds.1
     (same_pages c.args.pages.now c.find_listing.new.pages old (g.D.Device.state c.find_listing.new.device)
     c.find_listing.ensures.unchanged (c.find_listing.ensures.only.state honest))
 
@@ -101,10 +93,7 @@ returns-in_err-replace_listing-in-Some-clause-damaged g c = λ honest agrees fil
     (map (catalog_entry (mark_of c.args.pages.now)) holds.kept)
     (stands_emptied here _ _ _ placed _ _ (same_mark g at.After-replace_listing)
     (same_catalog g at.After-replace_listing))
-    (subst (λ (n : List ℕ).
-    IsSome (entry_with (map (catalog_entry (mark_of c.args.pages.now)) holds.kept) (padded_name n)))
-    (sym c.deref-in-Some.ensures.value) (some_entry _ files holds c.args.file.now.name.items here.held
-    c.args.file.now.named here.there)) (refused_by_call c.in_err-replace_listing-in-Some.was
+    (entry_is_there here _ c.deref-in-Some.ensures.value) (refused_by_call c.in_err-replace_listing-in-Some.was
     c.from_residual-in_err-replace_listing-in-Some.ensures.1 refused)
 
 -- what is committed stays through all calls
@@ -122,19 +111,13 @@ returns-in-Some-clause-will g c = λ fits honest agrees files holds.
     let edits = c.clear_trees.ensures.edits in
     let here = found g at.After-clear_trees honest agrees files holds in
     let placed = cleared g at.After-replace_listing honest_found agrees_found here in
-    let same = same_catalog g at.After-replace_listing in
-    let marked = same_mark g at.After-replace_listing in
-    let entries : List Entry = map (catalog_entry (mark_of c.args.pages.now)) holds.kept in
-    let put = c.in_ok-replace_listing-in-Some.ensures.replaced (edits.only.honest.0 honest_found)
-    (edits.agrees honest_found agrees_found) [] (all_around here _ _ _ placed) entries
-    (stands_emptied here _ _ _ placed _ _ marked same) in
-    made_there here _ _ _ placed c.args.file.now.sound fits c.args.pages.now c.replace_listing.new.pages
-    (g.D.Device.state c.args.device.now).disk.present refl (committed g at.After-replace_listing)
-    (c.replace_listing.ensures.edits.catalog ∙ same) (catalog_put g.D.Device (mark_of c.args.pages.now)
-    c.replace_listing.new.pages c.args.device.now c.clear_trees.new.device (all_around here _ _ _ placed) _ _ _
-    (λ (m : ℕ) (k v : List ℕ). with_value entries (entry_as (padded_name k) (catalog_value m v 0))) _ _ _ _
-    (edits.only.state honest_found ∙ c.find_listing.ensures.only.state honest) marked same
-    c.deref-in-Some.ensures.value c.deref-in-Some-2.ensures.value put)
+    made_replaced here g.D.Device _ _ _ placed c.args.file.now.sound fits c.args.pages.now c.replace_listing.new.pages
+    c.args.device.now c.clear_trees.new.device refl (committed g at.After-replace_listing) (edits.only.state
+    honest_found ∙ c.find_listing.ensures.only.state honest) _ _ (same_mark g at.After-replace_listing)
+    (same_catalog g at.After-replace_listing) c.replace_listing.ensures.edits.catalog _ _ c.deref-in-Some.ensures.value
+    c.deref-in-Some-2.ensures.value (c.in_ok-replace_listing-in-Some.ensures.replaced
+    (edits.only.honest.0 honest_found) (edits.agrees honest_found agrees_found) [] (all_around here _ _ _ placed)
+    (map (catalog_entry (mark_of c.args.pages.now)) holds.kept))
 
 pub returns-in-Some-clause-full : goal.returns-in-Some-clause-full
 returns-in-Some-clause-full g c = λ honest agrees files holds rested full.
@@ -198,19 +181,14 @@ returns-clause-will g c = λ fits honest agrees files holds.
     let honest_found = c.find_listing.ensures.only.honest.0 honest in
     let agrees_found = c.find_listing.ensures.agrees honest agrees in
     let here = held_still g at honest files holds in
-    let later : ℕ → List ℕ → List ℕ → List Entry =
-    λ m k v. with_new_entry (map (catalog_entry m) holds.kept) (entry_as (padded_name k) (catalog_value m v 0)) in
-    let put = catalog_put g.D.Device (mark_of c.args.pages.now) c.add_listing.new.pages c.args.device.now
-    c.find_listing.new.device (flat_map trees_of holds.kept) _ _ _ later _ _ _ _
-    (c.find_listing.ensures.only.state honest) c.find_listing.ensures.unchanged.committed.mark refl
-    c.deref-in-None.ensures.value c.deref-in-None-2.ensures.value
-    (c.in_ok-add_listing-in-None.ensures.added honest_found agrees_found files here) in
-    made_new c.args.pages.now c.add_listing.new.pages (g.D.Device.state c.args.device.now).disk.present files holds
-    c.args.file.now.name.items (spec_of c.args.file.now) c.args.file.now.named c.args.file.now.sound fits
+    made_added g.D.Device c.args.pages.now c.add_listing.new.pages c.args.device.now c.find_listing.new.device files
+    holds c.args.file.now.name.items (spec_of c.args.file.now) c.args.file.now.named c.args.file.now.sound fits
     (absent g at honest agrees files holds) (committed_on c.args.pages.now c.find_listing.new.pages
     c.add_listing.new.pages c.find_listing.ensures.unchanged.committed c.add_listing.ensures.prepares.committed)
     (c.in_ok-add_listing-in-None.ensures.few_files honest_found agrees_found files here) c.in_ok-listing.listing.items
-    c.in_ok-listing.ensures.bytes put
+    c.in_ok-listing.ensures.bytes (c.find_listing.ensures.only.state honest) _
+    c.find_listing.ensures.unchanged.committed.mark _ _ c.deref-in-None.ensures.value
+    c.deref-in-None-2.ensures.value (c.in_ok-add_listing-in-None.ensures.added honest_found agrees_found files here)
 
 pub returns-clause-full : goal.returns-clause-full
 returns-clause-full g c = λ honest agrees files holds rested full.

@@ -33,7 +33,8 @@ pub returns-in-Ok-clause-changed_pages : goal.returns-in-Ok-clause-changed_pages
 returns-in-Ok-clause-changed_pages g c = λ honest agrees left right entries stands.
     let before : List (Option Sector) =
     (map_now c.args.pages.now (g.D.Device.state c.args.device.now).disk.present).pages in
-    c.in-Ok.ensures.changed_pages honest agrees stands.levels (grows before left right c.args.tree.now entries stands)
+    c.in-Ok.ensures.few.changed_pages honest agrees stands.levels
+    (grows before left right c.args.tree.now entries stands)
 
 pub returns-in-Err-clause-damaged : goal.returns-in-Err-clause-damaged
 returns-in-Err-clause-damaged g c = λ honest agrees left right entries stands is.
@@ -48,7 +49,8 @@ pub returns-in-Err-clause-changed_pages : goal.returns-in-Err-clause-changed_pag
 returns-in-Err-clause-changed_pages g c = λ honest agrees left right entries stands.
     let before : List (Option Sector) =
     (map_now c.args.pages.now (g.D.Device.state c.args.device.now).disk.present).pages in
-    c.in-Err.ensures.changed_pages honest agrees stands.levels (grows before left right c.args.tree.now entries stands)
+    c.in-Err.ensures.few.changed_pages honest agrees stands.levels
+    (grows before left right c.args.tree.now entries stands)
 
 pub returns-in-Err-clause-room : goal.returns-in-Err-clause-room
 returns-in-Err-clause-room g c = λ honest agrees left right entries stands is.

@@ -32,7 +32,7 @@ pub returns-in-Ok-true-clause-few : goal.returns-in-Ok-true-clause-few
 returns-in-Ok-true-clause-few g c = λ honest agrees left right entries stands.
     let before : List (Option Sector) =
     (map_now c.args.pages.now (g.D.Device.state c.args.device.now).disk.present).pages in
-    c.in-Ok-true.ensures.changed_pages honest agrees stands.levels
+    c.in-Ok-true.ensures.few.changed_pages honest agrees stands.levels
     (grows before left right c.args.tree.now entries stands)
 
 pub returns-in-Ok-false-clause-damaged : goal.returns-in-Ok-false-clause-damaged

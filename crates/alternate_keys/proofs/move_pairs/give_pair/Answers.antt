@@ -1,8 +1,7 @@
 use Rattle.std.proofs.Common.{◌≡◌, ◌++◌, true, false, Ok, ℕ, List, sym, ap, subst, ◌∙◌, refl}
 use Rattle.std.specs.Prelude.{Option, is_some, IfErr}
-use Rattle.station.specs.Disk.{Sector}
 use Rattle.byteorder.specs.Endian.{big_bytes}
-use Rattle.pages.specs.Pages.{map_now}
+use Rattle.btree.specs.Calls.{pages_on}
 use Rattle.btree.specs.Entries.{Entry, entry_with, with_new_entry}
 use Rattle.records.specs.declared.fault.StoreFault.TheVariants.{Damaged}
 use Rattle.records.specs.declared.file_spec.KeyPlace.{KeyPlace}
@@ -31,26 +30,25 @@ returns-in_err-insert_among-clause-room g c = λ honest agrees left right entrie
 pub returns-then-branch-clause-given : goal.returns-then-branch-clause-given
 unfolding made
 returns-then-branch-clause-given g c = λ honest agrees left right entries stands.
-    let bytes : List ℕ = c.args.bytes.now in
-    let own : Entry = pair_entry (spec_of c.args.file.now) c.args.key bytes c.args.arrival in
-    let after : List (Option Sector) =
-    (map_now c.insert_among.new.pages (g.D.Device.state c.args.device.now).disk.present).pages in
+    let bytes : List ℕ = c.args.pair.bytes.now in
+    let own : Entry = pair_entry (spec_of c.args.file.now) c.args.pair.key bytes c.args.pair.arrival in
     let key : c.deref.result.now ≡ own.key =
-    c.deref.ensures.value ∙ c.in_ok-at.ensures.bytes ∙ ap (λ (l : List ℕ). l ++ big_bytes 8 c.args.arrival)
+    c.deref.ensures.value ∙ c.in_ok-at.ensures.bytes ∙ ap (λ (l : List ℕ). l ++ big_bytes 8 c.args.pair.arrival)
     (c.part_of.ensures ∙ ap (λ (p : KeyPlace). part p bytes) c.key_place-place.ensures.place) in
     let value : c.part_of-2.result.now ≡ own.value =
     c.part_of-2.ensures ∙ ap (λ (p : KeyPlace). part p bytes) c.key_place-prime.ensures.place in
     let same : made c.deref.result.now c.part_of-2.result.now ≡ own =
     ap (λ (k : List ℕ). made k c.part_of-2.result.now) key ∙ ap (made own.key) value in
-    subst (λ (e : Entry). IsTreeAmong after left right c.insert_among.new.tree (with_new_entry entries e)) same
-    (c.in_ok-insert_among.ensures.inserted honest agrees left right entries stands (ap Ok c.if-branch.true)).1
+    subst (λ (e : Entry). IsTreeAmong (pages_on g.D.Device c.insert_among.new.pages c.args.device.now) left right
+    c.insert_among.new.tree (with_new_entry entries e)) same (c.in_ok-insert_among.ensures.inserted honest agrees left
+    right entries stands (ap Ok c.if-branch.true)).1
 
 pub returns-clause-damaged : goal.returns-clause-damaged
 returns-clause-damaged g c = λ honest agrees left right entries stands none is.
-    let bytes : List ℕ = c.args.bytes.now in
-    let own : Entry = pair_entry (spec_of c.args.file.now) c.args.key bytes c.args.arrival in
+    let bytes : List ℕ = c.args.pair.bytes.now in
+    let own : Entry = pair_entry (spec_of c.args.file.now) c.args.pair.key bytes c.args.pair.arrival in
     let key : c.deref.result.now ≡ own.key =
-    c.deref.ensures.value ∙ c.in_ok-at.ensures.bytes ∙ ap (λ (l : List ℕ). l ++ big_bytes 8 c.args.arrival)
+    c.deref.ensures.value ∙ c.in_ok-at.ensures.bytes ∙ ap (λ (l : List ℕ). l ++ big_bytes 8 c.args.pair.arrival)
     (c.part_of.ensures ∙ ap (λ (p : KeyPlace). part p bytes) c.key_place-place.ensures.place) in
     let some = c.in_ok-insert_among.ensures.there honest agrees left right entries stands (ap Ok c.if-branch.false) in
     let clash : is_some (entry_with entries c.deref.result.now) ≡ false =

@@ -1,27 +1,29 @@
-use Rattle.std.proofs.Common.{◌≡◌, Bool, true, ℕ, List, sym, ap, subst, ◌∙◌, arith}
-use Rattle.std.specs.Prelude.{Option, if◌then◌else◌}
+use Rattle.std.proofs.Common.{◌≡◌, true, ℕ, List, sym, ap, subst, ◌∙◌, arith}
+use Rattle.std.specs.Prelude.{Option}
 use Rattle.station.specs.Disk.{Sector}
-use Rattle.station.specs.State.{State}
 use Rattle.pages.specs.Use.{free_count}
 use Rattle.pages.specs.Pages.{map_now}
-use Rattle.btree.specs.Entries.{Entry, with_new_entry, without_entry}
-use Rattle.btree.specs.Rooted.{RootedTree}
+use Rattle.btree.specs.Calls.{pages_on}
+use Rattle.btree.specs.Entries.{Entry, without_entry}
 use Rattle.records.specs.Spec.{Spec}
 use Rattle.records.specs.Stores.{spec_of}
 use Rattle.volume_format.specs.Grows.{IsTreeAmong}
 use Rattle.alternate_keys.specs.declared.row_verb.RowVerb.{RowVerb}
-use Rattle.alternate_keys.specs.Moved.{entries_after, MayMove, pair_entry, old_key, changes_at}
-use Rattle.alternate_keys.proofs.Still.{same_volume}
+use Rattle.alternate_keys.specs.Moved.{entries_after, MayMove, old_key, changes_at}
+use Rattle.alternate_keys.proofs.Calling.{among_after, among_before}
 use Rattle.alternate_keys.proofs.Faults.{refused_by_call}
+use Rattle.alternate_keys.proofs.KeyTurn.{entries_replaced}
+use Rattle.alternate_keys.proofs.Still.{same_volume}
 use Rattle.alternate_keys.proofs.move_pairs.move_pair.Goals as goal
 
 pub returns-in_err-give_pair-in-Insert-clause-damaged : goal.returns-in_err-give_pair-in-Insert-clause-damaged
 returns-in_err-give_pair-in-Insert-clause-damaged g c = λ honest agrees left right entries stands may refused.
     let told = refused_by_call c.in_err-give_pair-in-Insert.was c.from_residual.ensures.1 refused in
     let spec : Spec = spec_of c.args.file.now in
-    let old : List ℕ = c.args.old.now in
-    let bytes : List ℕ = c.args.bytes.now in
-    let own = subst (λ (v : RowVerb). MayMove v spec c.args.key old bytes c.args.arrival entries) c.in-Insert.is may in
+    let old : List ℕ = c.args.row_move.old_value.now in
+    let bytes : List ℕ = c.args.row_move.bytes.now in
+    let own =
+    subst (λ (v : RowVerb). MayMove v spec c.args.key old bytes c.args.row_move.arrival entries) c.in-Insert.is may in
     c.give_pair.ensures.damaged honest agrees left right entries stands own told
 
 pub returns-in_err-give_pair-in-Insert-clause-room : goal.returns-in_err-give_pair-in-Insert-clause-room
@@ -33,12 +35,12 @@ returns-in_err-give_pair-in-Insert-clause-room g c = λ honest agrees left right
 pub returns-in_ok-give_pair-in-Insert-clause-moved : goal.returns-in_ok-give_pair-in-Insert-clause-moved
 returns-in_ok-give_pair-in-Insert-clause-moved g c = λ honest agrees left right entries stands.
     let spec : Spec = spec_of c.args.file.now in
-    let old : List ℕ = c.args.old.now in
-    let bytes : List ℕ = c.args.bytes.now in
+    let old : List ℕ = c.args.row_move.old_value.now in
+    let bytes : List ℕ = c.args.row_move.bytes.now in
     let image = (g.D.Device.state c.args.device.now).disk.present in
     let after : List (Option Sector) = (map_now c.give_pair.new.pages image).pages in
     subst (λ (v : RowVerb). IsTreeAmong after left right c.give_pair.new.tree
-    (entries_after v spec c.args.key old bytes c.args.arrival entries)) (sym c.in-Insert.is)
+    (entries_after v spec c.args.key old bytes c.args.row_move.arrival entries)) (sym c.in-Insert.is)
     (c.in_ok-give_pair-in-Insert.ensures.given honest agrees left right entries stands)
 
 pub returns-in_ok-give_pair-in-Insert-clause-few : goal.returns-in_ok-give_pair-in-Insert-clause-few
@@ -51,20 +53,21 @@ returns-in_err-take_pair-in-Remove-clause-damaged g c = λ honest agrees left ri
     let told =
     refused_by_call c.in_err-take_pair-in-Remove.was c.from_residual-in_err-take_pair-in-Remove.ensures.1 refused in
     let spec : Spec = spec_of c.args.file.now in
-    let old : List ℕ = c.args.old.now in
-    let bytes : List ℕ = c.args.bytes.now in
-    let own = subst (λ (v : RowVerb). MayMove v spec c.args.key old bytes c.args.arrival entries) c.in-Remove.is may in
+    let old : List ℕ = c.args.row_move.old_value.now in
+    let bytes : List ℕ = c.args.row_move.bytes.now in
+    let own =
+    subst (λ (v : RowVerb). MayMove v spec c.args.key old bytes c.args.row_move.arrival entries) c.in-Remove.is may in
     c.take_pair.ensures.damaged honest agrees left right entries stands own told
 
 pub returns-in_ok-take_pair-in-Remove-clause-moved : goal.returns-in_ok-take_pair-in-Remove-clause-moved
 returns-in_ok-take_pair-in-Remove-clause-moved g c = λ honest agrees left right entries stands.
     let spec : Spec = spec_of c.args.file.now in
-    let old : List ℕ = c.args.old.now in
-    let bytes : List ℕ = c.args.bytes.now in
+    let old : List ℕ = c.args.row_move.old_value.now in
+    let bytes : List ℕ = c.args.row_move.bytes.now in
     let image = (g.D.Device.state c.args.device.now).disk.present in
     let after : List (Option Sector) = (map_now c.take_pair.new.pages image).pages in
     subst (λ (v : RowVerb). IsTreeAmong after left right c.take_pair.new.tree
-    (entries_after v spec c.args.key old bytes c.args.arrival entries)) (sym c.in-Remove.is)
+    (entries_after v spec c.args.key old bytes c.args.row_move.arrival entries)) (sym c.in-Remove.is)
     (c.in_ok-take_pair-in-Remove.ensures.taken honest agrees left right entries stands)
 
 pub returns-in_ok-take_pair-in-Remove-clause-few : goal.returns-in_ok-take_pair-in-Remove-clause-few
@@ -77,88 +80,62 @@ returns-in_err-take_pair-in-Replace-clause-damaged g c = λ honest agrees left r
     let told =
     refused_by_call c.in_err-take_pair-in-Replace.was c.from_residual-in_err-take_pair-in-Replace.ensures.1 refused in
     let spec : Spec = spec_of c.args.file.now in
-    let old : List ℕ = c.args.old.now in
-    let bytes : List ℕ = c.args.bytes.now in
+    let old : List ℕ = c.args.row_move.old_value.now in
+    let bytes : List ℕ = c.args.row_move.bytes.now in
     let change : changes_at spec c.args.key old bytes ≡ true = sym c.is_changed.ensures ∙ c.if-not-is_changed.false in
     let both =
-    subst (λ (v : RowVerb). MayMove v spec c.args.key old bytes c.args.arrival entries) c.in-Replace.is may change in
+    subst (λ (v : RowVerb). MayMove v spec c.args.key old bytes c.args.row_move.arrival entries) c.in-Replace.is may
+    change in
     c.take_pair-in-Replace.ensures.damaged honest agrees left right entries stands both.0 told
 
 pub returns-in_err-give_pair-in-Replace-clause-damaged : goal.returns-in_err-give_pair-in-Replace-clause-damaged
 returns-in_err-give_pair-in-Replace-clause-damaged g c = λ honest agrees left right entries stands may refused.
-    let told =
-    refused_by_call c.in_err-give_pair-in-Replace.was c.from_residual-in_err-give_pair-in-Replace.ensures.1 refused in
     let spec : Spec = spec_of c.args.file.now in
-    let old : List ℕ = c.args.old.now in
-    let bytes : List ℕ = c.args.bytes.now in
-    let change : changes_at spec c.args.key old bytes ≡ true = sym c.is_changed.ensures ∙ c.if-not-is_changed.false in
-    let both =
-    subst (λ (v : RowVerb). MayMove v spec c.args.key old bytes c.args.arrival entries) c.in-Replace.is may change in
-    let own_key : List ℕ = old_key spec c.args.key old in
+    let change : changes_at spec c.args.key c.args.row_move.old_value.now c.args.row_move.bytes.now ≡ true =
+    sym c.is_changed.ensures ∙ c.if-not-is_changed.false in
+    let both = subst (λ (v : RowVerb).
+    MayMove v spec c.args.key c.args.row_move.old_value.now c.args.row_move.bytes.now c.args.row_move.arrival entries)
+    c.in-Replace.is may change in
     let edits = c.take_pair-in-Replace.ensures.edits in
-    let still = edits.only.state honest in
-    let here = subst (λ (s : State). IsTreeAmong (map_now c.take_pair-in-Replace.new.pages s.disk.present).pages left
-    right c.take_pair-in-Replace.new.tree (without_entry entries own_key)) (sym still)
-    (c.in_ok-take_pair-in-Replace.ensures.taken honest agrees left right entries stands) in
     c.give_pair-in-Replace.ensures.damaged (edits.only.honest.0 honest) (edits.agrees honest agrees) left right
-    (without_entry entries own_key) here both.1 told
+    (without_entry entries (old_key spec c.args.key c.args.row_move.old_value.now))
+    (among_after g.D.Device edits honest c.take_pair-in-Replace.new.pages
+    (c.in_ok-take_pair-in-Replace.ensures.taken honest agrees left right entries stands)) both.1
+    (refused_by_call c.in_err-give_pair-in-Replace.was c.from_residual-in_err-give_pair-in-Replace.ensures.1 refused)
 
 pub returns-in_err-give_pair-in-Replace-clause-room : goal.returns-in_err-give_pair-in-Replace-clause-room
 returns-in_err-give_pair-in-Replace-clause-room g c = λ honest agrees left right entries stands full.
-    let told =
-    refused_by_call c.in_err-give_pair-in-Replace.was c.from_residual-in_err-give_pair-in-Replace.ensures.1 full in
-    let spec : Spec = spec_of c.args.file.now in
-    let old : List ℕ = c.args.old.now in
-    let bytes : List ℕ = c.args.bytes.now in
-    let own_key : List ℕ = old_key spec c.args.key old in
     let edits = c.take_pair-in-Replace.ensures.edits in
-    let still = edits.only.state honest in
-    let here = subst (λ (s : State). IsTreeAmong (map_now c.take_pair-in-Replace.new.pages s.disk.present).pages left
-    right c.take_pair-in-Replace.new.tree (without_entry entries own_key)) (sym still)
-    (c.in_ok-take_pair-in-Replace.ensures.taken honest agrees left right entries stands) in
     let few = c.in_ok-take_pair-in-Replace.ensures.few honest agrees left right entries stands in
     let room = c.give_pair-in-Replace.ensures.room (edits.only.honest.0 honest) (edits.agrees honest agrees) left right
-    (without_entry entries own_key) here told in
+    (without_entry entries (old_key (spec_of c.args.file.now) c.args.key c.args.row_move.old_value.now))
+    (among_after g.D.Device edits honest c.take_pair-in-Replace.new.pages
+    (c.in_ok-take_pair-in-Replace.ensures.taken honest agrees left right entries stands))
+    (refused_by_call c.in_err-give_pair-in-Replace.was c.from_residual-in_err-give_pair-in-Replace.ensures.1 full) in
     let same = ap free_count (same_volume c.args.pages.now c.take_pair-in-Replace.new.pages edits.committed) in
     omega (arith, few, room, same)
 
 pub returns-in_ok-give_pair-in-Replace-clause-moved : goal.returns-in_ok-give_pair-in-Replace-clause-moved
 returns-in_ok-give_pair-in-Replace-clause-moved g c = λ honest agrees left right entries stands.
     let spec : Spec = spec_of c.args.file.now in
-    let old : List ℕ = c.args.old.now in
-    let bytes : List ℕ = c.args.bytes.now in
-    let image = (g.D.Device.state c.args.device.now).disk.present in
-    let change : changes_at spec c.args.key old bytes ≡ true = sym c.is_changed.ensures ∙ c.if-not-is_changed.false in
-    let own_key : List ℕ = old_key spec c.args.key old in
     let edits = c.take_pair-in-Replace.ensures.edits in
-    let still = edits.only.state honest in
-    let here = subst (λ (s : State). IsTreeAmong (map_now c.take_pair-in-Replace.new.pages s.disk.present).pages left
-    right c.take_pair-in-Replace.new.tree (without_entry entries own_key)) (sym still)
-    (c.in_ok-take_pair-in-Replace.ensures.taken honest agrees left right entries stands) in
-    let given = c.in_ok-give_pair-in-Replace.ensures.given (edits.only.honest.0 honest) (edits.agrees honest agrees)
-    left right (without_entry entries own_key) here in
-    let new : RootedTree = c.give_pair-in-Replace.new.tree in
-    let after : List (Option Sector) = (map_now c.give_pair-in-Replace.new.pages image).pages in
-    let later : List Entry =
-    with_new_entry (without_entry entries own_key) (pair_entry spec c.args.key bytes c.args.arrival) in
-    let put = subst (λ (s : State).
-    IsTreeAmong (map_now c.give_pair-in-Replace.new.pages s.disk.present).pages left right new later) still given in
-    subst (λ (v : RowVerb). IsTreeAmong after left right new
-    (entries_after v spec c.args.key old bytes c.args.arrival entries)) (sym c.in-Replace.is)
-    (subst (λ (b : Bool). IsTreeAmong after left right new (if b then later else entries)) (sym change) put)
+    subst (λ (es : List Entry). IsTreeAmong (pages_on g.D.Device c.give_pair-in-Replace.new.pages c.args.device.now)
+    left right c.give_pair-in-Replace.new.tree es)
+    (sym (entries_replaced c.args.row_move.verb spec c.args.key c.args.row_move.old_value.now c.args.row_move.bytes.now
+    c.args.row_move.arrival entries
+    c.in-Replace.is (sym c.is_changed.ensures ∙ c.if-not-is_changed.false)))
+    (among_before g.D.Device edits honest c.give_pair-in-Replace.new.pages
+    (c.in_ok-give_pair-in-Replace.ensures.given (edits.only.honest.0 honest) (edits.agrees honest agrees) left right
+    (without_entry entries (old_key spec c.args.key c.args.row_move.old_value.now))
+    (among_after g.D.Device edits honest c.take_pair-in-Replace.new.pages
+    (c.in_ok-take_pair-in-Replace.ensures.taken honest agrees left right entries stands))))
 
 pub returns-in_ok-give_pair-in-Replace-clause-few : goal.returns-in_ok-give_pair-in-Replace-clause-few
 returns-in_ok-give_pair-in-Replace-clause-few g c = λ honest agrees left right entries stands.
-    let spec : Spec = spec_of c.args.file.now in
-    let old : List ℕ = c.args.old.now in
-    let bytes : List ℕ = c.args.bytes.now in
-    let own_key : List ℕ = old_key spec c.args.key old in
     let edits = c.take_pair-in-Replace.ensures.edits in
-    let still = edits.only.state honest in
-    let here = subst (λ (s : State). IsTreeAmong (map_now c.take_pair-in-Replace.new.pages s.disk.present).pages left
-    right c.take_pair-in-Replace.new.tree (without_entry entries own_key)) (sym still)
-    (c.in_ok-take_pair-in-Replace.ensures.taken honest agrees left right entries stands) in
     let one = c.in_ok-take_pair-in-Replace.ensures.few honest agrees left right entries stands in
     let two = c.in_ok-give_pair-in-Replace.ensures.few (edits.only.honest.0 honest) (edits.agrees honest agrees) left
-    right (without_entry entries own_key) here in
+    right (without_entry entries (old_key (spec_of c.args.file.now) c.args.key c.args.row_move.old_value.now))
+    (among_after g.D.Device edits honest c.take_pair-in-Replace.new.pages
+    (c.in_ok-take_pair-in-Replace.ensures.taken honest agrees left right entries stands)) in
     omega (arith, one, two)

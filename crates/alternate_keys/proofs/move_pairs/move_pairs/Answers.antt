@@ -1,79 +1,52 @@
-use Rattle.std.proofs.Common.{◌≡◌, ◌<◌, ◌+◌, ◌++◌, ℕ, List, [], ◌∷◌, length, drop, Err, refl, sym, ap, subst}
-use Rattle.std.proofs.Common.{◌∙◌, arith}
+use Rattle.std.proofs.Common.{◌≡◌, ◌<◌, ◌+◌, ◌*◌, ◌++◌, ℕ, List, [], ◌∷◌, length, Err, sym, ap, subst, ◌∙◌, arith}
 use Rattle.std.specs.Prelude.{Option}
-use Rattle.std.proofs.lemmas.List.{length-append}
 use Rattle.station.specs.Disk.{Sector}
-use Rattle.station.specs.State.{State}
 use Rattle.pages.specs.Use.{free_count}
-use Rattle.pages.specs.Pages.{map_now}
+use Rattle.pages.specs.Pages.{map_now, Agrees}
 use Rattle.btree.specs.Calls.{pages_on}
+use Rattle.btree.specs.Entries.{Entry}
+use Rattle.btree.specs.Results.{FewChanged}
 use Rattle.records.specs.declared.fault.StoreFault.TheVariants.{Device}
 use Rattle.records.specs.Spec.{Spec}
-use Rattle.records.specs.Files.{File}
 use Rattle.records.specs.Stores.{spec_of}
-use Rattle.volume_format.specs.Forest.{TreeLevels, IsForest}
+use Rattle.volume_format.specs.Forest.{TreeLevels}
 use Rattle.volume_format.specs.Grows.{IsTreeAmong}
-use Rattle.alternate_keys.specs.Moved.{PairsMove, entries_after}
-use Rattle.alternate_keys.specs.Placed.{OnIndexes, HaveBecome, listed_tree}
-use Rattle.alternate_keys.proofs.Calling.{edits_nothing, edits_then}
+use Rattle.alternate_keys.specs.Moved.{OnPairMoves, entries_after}
+use Rattle.alternate_keys.specs.Placed.{HaveBecome}
+use Rattle.alternate_keys.proofs.Calling.{among_after, among_before, edits_nothing, edits_then}
 use Rattle.alternate_keys.proofs.Faults.{refused_by_call}
-use Rattle.alternate_keys.proofs.Keeping.{same_tree}
-use Rattle.alternate_keys.proofs.KeyTurn.{IsTurn, lefts, rights, entries_there, turn_stands, turn_may, turn_over}
+use Rattle.alternate_keys.proofs.KeyTurn.{IsTurn, lefts, rights, entries_there, none_become, turn_of, turn_stands}
+use Rattle.alternate_keys.proofs.KeyTurn.{turn_may, turn_over}
 use Rattle.alternate_keys.proofs.Still.{same_volume}
+use Rattle.alternate_keys.proofs.Walks.{length_more}
 use Rattle.alternate_keys.proofs.move_pairs.move_pairs.Given.{Over}
 use Rattle.alternate_keys.proofs.move_pairs.move_pairs.Goals as goal
 use Rattle.alternate_keys.proofs.move_pairs.move_pairs.Goals.{After-move_pair, After-push}
-
-drop_none : {X : Type 0} (xs : List X) → drop 0 xs ≡ xs
-drop_none [] = refl
-drop_none (x ∷ xs) = refl
 
 pub loop-key-init : goal.loop-key-init
 loop-key-init g c = record {
   edits = edits_nothing g.D.Device c.args.pages.now c.args.device.now c.requires.open;
   came = λ honest agrees held left right trees is has after spec_then move.
-      let before : List (Option Sector) =
-      (map_now c.args.pages.now (g.D.Device.state c.args.device.now).disk.present).pages in
-      record {
-        done = [];
-        count = refl;
-        forest = subst (λ (ts : List TreeLevels). IsForest before (left ++ (ts ++ right))) (sym (drop_none trees))
-            has.forest;
-        indexes = λ k less. absurd (omega (arith, less));
-        roots_are = sym c.new-roots.ensures.items;
-      };
+      none_become has after _ c.new-roots.ensures.items;
   few = λ honest agrees held left right trees is has after spec_then move. omega arith;
   count = ap (λ (l : List ℕ). length l) c.new-roots.ensures.items;
 }
 
--- the turn of the key, and its tree among the others
-turn : (g : Over) (c : After-move_pair g) → OnIndexes g.D.Device (spec_of c.args.file.now) c.args.pages.now
-    c.args.device.now c.args.listing.now (λ held left right trees. (after : File) → after.spec ≡ held.spec
-    → PairsMove c.args.verb held after c.args.old.now c.args.bytes.now c.args.arrival →
-    IsTurn held after (pages_on g.D.Device c.args.pages.now c.args.device.now)
+-- the turn of the key
+turn : (g : Over) (c : After-move_pair g) → OnPairMoves g.D.Device c.args.row_move.verb (spec_of c.args.file.now)
+    c.args.pages.now c.args.device.now c.args.listing.now c.args.row_move.old_value.now c.args.row_move.bytes.now
+    c.args.row_move.arrival
+    (λ held after left right trees. IsTurn held after (pages_on g.D.Device c.args.pages.now c.args.device.now)
     (pages_on g.D.Device c.loop-key.pages c.args.device.now) left right trees c.args.listing.now c.loop-key.key
     c.loop-key.roots.items c.file_tree-tree.result)
 turn g c honest agrees held left right trees is has after spec_then move =
     let n : c.len-count.result ≡ length c.args.file.now.alternates.items =
     omega (arith, c.len-count.ensures, c.args.file.now.alternates.ok) in
     let test = c.loop-key-test.true in
-    record {
-      has = has;
-      become = c.loop-key.invariant.came honest agrees held left right trees is has after spec_then move;
-      low = subst (λ (s : Spec). c.loop-key.key < length s.alternates) (sym is) (omega (arith, n, test));
-      tree_is = same_tree c.file_tree-tree.result (listed_tree (spec_of c.args.file.now) c.loop-key.key
-          c.args.listing.now) c.file_tree-tree.ensures.layout c.file_tree-tree.ensures.root
-          ∙ ap (λ (s : Spec). listed_tree s c.loop-key.key c.args.listing.now) (sym is);
-    }
-
-stands : (g : Over) (c : After-move_pair g) {held after : File} {before : List (Option Sector)}
-    {left right trees : List TreeLevels} {listing : List ℕ} {i : ℕ} {roots : List ℕ} → g.D.Device.is_honest
-    c.args.device.now → (t : IsTurn held after before (pages_on g.D.Device c.loop-key.pages c.args.device.now) left
-    right trees listing i roots c.file_tree-tree.result) → IsTreeAmong (pages_on g.D.Device c.loop-key.pages
-    c.loop-key.device) (lefts t) (rights t) c.file_tree-tree.result (entries_there t)
-stands g c honest t =
-    subst (λ (s : State). IsTreeAmong (map_now c.loop-key.pages s.disk.present).pages (lefts t) (rights t)
-    c.file_tree-tree.result (entries_there t)) (sym (c.loop-key.invariant.edits.only.state honest)) (turn_stands t)
+    let low : c.loop-key.key < length c.args.file.now.alternates.items = omega (arith, n, test) in
+    turn_of has (c.loop-key.invariant.came honest agrees held left right trees is has after spec_then move)
+    (spec_of c.args.file.now) is low c.file_tree-tree.result c.file_tree-tree.ensures.layout
+    c.file_tree-tree.ensures.root
 
 pub returns-in_err-move_pair-clause-room : goal.returns-in_err-move_pair-clause-room
 returns-in_err-move_pair-clause-room g c = λ honest agrees held left right trees is has after spec_then move full.
@@ -81,7 +54,7 @@ returns-in_err-move_pair-clause-room g c = λ honest agrees held left right tree
     let t = turn g at honest agrees held left right trees is has after spec_then move in
     let edits = c.loop-key.invariant.edits in
     let room = c.move_pair.ensures.room (edits.only.honest.0 honest) (edits.agrees honest agrees) (lefts t) (rights t)
-    (entries_there t) (stands g at honest t)
+    (entries_there t) (among_after g.D.Device edits honest c.loop-key.pages (turn_stands t))
     (refused_by_call c.in_err-move_pair.was c.from_residual.ensures.1 full) in
     let few = c.loop-key.invariant.few honest agrees held left right trees is has after spec_then move in
     let committed = ap free_count (same_volume c.args.pages.now c.loop-key.pages edits.committed) in
@@ -96,55 +69,72 @@ returns-in_err-move_pair-clause-damaged g c =
     let t = turn g at honest agrees held left right trees is has after spec_then move in
     let edits = c.loop-key.invariant.edits in
     c.move_pair.ensures.damaged (edits.only.honest.0 honest) (edits.agrees honest agrees) (lefts t) (rights t)
-    (entries_there t) (stands g at honest t) (turn_may t c.args.verb (spec_of c.args.file.now) c.args.old.now
-    c.args.bytes.now c.args.arrival is may)
+    (entries_there t) (among_after g.D.Device edits honest c.loop-key.pages (turn_stands t))
+    (turn_may t c.args.row_move.verb
+    (spec_of c.args.file.now) c.args.row_move.old_value.now c.args.row_move.bytes.now c.args.row_move.arrival is may)
     (refused_by_call c.in_err-move_pair.was c.from_residual.ensures.1 refused)
 
+-- the tree of the key after its pair moved, over the device as it was before
+moved : (g : Over) (c : After-push g) → g.D.Device.is_honest c.args.device.now
+    → Agrees c.args.pages.now (g.D.Device.state c.args.device.now).disk
+    → {left right : List TreeLevels} {entries : List Entry} → IsTreeAmong
+    (pages_on g.D.Device c.loop-key.pages c.args.device.now) left right c.file_tree-tree.result entries → IsTreeAmong
+    (pages_on g.D.Device c.move_pair.new.pages c.args.device.now) left right c.move_pair.new.tree (entries_after
+    c.args.row_move.verb (spec_of c.args.file.now) c.loop-key.key c.args.row_move.old_value.now
+    c.args.row_move.bytes.now c.args.row_move.arrival entries)
+moved g c honest agrees {left} {right} {entries} there =
+    let edits = c.loop-key.invariant.edits in
+    among_before g.D.Device edits honest c.move_pair.new.pages (c.in_ok-move_pair.ensures.moved
+    (edits.only.honest.0 honest) (edits.agrees honest agrees) left right entries
+    (among_after g.D.Device edits honest c.loop-key.pages there))
+
 -- the tree of the key has become that of the changed file
-came : (g : Over) (c : After-push g) → OnIndexes g.D.Device (spec_of c.args.file.now) c.args.pages.now
-    c.args.device.now c.args.listing.now (λ held left right trees. (after : File) → after.spec ≡ held.spec
-    → PairsMove c.args.verb held after c.args.old.now c.args.bytes.now c.args.arrival →
-    (t : IsTurn held after (pages_on g.D.Device c.args.pages.now c.args.device.now)
-    (pages_on g.D.Device c.loop-key.pages c.args.device.now) left right trees c.args.listing.now c.loop-key.key
-    c.loop-key.roots.items c.file_tree-tree.result) → IsTreeAmong (pages_on g.D.Device c.loop-key.pages
-    c.loop-key.device) (lefts t) (rights t) c.file_tree-tree.result (entries_there t) →
-    (next : List ℕ) → c.loop-key.roots.items ++ c.root.result ∷ [] ≡ next
+came : (g : Over) (c : After-push g)
+    → OnPairMoves g.D.Device c.args.row_move.verb (spec_of c.args.file.now) c.args.pages.now
+    c.args.device.now c.args.listing.now c.args.row_move.old_value.now c.args.row_move.bytes.now c.args.row_move.arrival
+    (λ held after left right trees.
+    IsTurn held after (pages_on g.D.Device c.args.pages.now c.args.device.now) (pages_on g.D.Device c.loop-key.pages
+    c.args.device.now) left right trees c.args.listing.now c.loop-key.key c.loop-key.roots.items
+    c.file_tree-tree.result → (next : List ℕ) → c.loop-key.roots.items ++ c.root.result ∷ [] ≡ next
     → HaveBecome after (pages_on g.D.Device c.move_pair.new.pages c.args.device.now) left right trees
     (c.loop-key.key + 1) next)
-came g c honest agrees held left right trees is has after spec_then move t there next pushed =
+came g c honest agrees held left right trees is has after spec_then move t next pushed =
+    turn_over t c.args.row_move.verb (spec_of c.args.file.now) c.args.row_move.old_value.now c.args.row_move.bytes.now
+    c.args.row_move.arrival is spec_then move
+    (pages_on g.D.Device c.move_pair.new.pages c.args.device.now) c.move_pair.new.tree c.move_pair.ensures.layout
+    (moved g c honest agrees (turn_stands t)) next
+    (ap (λ (r : ℕ). c.loop-key.roots.items ++ r ∷ []) (sym c.root.ensures) ∙ pushed)
+
+-- and few pages were changed
+more_changed : (g : Over) (c : After-push g) → OnPairMoves g.D.Device c.args.row_move.verb (spec_of c.args.file.now)
+    c.args.pages.now c.args.device.now c.args.listing.now c.args.row_move.old_value.now c.args.row_move.bytes.now
+    c.args.row_move.arrival
+    (λ held after left right trees. IsTurn held after (pages_on g.D.Device c.args.pages.now c.args.device.now)
+    (pages_on g.D.Device c.loop-key.pages c.args.device.now) left right trees c.args.listing.now c.loop-key.key
+    c.loop-key.roots.items c.file_tree-tree.result
+    → FewChanged (84 * (c.loop-key.key + 1)) c.args.pages.now c.move_pair.new.pages)
+more_changed g c honest agrees held left right trees is has after spec_then move t =
     let edits = c.loop-key.invariant.edits in
-    let told = c.in_ok-move_pair.ensures.moved (edits.only.honest.0 honest) (edits.agrees honest agrees) (lefts t)
-    (rights t) (entries_there t) there in
-    let put = subst (λ (s : State). IsTreeAmong (map_now c.move_pair.new.pages s.disk.present).pages (lefts t)
-    (rights t) c.move_pair.new.tree (entries_after c.args.verb (spec_of c.args.file.now) c.loop-key.key c.args.old.now
-    c.args.bytes.now c.args.arrival (entries_there t))) (edits.only.state honest) told in
-    turn_over t c.args.verb (spec_of c.args.file.now) c.args.old.now c.args.bytes.now c.args.arrival is spec_then move
-    (pages_on g.D.Device c.move_pair.new.pages c.args.device.now) c.move_pair.new.tree c.move_pair.ensures.layout put
-    next (ap (λ (r : ℕ). c.loop-key.roots.items ++ r ∷ []) (sym c.root.ensures) ∙ pushed)
+    let more = c.in_ok-move_pair.ensures.few (edits.only.honest.0 honest) (edits.agrees honest agrees) (lefts t)
+    (rights t) (entries_there t) (among_after g.D.Device edits honest c.loop-key.pages (turn_stands t)) in
+    let few = c.loop-key.invariant.few honest agrees held left right trees is has after spec_then move in
+    omega (arith, few, more)
 
 pub loop-key-preserved : goal.loop-key-preserved
-loop-key-preserved g c = record {
-  edits = edits_then g.D.Device ⊥ (c.move_pair.result ≡ Err Device) ⊥ _ _ _ _ _ _ (λ is. absurd is)
-      c.loop-key.invariant.edits c.move_pair.ensures.edits;
-  came = λ honest agrees held left right trees is has after spec_then move.
-      let at = goal.at.loop-key-preserved g c in
-      let t = turn g at.After-move_pair honest agrees held left right trees is has after spec_then move in
-      came g at.After-push honest agrees held left right trees is has after spec_then move t
-      (stands g at.After-move_pair honest t) c.push.new.self.items (sym c.in_ok-push.ensures.items);
-  few = λ honest agrees held left right trees is has after spec_then move.
-      let at = (goal.at.loop-key-preserved g c).After-move_pair in
-      let t = turn g at honest agrees held left right trees is has after spec_then move in
-      let edits = c.loop-key.invariant.edits in
-      let more = c.in_ok-move_pair.ensures.few (edits.only.honest.0 honest) (edits.agrees honest agrees) (lefts t)
-      (rights t) (entries_there t) (stands g at honest t) in
-      let few = c.loop-key.invariant.few honest agrees held left right trees is has after spec_then move in
-      omega (arith, few, more);
-  count =
-      let all = ap (λ (l : List ℕ). length l) c.in_ok-push.ensures.items in
-      let many = length-append c.loop-key.roots.items (c.root.result ∷ []) in
-      let count = c.loop-key.invariant.count in
-      omega (arith, all, many, count);
-}
+loop-key-preserved g c =
+    let at = goal.at.loop-key-preserved g c in
+    record {
+      edits = edits_then g.D.Device ⊥ (c.move_pair.result ≡ Err Device) ⊥ _ _ _ _ _ _ (λ is. absurd is)
+          c.loop-key.invariant.edits c.move_pair.ensures.edits;
+      came = λ honest agrees held left right trees is has after spec_then move.
+          came g at.After-push honest agrees held left right trees is has after spec_then move
+          (turn g at.After-move_pair honest agrees held left right trees is has after spec_then move)
+          c.push.new.self.items (sym c.in_ok-push.ensures.items);
+      few = λ honest agrees held left right trees is has after spec_then move.
+          more_changed g at.After-push honest agrees held left right trees is has after spec_then move
+          (turn g at.After-move_pair honest agrees held left right trees is has after spec_then move);
+      count = length_more c.loop-key.roots.items c.root.result c.in_ok-push.ensures.items c.loop-key.invariant.count;
+    }
 
 pub returns-clause-came : goal.returns-clause-came
 returns-clause-came g c = λ honest agrees held left right trees is has after spec_then move.

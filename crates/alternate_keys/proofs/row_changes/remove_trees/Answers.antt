@@ -44,7 +44,8 @@ abbrev Moves : (g : Over) (c : After-move_row g) → NamedFile → ℕ → List 
 Moves g c named generation left right =
     IsMoving g.D.Device Remove (spec_of c.args.file.now) named
     (named_after named (removal (pair_of c.args.file.now.organization c.args.key.now c.args.number) named.file))
-    generation left right c.args.listing.now c.root-root.result c.value.result.now [] c.next_arrival-next.result
+    generation left right c.args.listing.now c.root-root.result c.value-old_value.result.now []
+    c.next_arrival-next.result
     c.next_arrival-next.result c.args.pages.now c.args.device.now c.remove_row.new.pages c.remove_row.new.device
 
 moves : (g : Over) (c : After-move_row g) {named : NamedFile} {generation : ℕ} {left right : List TreeLevels}
@@ -53,7 +54,7 @@ moves : (g : Over) (c : After-move_row g) {named : NamedFile} {generation : ℕ}
     c.find_row.new.pages c.find_row.new.device → Moves g c named generation left right
 moves g c honest found =
     removed_moves g.D.Device c.args.file.now.sound honest c.find_row.ensures.looks found c.remove_row.ensures.edits
-    c.in_ok-remove_row.ensures.few c.next_arrival-next.ensures c.key.ensures c.value.ensures
+    c.in_ok-remove_row.ensures.few c.next_arrival-next.ensures c.key.ensures c.value-old_value.ensures
     c.remove_row.ensures.layout c.remove_row.ensures.form c.row_tree-prime.ensures.layout
     c.row_tree-prime.ensures.root c.row_tree-prime.ensures.form c.root-root.ensures
     c.in_ok-remove_row.ensures.removed
@@ -126,9 +127,10 @@ returns-clause-few g c = λ honest agrees named generation left right has.
 pub move_row-requires-clause-values : goal.move_row-requires-clause-values
 move_row-requires-clause-values g c =
     value_long (spec_of c.args.file.now) c.row_tree-prime.result c.in_ok-row.field-0 c.in-Some.row
-    c.value.result.now c.row_tree-prime.ensures.layout c.row_tree-prime.ensures.form c.in_ok-row.ensures.lengths
+    c.value-old_value.result.now c.row_tree-prime.ensures.layout c.row_tree-prime.ensures.form
+    c.in_ok-row.ensures.lengths
     c.in-Some.is
-    c.value.ensures
+    c.value-old_value.ensures
 
 pub returns-in_err-row-clause-edits : goal.returns-in_err-row-clause-edits
 returns-in_err-row-clause-edits g c =

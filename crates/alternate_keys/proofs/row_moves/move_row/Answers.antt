@@ -32,9 +32,10 @@ returns-clause-placed g c = λ honest agrees held after generation left right m.
     let become = c.in_ok-roots.ensures.came honest agrees held.file (left ++ m.prime ∷ []) right m.trees m.spec_is
     m.indexes after.file (m.spec_then ∙ sym m.spec_is) m.pairs in
     let says = c.in_ok-new.ensures.bytes ∙ ap (λ (l : List ℕ). listing_bytes
-    (record { spec = spec; prime = c.args.root; alternates = l; next_arrival = c.args.next })) c.deref.ensures.value in
+    (record { spec = spec; prime = c.args.root; alternates = l; next_arrival = c.args.row_move.next }))
+    c.deref.ensures.value in
     placed_by spec after generation pages left right m.prime m.trees c.in_ok-roots.roots.items c.in_ok-new.new.items
-    c.args.root c.args.next become m.layout m.root_is m.form m.rows m.spec_then m.next_is m.low
+    c.args.root c.args.row_move.next become m.layout m.root_is m.form m.rows m.spec_then m.next_is m.low
     (m.indexes.count ∙ ap (λ (s : Spec). length s.alternates) m.spec_is) says
 
 pub returns-clause-few : goal.returns-clause-few
@@ -48,7 +49,7 @@ returns-clause-long g c =
       spec = spec_of c.args.file.now;
       prime = c.args.root;
       alternates = c.deref.result.now;
-      next_arrival = c.args.next;
+      next_arrival = c.args.row_move.next;
     } in
     ap (λ (l : List ℕ). length l) c.in_ok-new.ensures.bytes ∙ long said c.args.file.now.sound
     (ap (λ (l : List ℕ). length l) c.deref.ensures.value ∙ c.in_ok-roots.ensures.count)

@@ -27,16 +27,18 @@ use Rattle.alternate_keys.proofs.seek.seek_row.Goals.{After-read_prime_row, Afte
 
 pub returns-then-not-branch-clause-found : goal.returns-then-not-branch-clause-found
 returns-then-not-branch-clause-found g c = λ honest agrees bound rows way near.
-    let none = found_none (spec_of c.args.file.now) c.args.key bound (pages_on g.D.Device c.args.pages.now
-    c.args.device.now) rows c.args.prime.now c.args.under.now c.args.aim c.args.at.now _ way
+    let none =
+    found_none (spec_of c.args.key_search.file.now) c.args.key_search.key bound (pages_on g.D.Device c.args.pages.now
+    c.args.device.now) rows c.args.prime.now c.args.under.now c.args.key_search.aim c.args.key_search.at.now _ way
     (c.in_ok-look_near.ensures.entry honest agrees way.pairs.levels way.pairs.holds near)
     (ap (λ (b : Bool). if_found b c.look_near.new.entry) c.if-not-branch.true) in
-    sym (ap (option_map (found_row (spec_of c.args.file.now) c.args.key rows)) none)
+    sym (ap (option_map (found_row (spec_of c.args.key_search.file.now) c.args.key_search.key rows)) none)
 
 pub returns-then-not-branch-clause-bytes : goal.returns-then-not-branch-clause-bytes
 returns-then-not-branch-clause-bytes g c = λ honest agrees bound rows way near fits.
-    let none = found_none (spec_of c.args.file.now) c.args.key bound (pages_on g.D.Device c.args.pages.now
-    c.args.device.now) rows c.args.prime.now c.args.under.now c.args.aim c.args.at.now _ way
+    let none =
+    found_none (spec_of c.args.key_search.file.now) c.args.key_search.key bound (pages_on g.D.Device c.args.pages.now
+    c.args.device.now) rows c.args.prime.now c.args.under.now c.args.key_search.aim c.args.key_search.at.now _ way
     (c.in_ok-look_near.ensures.entry honest agrees way.pairs.levels way.pairs.holds near)
     (ap (λ (b : Bool). if_found b c.look_near.new.entry) c.if-not-branch.true) in
     sym (ap (record_of c.args.bytes.now) none)
@@ -44,32 +46,32 @@ returns-then-not-branch-clause-bytes g c = λ honest agrees bound rows way near 
 -- the row of the entry that was found, in the tree of rows
 prime_row : (g : Over) (c : In-Prime g) → g.D.Device.is_honest c.args.device.now
     → Agrees c.args.pages.now (g.D.Device.state c.args.device.now).disk → (bound : RowBound) (rows : List Row)
-    → IsSought (spec_of c.args.file.now) c.args.key bound (pages_on g.D.Device c.args.pages.now c.args.device.now) rows
-    c.args.prime.now c.args.under.now c.args.aim c.args.at.now
+    → IsSought (spec_of c.args.key_search.file.now) c.args.key_search.key bound (pages_on g.D.Device c.args.pages.now
+    c.args.device.now) rows c.args.prime.now c.args.under.now c.args.key_search.aim c.args.key_search.at.now
     → IsLeafPlace c.args.notes.now.place (pages_on g.D.Device c.args.pages.now c.args.device.now)
-    → IsRowFor (spec_of c.args.file.now) Prime bound
-    (pages_on g.D.Device c.args.pages.now c.args.device.now) rows c.args.prime.now c.args.under.now c.args.aim
-    c.args.at.now c.look_near.new.entry
+    → IsRowFor (spec_of c.args.key_search.file.now) Prime bound (pages_on g.D.Device c.args.pages.now c.args.device.now)
+    rows c.args.prime.now c.args.under.now c.args.key_search.aim c.args.key_search.at.now c.look_near.new.entry
 prime_row g c honest agrees bound rows way near =
-    row_for (spec_of c.args.file.now) c.args.key Prime bound (pages_on g.D.Device c.args.pages.now c.args.device.now)
-    rows c.args.prime.now c.args.under.now c.args.aim c.args.at.now _ c.look_near.new.entry way c.in-Prime.is
-    (λ levels holds. c.in_ok-look_near.ensures.entry honest agrees levels holds near)
+    row_for (spec_of c.args.key_search.file.now) c.args.key_search.key
+    Prime bound (pages_on g.D.Device c.args.pages.now c.args.device.now) rows c.args.prime.now c.args.under.now
+    c.args.key_search.aim c.args.key_search.at.now _ c.look_near.new.entry
+    way c.in-Prime.is (λ levels holds. c.in_ok-look_near.ensures.entry honest agrees levels holds near)
     (ap (λ (b : Bool). if_found b c.look_near.new.entry) c.if-not-branch.false)
 
 -- the entry that was found is that of the row, and has its record
-row_entry : (g : Over) (c : After-read_prime_row g) → g.D.Device.is_honest c.args.device.now → (bound : RowBound)
-    (rows : List Row) → (row : IsRowFor (spec_of c.args.file.now) Prime bound
-    (pages_on g.D.Device c.args.pages.now c.args.device.now) rows c.args.prime.now c.args.under.now c.args.aim
-    c.args.at.now c.look_near.new.entry) → IsRowEntry (spec_of c.args.file.now) c.args.prime.now.record_bytes
+row_entry : (g : Over) (c : After-read_prime_row g)
+    → g.D.Device.is_honest c.args.device.now → (bound : RowBound) (rows : List Row) → (row :
+    IsRowFor (spec_of c.args.key_search.file.now) Prime bound (pages_on g.D.Device c.args.pages.now c.args.device.now)
+    rows c.args.prime.now c.args.under.now c.args.key_search.aim c.args.key_search.at.now c.look_near.new.entry)
+    → IsRowEntry (spec_of c.args.key_search.file.now) c.args.prime.now.record_bytes
     (pages_on g.D.Device c.look_near.new.pages c.look_near.new.device) c.look_near.new.entry row.for.row
 row_entry g c honest bound rows row =
-    row_entry_for (spec_of c.args.file.now) bound (pages_on g.D.Device c.args.pages.now c.args.device.now)
-    (pages_on g.D.Device c.look_near.new.pages c.look_near.new.device) rows c.args.prime.now c.args.under.now c.args.aim
-    c.args.at.now c.look_near.new.entry row
-    (c.look_near.ensures.lengths (c.in_ok-look_near.was ∙ ap Ok c.if-not-branch.false))
-    (same_pages c.args.pages.now c.look_near.new.pages (g.D.Device.state c.args.device.now)
-    (g.D.Device.state c.look_near.new.device) c.look_near.ensures.looks.unchanged
-    (c.look_near.ensures.looks.only.state honest))
+    row_entry_for (spec_of c.args.key_search.file.now) bound (pages_on g.D.Device c.args.pages.now c.args.device.now)
+    (pages_on g.D.Device c.look_near.new.pages c.look_near.new.device)
+    rows c.args.prime.now c.args.under.now c.args.key_search.aim c.args.key_search.at.now c.look_near.new.entry
+    row (c.look_near.ensures.lengths (c.in_ok-look_near.was ∙ ap Ok c.if-not-branch.false)) (same_pages c.args.pages.now
+    c.look_near.new.pages (g.D.Device.state c.args.device.now) (g.D.Device.state c.look_near.new.device)
+    c.look_near.ensures.looks.unchanged (c.look_near.ensures.looks.only.state honest))
 
 pub returns-in_err-look_near-clause-looks : goal.returns-in_err-look_near-clause-looks
 returns-in_err-look_near-clause-looks g c =
@@ -113,7 +115,8 @@ returns-in_err-told-in-Prime-clause-damaged g c = λ honest agrees bound rows wa
     let row = prime_row g at.In-Prime honest agrees bound rows way near in
     c.read_prime_row.ensures.damaged (c.look_near.ensures.looks.only.honest.0 honest)
     (c.look_near.ensures.looks.agrees honest agrees)
-    (spec_of c.args.file.now) row.for.row (row_entry g at.After-read_prime_row honest bound rows row) refl row.is_under
+    (spec_of c.args.key_search.file.now) row.for.row (row_entry g at.After-read_prime_row honest bound rows row) refl
+    row.is_under
     (row.long ∙ sym fits)
     (refused_by_call c.in_err-told-in-Prime.was c.from_residual-in_err-told-in-Prime.ensures.1 is)
 
@@ -121,55 +124,55 @@ pub returns-in_ok-told-in-Prime-clause-found : goal.returns-in_ok-told-in-Prime-
 returns-in_ok-told-in-Prime-clause-found g c = λ honest agrees bound rows way near.
     let at = goal.at.returns-in_ok-told-in-Prime-clause-found g c in
     let row = prime_row g at.In-Prime honest agrees bound rows way near in
-    told_as (λ (k : KeyOfReference). found_row (spec_of c.args.file.now) k rows)
-    (λ (k : KeyOfReference). sought_row (spec_of c.args.file.now) k bound rows) c.args.key Prime row.for.row
+    told_as (λ (k : KeyOfReference). found_row (spec_of c.args.key_search.file.now) k rows)
+    (λ (k : KeyOfReference). sought_row (spec_of c.args.key_search.file.now) k bound rows) c.args.key_search.key Prime
+    row.for.row
     c.in_ok-told-in-Prime.told c.in-Prime.is row.for.is
-    (c.in_ok-told-in-Prime.ensures.found (spec_of c.args.file.now) row.for.row rows refl
+    (c.in_ok-told-in-Prime.ensures.found (spec_of c.args.key_search.file.now) row.for.row rows refl
     (row_key_for (row_entry g at.After-read_prime_row honest bound rows row)) row.is_under)
 
 pub returns-in_ok-told-in-Prime-clause-bytes : goal.returns-in_ok-told-in-Prime-clause-bytes
 returns-in_ok-told-in-Prime-clause-bytes g c = λ honest agrees bound rows way near fits.
     let at = goal.at.returns-in_ok-told-in-Prime-clause-bytes g c in
     let row = prime_row g at.In-Prime honest agrees bound rows way near in
-    record_as (λ (k : KeyOfReference). sought_row (spec_of c.args.file.now) k bound rows) c.args.key Prime row.for.row
+    record_as (λ (k : KeyOfReference). sought_row (spec_of c.args.key_search.file.now) k bound rows)
+    c.args.key_search.key Prime row.for.row
     c.args.bytes.now c.read_prime_row.new.bytes c.in-Prime.is row.for.is (c.in_ok-told-in-Prime.ensures.bytes
     (c.look_near.ensures.looks.only.honest.0 honest) (c.look_near.ensures.looks.agrees honest agrees)
-    (spec_of c.args.file.now) row.for.row
+    (spec_of c.args.key_search.file.now) row.for.row
     (row_entry g at.After-read_prime_row honest bound rows row) (row.long ∙ sym fits))
 
 -- and in the tree of an alternate key
 alternate_row : (g : Over) (c : After-read_alternate_row g) → g.D.Device.is_honest c.args.device.now
     → Agrees c.args.pages.now (g.D.Device.state c.args.device.now).disk → (bound : RowBound) (rows : List Row)
-    → IsSought (spec_of c.args.file.now) c.args.key bound (pages_on g.D.Device c.args.pages.now c.args.device.now) rows
-    c.args.prime.now c.args.under.now c.args.aim c.args.at.now
+    → IsSought (spec_of c.args.key_search.file.now) c.args.key_search.key bound (pages_on g.D.Device c.args.pages.now
+    c.args.device.now) rows c.args.prime.now c.args.under.now c.args.key_search.aim c.args.key_search.at.now
     → IsLeafPlace c.args.notes.now.place (pages_on g.D.Device c.args.pages.now c.args.device.now)
-    → IsRowFor (spec_of c.args.file.now)
-    (Alternate c.in-Alternate.field-0) bound (pages_on g.D.Device c.args.pages.now c.args.device.now) rows
-    c.args.prime.now c.args.under.now c.args.aim c.args.at.now c.look_near.new.entry
+    → IsRowFor (spec_of c.args.key_search.file.now) (Alternate c.in-Alternate.field-0)
+    bound (pages_on g.D.Device c.args.pages.now c.args.device.now) rows c.args.prime.now c.args.under.now
+    c.args.key_search.aim c.args.key_search.at.now c.look_near.new.entry
 alternate_row g c honest agrees bound rows way near =
-    row_for (spec_of c.args.file.now) c.args.key (Alternate c.in-Alternate.field-0) bound (pages_on g.D.Device
-    c.args.pages.now c.args.device.now) rows c.args.prime.now c.args.under.now c.args.aim c.args.at.now
-    _ c.look_near.new.entry way c.in-Alternate.is
-    (λ levels holds. c.in_ok-look_near.ensures.entry honest agrees levels holds near)
+    row_for (spec_of c.args.key_search.file.now) c.args.key_search.key
+    (Alternate c.in-Alternate.field-0) bound (pages_on g.D.Device c.args.pages.now c.args.device.now)
+    rows c.args.prime.now c.args.under.now c.args.key_search.aim c.args.key_search.at.now _ c.look_near.new.entry
+    way c.in-Alternate.is (λ levels holds. c.in_ok-look_near.ensures.entry honest agrees levels holds near)
     (ap (λ (b : Bool). if_found b c.look_near.new.entry) c.if-not-branch.false)
 
 pair_entry : (g : Over) (c : After-read_alternate_row g) → g.D.Device.is_honest c.args.device.now
-    → (bound : RowBound) (rows : List Row) → (row : IsRowFor (spec_of c.args.file.now)
-    (Alternate c.in-Alternate.field-0) bound (pages_on g.D.Device c.args.pages.now c.args.device.now) rows
-    c.args.prime.now c.args.under.now c.args.aim c.args.at.now c.look_near.new.entry) → IsPairEntry
-    (spec_of c.args.file.now) c.in-Alternate.field-0 (pages_on g.D.Device c.look_near.new.pages c.look_near.new.device)
-    rows
-    c.args.prime.now c.args.under.now c.key_place.result.length c.look_near.new.entry row.for.row
+    → (bound : RowBound) (rows : List Row) → (row : IsRowFor (spec_of c.args.key_search.file.now)
+    (Alternate c.in-Alternate.field-0) bound (pages_on g.D.Device c.args.pages.now c.args.device.now)
+    rows c.args.prime.now c.args.under.now c.args.key_search.aim c.args.key_search.at.now c.look_near.new.entry)
+    → IsPairEntry (spec_of c.args.key_search.file.now) c.in-Alternate.field-0
+    (pages_on g.D.Device c.look_near.new.pages c.look_near.new.device) rows c.args.prime.now c.args.under.now
+    c.key_place.result.length c.look_near.new.entry row.for.row
 pair_entry g c honest bound rows row =
-    pair_entry_for (spec_of c.args.file.now) c.in-Alternate.field-0 bound (pages_on g.D.Device c.args.pages.now
-    c.args.device.now) (pages_on g.D.Device c.look_near.new.pages c.look_near.new.device) rows c.args.prime.now
-    c.args.under.now
-    c.args.aim c.args.at.now c.look_near.new.entry c.key_place.result.length row
-    (same_pages c.args.pages.now c.look_near.new.pages (g.D.Device.state c.args.device.now)
-    (g.D.Device.state c.look_near.new.device) c.look_near.ensures.looks.unchanged
-    (c.look_near.ensures.looks.only.state honest))
-    (ap (λ (p : KeyPlace). p.length)
-    (c.key_place.ensures.place ∙ ap (place_of (spec_of c.args.file.now)) c.in-Alternate.is))
+    pair_entry_for (spec_of c.args.key_search.file.now) c.in-Alternate.field-0 bound (pages_on
+    g.D.Device c.args.pages.now c.args.device.now) (pages_on g.D.Device c.look_near.new.pages c.look_near.new.device)
+    rows c.args.prime.now c.args.under.now c.args.key_search.aim c.args.key_search.at.now
+    c.look_near.new.entry c.key_place.result.length row (same_pages c.args.pages.now c.look_near.new.pages
+    (g.D.Device.state c.args.device.now) (g.D.Device.state c.look_near.new.device) c.look_near.ensures.looks.unchanged
+    (c.look_near.ensures.looks.only.state honest)) (ap (λ (p : KeyPlace). p.length)
+    (c.key_place.ensures.place ∙ ap (place_of (spec_of c.args.key_search.file.now)) c.in-Alternate.is))
 
 -- the leaf that is noted is one of its tree, before that row is read and after it
 near_then : (g : Over) (c : After-read_alternate_row g) → g.D.Device.is_honest c.args.device.now
@@ -208,7 +211,7 @@ returns-in_err-told-in-Alternate-clause-damaged g c = λ honest agrees bound row
     let row = alternate_row g at.After-read_alternate_row honest agrees bound rows way near in
     c.read_alternate_row.ensures.damaged (c.look_near.ensures.looks.only.honest.0 honest)
     (c.look_near.ensures.looks.agrees honest agrees)
-    (spec_of c.args.file.now) c.in-Alternate.field-0 rows row.for.row
+    (spec_of c.args.key_search.file.now) c.in-Alternate.field-0 rows row.for.row
     (pair_entry g at.After-read_alternate_row honest bound rows row)
     (near_then g at.After-read_alternate_row honest agrees near) fits
     (refused_by_call c.in_err-told-in-Alternate.was c.from_residual-in_err-told-in-Alternate.ensures.1 is)
@@ -217,12 +220,12 @@ pub returns-in_ok-told-in-Alternate-clause-found : goal.returns-in_ok-told-in-Al
 returns-in_ok-told-in-Alternate-clause-found g c = λ honest agrees bound rows way near.
     let at = goal.at.returns-in_ok-told-in-Alternate-clause-found g c in
     let row = alternate_row g at.After-read_alternate_row honest agrees bound rows way near in
-    told_as (λ (k : KeyOfReference). found_row (spec_of c.args.file.now) k rows)
-    (λ (k : KeyOfReference). sought_row (spec_of c.args.file.now) k bound rows) c.args.key
+    told_as (λ (k : KeyOfReference). found_row (spec_of c.args.key_search.file.now) k rows)
+    (λ (k : KeyOfReference). sought_row (spec_of c.args.key_search.file.now) k bound rows) c.args.key_search.key
     (Alternate c.in-Alternate.field-0) row.for.row c.in_ok-told-in-Alternate.told c.in-Alternate.is row.for.is
     (c.in_ok-told-in-Alternate.ensures.found (c.look_near.ensures.looks.only.honest.0 honest)
     (c.look_near.ensures.looks.agrees honest agrees)
-    (spec_of c.args.file.now) c.in-Alternate.field-0 rows row.for.row
+    (spec_of c.args.key_search.file.now) c.in-Alternate.field-0 rows row.for.row
     (pair_entry g at.After-read_alternate_row honest bound rows row)
     (near_then g at.After-read_alternate_row honest agrees near))
 
@@ -230,10 +233,12 @@ pub returns-in_ok-told-in-Alternate-clause-bytes : goal.returns-in_ok-told-in-Al
 returns-in_ok-told-in-Alternate-clause-bytes g c = λ honest agrees bound rows way near fits.
     let at = goal.at.returns-in_ok-told-in-Alternate-clause-bytes g c in
     let row = alternate_row g at.After-read_alternate_row honest agrees bound rows way near in
-    record_as (λ (k : KeyOfReference). sought_row (spec_of c.args.file.now) k bound rows) c.args.key
+    record_as (λ (k : KeyOfReference). sought_row (spec_of c.args.key_search.file.now) k bound rows)
+    c.args.key_search.key
     (Alternate c.in-Alternate.field-0) row.for.row c.args.bytes.now c.read_alternate_row.new.bytes c.in-Alternate.is
     row.for.is (c.in_ok-told-in-Alternate.ensures.bytes (c.look_near.ensures.looks.only.honest.0 honest)
-    (c.look_near.ensures.looks.agrees honest agrees) (spec_of c.args.file.now) c.in-Alternate.field-0 rows row.for.row
+    (c.look_near.ensures.looks.agrees honest agrees) (spec_of c.args.key_search.file.now) c.in-Alternate.field-0 rows
+    row.for.row
     (pair_entry g at.After-read_alternate_row honest bound rows row) fits)
 
 pub returns-in_err-look_near-clause-damaged : goal.returns-in_err-look_near-clause-damaged

@@ -36,6 +36,11 @@ returns-in_err-repeated-clause-looks g c =
 low : (g : Over) (c : After-is_repeated g) → c.loop-key.key < length (spec_of c.args.file.now).alternates
 low g c = omega (arith, c.len-count.ensures, c.args.file.now.alternates.ok, c.loop-key-test.true)
 
+-- whether the row comes to its value of a key
+abbrev new_at : (g : Over) (c : After-is_repeated g) → AlternateKey → Bool
+new_at g c = is_new c.args.new_record.verb (take c.args.file.now.record_length c.args.new_record.old_value.now)
+    c.args.new_record.bytes.now
+
 -- its pairs are there still
 here : (g : Over) (c : After-is_repeated g) → IfAgrees g.D.Device c.args.pages.now c.args.device.now
     ((rows : List Row) → HasAllPairs (spec_of c.args.file.now)
@@ -135,10 +140,10 @@ pub returns-then-is_barred-clause-told : goal.returns-then-is_barred-clause-told
 returns-then-is_barred-clause-told g c = λ honest agrees rows pairs.
     let at = (goal.at.returns-then-is_barred-clause-told g c).After-is_repeated in
     let keys = (spec_of c.args.file.now).alternates in
-    let new = is_new c.args.verb (take c.args.file.now.record_length c.args.old.now) c.args.bytes.now in
+    let new = new_at g at in
     let looks = c.loop-key.invariant.looks in
-    barred keys rows c.args.bytes.now new c.loop-key.key (low g at)
-    (bars_at keys rows c.args.bytes.now new c.loop-key.key c.index.result.now c.in_ok-repeated.repeated
+    barred keys rows c.args.new_record.bytes.now new c.loop-key.key (low g at)
+    (bars_at keys rows c.args.new_record.bytes.now new c.loop-key.key c.index.result.now c.in_ok-repeated.repeated
     c.is_barred.result true (get_or_read keys c.loop-key.key c.index.result.now (low g at) c.index.ensures no_key)
     (c.in_ok-repeated.ensures.repeated (looks.only.honest.0 honest) (looks.agrees honest agrees) rows
     (here g at honest agrees rows pairs)) c.is_barred.ensures c.if-is_barred.true)
@@ -147,24 +152,25 @@ pub loop-key-preserved : goal.loop-key-preserved
 loop-key-preserved g c =
     let at = (goal.at.loop-key-preserved g c).After-is_repeated in
     let keys = (spec_of c.args.file.now).alternates in
-    let new = is_new c.args.verb (take c.args.file.now.record_length c.args.old.now) c.args.bytes.now in
+    let new = new_at g at in
     let loop = c.loop-key.invariant in
     record {
       looks = looks_then g.D.Device ⊥ _ ⊥ _ _ _ _ _ _ (λ is. absurd is) loop.looks c.is_repeated.ensures.looks;
-      told = λ honest agrees rows pairs. goes_on keys rows c.args.bytes.now new c.loop-key.key c.index.result.now
-          c.loop-key.duplicate c.in_ok-repeated.repeated c.is_barred.result c.either-duplicate.result (low g at)
-          (get_or_read keys c.loop-key.key c.index.result.now (low g at) c.index.ensures no_key)
-          (c.in_ok-repeated.ensures.repeated (loop.looks.only.honest.0 honest) (loop.looks.agrees honest agrees) rows
-          (here g at honest agrees rows pairs)) c.is_barred.ensures c.if-is_barred.false c.either-duplicate.ensures
+      told = λ honest agrees rows pairs. goes_on keys rows c.args.new_record.bytes.now new c.loop-key.key
+          c.index.result.now c.loop-key.duplicate c.in_ok-repeated.repeated c.is_barred.result c.either-duplicate.result
+          (low g at) (get_or_read keys c.loop-key.key c.index.result.now (low g at) c.index.ensures no_key)
+          (c.in_ok-repeated.ensures.repeated (loop.looks.only.honest.0 honest) (loop.looks.agrees honest agrees)
+          rows (here g at honest agrees rows pairs)) c.is_barred.ensures c.if-is_barred.false c.either-duplicate.ensures
           (loop.told honest agrees rows pairs);
     }
 
 pub returns-then-duplicate-clause-told : goal.returns-then-duplicate-clause-told
 returns-then-duplicate-clause-told g c = λ honest agrees rows pairs.
     let loop = c.loop-key in
-    let bytes : List ℕ = c.args.bytes.now in
+    let bytes : List ℕ = c.args.new_record.bytes.now in
     let keys : List AlternateKey = c.args.file.now.alternates.items in
-    let new : AlternateKey → Bool = is_new c.args.verb (take c.args.file.now.record_length c.args.old.now) bytes in
+    let new : AlternateKey → Bool =
+    is_new c.args.new_record.verb (take c.args.file.now.record_length c.args.new_record.old_value.now) bytes in
     let n : c.len-count.result ≡ length c.args.file.now.alternates.items =
     omega (arith, c.len-count.ensures, c.args.file.now.alternates.ok) in
     let all : take loop.key keys ≡ keys = all_taken keys loop.key (let test = c.loop-key-test.false in let end =
@@ -175,9 +181,10 @@ returns-then-duplicate-clause-told g c = λ honest agrees rows pairs.
 pub returns-clause-told : goal.returns-clause-told
 returns-clause-told g c = λ honest agrees rows pairs.
     let loop = c.loop-key in
-    let bytes : List ℕ = c.args.bytes.now in
+    let bytes : List ℕ = c.args.new_record.bytes.now in
     let keys : List AlternateKey = c.args.file.now.alternates.items in
-    let new : AlternateKey → Bool = is_new c.args.verb (take c.args.file.now.record_length c.args.old.now) bytes in
+    let new : AlternateKey → Bool =
+    is_new c.args.new_record.verb (take c.args.file.now.record_length c.args.new_record.old_value.now) bytes in
     let n : c.len-count.result ≡ length c.args.file.now.alternates.items =
     omega (arith, c.len-count.ensures, c.args.file.now.alternates.ok) in
     let all : take loop.key keys ≡ keys = all_taken keys loop.key (let test = c.loop-key-test.false in let end =

@@ -15,8 +15,10 @@ invariant-loop-key g l = record {
   looks : LooksAt g.D.Device ⊥ l.fn.pages l.fn.device l.pages l.device;
   told : IfAgrees g.D.Device l.fn.pages l.fn.device
       ((rows : List Row) → HasAllPairs (spec_of l.file) (pages_on g.D.Device l.fn.pages l.fn.device) rows l.listing →
-      (list_any (λ key. not key.duplicates && (is_new l.verb (take l.file.record_length l.old) l.bytes key
-      && repeats rows l.bytes key)) (take l.key (spec_of l.file).alternates) ≡ false)
-      × (l.duplicate ≡ list_any (λ key. key.duplicates && (is_new l.verb (take l.file.record_length l.old) l.bytes key
-      && repeats rows l.bytes key)) (take l.key (spec_of l.file).alternates)));
+      (list_any (λ key. not key.duplicates
+      && (is_new l.new_record.verb (take l.file.record_length l.new_record.old_value.now) l.new_record.bytes.now key
+      && repeats rows l.new_record.bytes.now key)) (take l.key (spec_of l.file).alternates) ≡ false)
+      × (l.duplicate ≡ list_any (λ key. key.duplicates
+      && (is_new l.new_record.verb (take l.file.record_length l.new_record.old_value.now) l.new_record.bytes.now key
+      && repeats rows l.new_record.bytes.now key)) (take l.key (spec_of l.file).alternates)));
 }

@@ -39,16 +39,16 @@ here g c {pages} {rows} pairs =
 
 -- the value is that of the record
 value_is : (g : Over) (c : After-is_value_there g) → c.part_of.result.now
-    ≡ part (place_of (spec_of c.args.file.now) (Alternate c.args.key)) c.args.bytes.now
+    ≡ part (place_of (spec_of c.args.file.now) (Alternate c.args.key)) c.args.new_record.bytes.now
 value_is g c =
-    c.part_of.ensures ∙ ap (λ (p : KeyPlace). part p c.args.bytes.now) c.key_place-place.ensures.place
+    c.part_of.ensures ∙ ap (λ (p : KeyPlace). part p c.args.new_record.bytes.now) c.key_place-place.ensures.place
 
 long : (g : Over) (c : After-is_value_there g)
-    → length (part (place_of (spec_of c.args.file.now) (Alternate c.args.key)) c.args.bytes.now)
+    → length (part (place_of (spec_of c.args.file.now) (Alternate c.args.key)) c.args.new_record.bytes.now)
     ≡ (place_of (spec_of c.args.file.now) (Alternate c.args.key)).length
 long g c =
     part_long (place_of (spec_of c.args.file.now) (Alternate c.args.key)) c.args.file.now.record_length
-    c.args.bytes.now (place_within (spec_of c.args.file.now) (Alternate c.args.key) c.args.file.now.sound
+    c.args.new_record.bytes.now (place_within (spec_of c.args.file.now) (Alternate c.args.key) c.args.file.now.sound
     (let low = c.requires.key in omega (arith, low))) c.requires.bytes
 
 pub returns-clause-repeated : goal.returns-clause-repeated
@@ -57,7 +57,8 @@ returns-clause-repeated g c = λ honest agrees rows pairs.
     let spec : Spec = spec_of c.args.file.now in
     let place : KeyPlace = place_of spec (Alternate c.args.key) in
     let key : AlternateKey = slice_index_or spec.alternates c.args.key no_key in
-    subst (λ (b : Bool). IfOk c.is_value_there.result (λ there. there ≡ (b && repeats rows c.args.bytes.now key)))
+    subst
+    (λ (b : Bool). IfOk c.is_value_there.result (λ there. there ≡ (b && repeats rows c.args.new_record.bytes.now key)))
     (sym (sym c.is_new_value.ensures ∙ c.if-not-is_new_value.false))
     (subst (λ (v : List ℕ).
     IfOk c.is_value_there.result (λ there. there ≡ list_any (λ row. same_bytes (part place row.bytes) v) rows))
@@ -68,7 +69,7 @@ pub returns-then-not-is_new_value-clause-repeated : goal.returns-then-not-is_new
 returns-then-not-is_new_value-clause-repeated g c = λ honest agrees rows pairs.
     let spec : Spec = spec_of c.args.file.now in
     let key : AlternateKey = slice_index_or spec.alternates c.args.key no_key in
-    sym (ap (λ (b : Bool). b && repeats rows c.args.bytes.now key)
+    sym (ap (λ (b : Bool). b && repeats rows c.args.new_record.bytes.now key)
     (sym c.is_new_value.ensures ∙ c.if-not-is_new_value.true))
 
 pub returns-clause-damaged : goal.returns-clause-damaged

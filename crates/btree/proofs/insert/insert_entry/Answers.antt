@@ -25,6 +25,11 @@ use Rattle.btree.proofs.Passing.{search_is_insert, put_is_insert}
 use Rattle.btree.proofs.Passing.{reads_where, committed_on, sectors_on}
 use Rattle.pages.specs.Pages.{HasEachPage}
 use Rattle.std.specs.Prelude.{None}
+use Rattle.btree.specs.Changes.{pages_of_map}
+use Rattle.btree.proofs.Inserting.{planted}
+use Rattle.station.proofs.Calls.{reads_nothing}
+use Rattle.btree.proofs.Passing.{write_not_device, write_is_insert}
+use Rattle.btree.proofs.Passing.{few_weaker}
 use Rattle.btree.proofs.insert.insert_entry.Goals as goal
 
 pub returns-in_err-way-clause-catalog : goal.returns-in_err-way-clause-catalog
@@ -39,7 +44,7 @@ returns-then-branch-clause-catalog g c =
     c.enter_leaf.ensures.keeps.catalog ∙ ap (λ (m : Map). m.catalog) (c.follow.ensures.unchanged.map [])
 
 pub returns-clause-catalog : goal.returns-clause-catalog
-returns-clause-catalog g c = c.insert_slowly-2.ensures.catalog ∙ c.enter_leaf.ensures.keeps.catalog
+returns-clause-catalog g c = c.insert_slowly.ensures.edits.catalog ∙ c.enter_leaf.ensures.keeps.catalog
     ∙ ap (λ (m : Map). m.catalog) (c.follow.ensures.unchanged.map [])
 
 pub returns-then-branch-clause-inserted : goal.returns-then-branch-clause-inserted
@@ -61,12 +66,12 @@ returns-clause-inserted g c =
     let same : c.enter_leaf.new.pages ≡ c.follow.new.pages =
     c.enter_leaf.ensures.same (c.in_ok-enter_leaf.was ∙ ap Ok c.if-branch.false) in
     let P : List (Option Sector) → List (Option Sector) → Type 0 = λ before after. (levels : List (List TreeNode))
-    → IsTreeOrEmpty c.args.layout before c.args.root levels → IfOk c.insert_slowly-2.result
+    → IsTreeOrEmpty c.args.layout before c.args.root levels → IfOk c.insert_slowly.result
     (Inserts c.args.layout before levels after c.args.key.now c.args.value.now) in
-    change_read g.D.Device _ c.args.pages.now c.follow.new.pages c.insert_slowly-2.new.pages c.args.device.now
+    change_read g.D.Device _ c.args.pages.now c.follow.new.pages c.insert_slowly.new.pages c.args.device.now
     c.follow.new.device P c.follow.ensures.unchanged c.follow.ensures.only c.follow.ensures.agrees
-    (subst (λ (p : PageMap). OnChange g.D.Device p c.insert_slowly-2.new.pages c.follow.new.device P) same
-    c.insert_slowly-2.ensures.inserted)
+    (subst (λ (p : PageMap). OnChange g.D.Device p c.insert_slowly.new.pages c.follow.new.device P) same
+    c.insert_slowly.ensures.inserted)
 
 pub returns-clause-damaged : goal.returns-clause-damaged
 returns-clause-damaged g c = λ honest agrees is levels holds.
@@ -79,14 +84,14 @@ returns-clause-damaged g c = λ honest agrees is levels holds.
     let agreed = c.enter_leaf.ensures.keeps.agrees now.disk (c.follow.ensures.agrees honest agrees) in
     let held = subst (λ (pages : List (Option Sector)). IsTreeOrEmpty c.args.layout pages c.args.root levels)
     (sym pages_are) holds in
-    c.insert_slowly-2.ensures.damaged (c.follow.ensures.only.honest.0 honest) agreed is levels held
+    c.insert_slowly.ensures.damaged (c.follow.ensures.only.honest.0 honest) agreed is levels held
 
 pub returns-clause-there : goal.returns-clause-there
 returns-clause-there g c = λ is.
     let same : c.enter_leaf.new.pages ≡ c.follow.new.pages =
     c.enter_leaf.ensures.same (c.in_ok-enter_leaf.was ∙ ap Ok c.if-branch.false) in
-    unchanged_on c.args.pages.now c.follow.new.pages c.insert_slowly-2.new.pages c.follow.ensures.unchanged
-    (subst (λ (p : PageMap). IsUnchanged p c.insert_slowly-2.new.pages) same (c.insert_slowly-2.ensures.there is))
+    unchanged_on c.args.pages.now c.follow.new.pages c.insert_slowly.new.pages c.follow.ensures.unchanged
+    (subst (λ (p : PageMap). IsUnchanged p c.insert_slowly.new.pages) same (c.insert_slowly.ensures.there is))
 
 pub returns-clause-changed_pages : goal.returns-clause-changed_pages
 returns-clause-changed_pages g c = λ honest agrees levels holds.
@@ -99,7 +104,7 @@ returns-clause-changed_pages g c = λ honest agrees levels holds.
     let agreed = c.enter_leaf.ensures.keeps.agrees now.disk (c.follow.ensures.agrees honest agrees) in
     let held = subst (λ (pages : List (Option Sector)). IsTreeOrEmpty c.args.layout pages c.args.root levels)
     (sym pages_are) holds in
-    let few = c.insert_slowly-2.ensures.changed_pages (c.follow.ensures.only.honest.0 honest) agreed levels held in
+    let few = c.insert_slowly.ensures.changed_pages (c.follow.ensures.only.honest.0 honest) agreed levels held in
     let count = ap (λ (p : PageMap). length (changed_pages_of p)) same in
     let still = ap length c.follow.ensures.unchanged.changed_pages in
     omega (arith, few, count, still)
@@ -115,13 +120,14 @@ returns-clause-filled g c = λ honest agrees levels holds.
     let agreed = c.enter_leaf.ensures.keeps.agrees now.disk (c.follow.ensures.agrees honest agrees) in
     let held = subst (λ (pages : List (Option Sector)). IsTreeOrEmpty c.args.layout pages c.args.root levels)
     (sym pages_are) holds in
-    let few = c.insert_slowly-2.ensures.filled (c.follow.ensures.only.honest.0 honest) agreed levels held in
+    let few = c.insert_slowly.ensures.filled (c.follow.ensures.only.honest.0 honest) agreed levels held in
     let count = ap (λ (p : PageMap). filled_of p) same in
     let still = c.follow.ensures.unchanged.filled in
     omega (arith, few, count, still)
 
 pub returns-in_err-way-clause-only : goal.returns-in_err-way-clause-only
-returns-in_err-way-clause-only g c = passed c.from_residual.result c.in_err-way.field-0.0 c.from_residual.ensures.1
+returns-in_err-way-clause-only g c =
+    passed c.from_residual-in_err-way.result c.in_err-way.field-0.0 c.from_residual-in_err-way.ensures.1
     (λ r. OnlyReads g.D.Device (r ≡ Err Device) c.args.device.now c.follow.new.device)
     (reads_where g.D.Device _ _ _ _ (λ is. still_error is) c.in_err-way.ensures.only)
 
@@ -137,7 +143,7 @@ returns-then-branch-clause-only g c = reads_where g.D.Device _ _ _ _ (λ is. nev
 
 pub returns-clause-only : goal.returns-clause-only
 returns-clause-only g c = reads_then g.D.Device _ _ _ _ _ _ (λ is. inr is) c.follow.ensures.only
-    c.insert_slowly-2.ensures.only
+    c.insert_slowly.ensures.edits.only
 
 pub returns-in_err-enter_leaf-clause-committed : goal.returns-in_err-enter_leaf-clause-committed
 returns-in_err-enter_leaf-clause-committed g c = committed_on c.args.pages.now c.follow.new.pages c.enter_leaf.new.pages
@@ -148,10 +154,10 @@ returns-then-branch-clause-committed g c = committed_on c.args.pages.now c.follo
     c.follow.ensures.unchanged.committed c.enter_leaf.ensures.keeps.committed
 
 pub returns-clause-committed : goal.returns-clause-committed
-returns-clause-committed g c = committed_on c.args.pages.now c.enter_leaf.new.pages c.insert_slowly-2.new.pages
+returns-clause-committed g c = committed_on c.args.pages.now c.enter_leaf.new.pages c.insert_slowly.new.pages
     (committed_on c.args.pages.now c.follow.new.pages c.enter_leaf.new.pages c.follow.ensures.unchanged.committed
     c.enter_leaf.ensures.keeps.committed)
-    c.insert_slowly-2.ensures.committed
+    c.insert_slowly.ensures.edits.committed
 
 pub returns-in_err-enter_leaf-clause-agrees : goal.returns-in_err-enter_leaf-clause-agrees
 returns-in_err-enter_leaf-clause-agrees g c =
@@ -164,7 +170,8 @@ returns-then-branch-clause-agrees g c =
     (c.follow.ensures.agrees honest agrees)
 
 pub returns-clause-agrees : goal.returns-clause-agrees
-returns-clause-agrees g c = λ honest agrees. c.insert_slowly-2.ensures.agrees (c.follow.ensures.only.honest.0 honest)
+returns-clause-agrees g c =
+    λ honest agrees. c.insert_slowly.ensures.edits.agrees (c.follow.ensures.only.honest.0 honest)
     (c.enter_leaf.ensures.keeps.agrees (g.D.Device.state c.follow.new.device).disk
     (c.follow.ensures.agrees honest agrees))
 
@@ -174,16 +181,17 @@ returns-in_err-enter_leaf-clause-open g c = c.enter_leaf.ensures.keeps.is_open c
 pub returns-then-branch-clause-open : goal.returns-then-branch-clause-open
 returns-then-branch-clause-open g c = c.enter_leaf.ensures.keeps.is_open c.follow.ensures.open
 
-pub insert_slowly-requires-2-clause-open : goal.insert_slowly-requires-2-clause-open
-insert_slowly-requires-2-clause-open g c = c.enter_leaf.ensures.keeps.is_open c.follow.ensures.open
+pub insert_slowly-requires-clause-open : goal.insert_slowly-requires-clause-open
+insert_slowly-requires-clause-open g c = c.enter_leaf.ensures.keeps.is_open c.follow.ensures.open
 
-pub insert_slowly-requires-2-clause-sectors : goal.insert_slowly-requires-2-clause-sectors
-insert_slowly-requires-2-clause-sectors g c = sectors_on c.args.pages.now c.enter_leaf.new.pages _ _
+pub insert_slowly-requires-clause-sectors : goal.insert_slowly-requires-clause-sectors
+insert_slowly-requires-clause-sectors g c = sectors_on c.args.pages.now c.enter_leaf.new.pages _ _
     (c.enter_leaf.ensures.keeps.committed.volume ∙ c.follow.ensures.unchanged.committed.volume)
     c.follow.ensures.only.sectors c.requires.sectors
 
 pub returns-in_err-way-clause-spent : goal.returns-in_err-way-clause-spent
-returns-in_err-way-clause-spent g c = passed c.from_residual.result c.in_err-way.field-0.0 c.from_residual.ensures.1
+returns-in_err-way-clause-spent g c =
+    passed c.from_residual-in_err-way.result c.in_err-way.field-0.0 c.from_residual-in_err-way.ensures.1
     (λ r. (r ≡ Err Spent) ↔ (is_spent c.args.pages.now ≡ true))
     (λ is. c.in_err-way.ensures.spent.0 (still_error is), λ was. still_error (c.in_err-way.ensures.spent.1 was))
 
@@ -202,12 +210,13 @@ returns-then-branch-clause-spent g c =
 pub returns-clause-spent : goal.returns-clause-spent
 returns-clause-spent g c = (
   λ is. sym (c.enter_leaf.ensures.keeps.committed.spent ∙ c.follow.ensures.unchanged.committed.spent)
-      ∙ c.insert_slowly-2.ensures.spent.0 is,
+      ∙ c.insert_slowly.ensures.spent.0 is,
   λ was. never_ok (sym c.in_ok-way.was ∙ c.follow.ensures.spent.1 was),
 )
 
 pub returns-in_err-way-clause-cause : goal.returns-in_err-way-clause-cause
-returns-in_err-way-clause-cause g c = passed c.from_residual.result c.in_err-way.field-0.0 c.from_residual.ensures.1
+returns-in_err-way-clause-cause g c =
+    passed c.from_residual-in_err-way.result c.in_err-way.field-0.0 c.from_residual-in_err-way.ensures.1
     (λ r. IfErr r IsInsertRefusal)
     (search_is_insert c.args.layout c.in_err-way.field-0.0 c.in_err-way.ensures.cause)
 
@@ -218,7 +227,8 @@ returns-in_err-enter_leaf-clause-cause g c = passed c.from_residual-in_err-enter
     (put_is_insert c.in_err-enter_leaf.field-0.0 c.in_err-enter_leaf.ensures.cause)
 
 pub returns-in_err-way-clause-full : goal.returns-in_err-way-clause-full
-returns-in_err-way-clause-full g c = passed c.from_residual.result c.in_err-way.field-0.0 c.from_residual.ensures.1
+returns-in_err-way-clause-full g c =
+    passed c.from_residual-in_err-way.result c.in_err-way.field-0.0 c.from_residual-in_err-way.ensures.1
     (λ r. r ≡ Err Full → HasEachPage c.follow.new.pages)
     (λ is. absurd (subst (IsSearchRefusal c.args.layout) (same_error is) c.in_err-way.ensures.cause))
 
@@ -235,7 +245,8 @@ pub returns-then-branch-clause-there : goal.returns-then-branch-clause-there
 returns-then-branch-clause-there g c = λ is. some_not_none is
 
 pub returns-in_err-way-clause-there : goal.returns-in_err-way-clause-there
-returns-in_err-way-clause-there g c = passed c.from_residual.result c.in_err-way.field-0.0 c.from_residual.ensures.1
+returns-in_err-way-clause-there g c =
+    passed c.from_residual-in_err-way.result c.in_err-way.field-0.0 c.from_residual-in_err-way.ensures.1
     (λ r. r ≡ Ok None → IsUnchanged c.args.pages.now c.follow.new.pages)
     (λ is. never_err is)
 
@@ -244,3 +255,84 @@ returns-in_err-enter_leaf-clause-there g c = passed c.from_residual-in_err-enter
     c.in_err-enter_leaf.field-0.0 c.from_residual-in_err-enter_leaf.ensures.1
     (λ r. r ≡ Ok None → IsUnchanged c.args.pages.now c.enter_leaf.new.pages)
     (λ is. never_err is)
+
+pub returns-then-root-eq0-clause-inserted : goal.returns-then-root-eq0-clause-inserted
+returns-then-root-eq0-clause-inserted g c = λ honest agrees levels holds.
+    let image = (g.D.Device.state c.args.device.now).disk.present in
+    planted c.args.layout (pages_of_map c.args.pages.now image) (pages_of_map c.first_leaf.new.pages image) c.args.root
+    levels c.in_ok-new.new c.args.key.now c.args.value.now c.if-root-eq0.true holds c.requires.key
+    c.in_ok-new.ensures.some (c.in_ok-new.ensures.pages image)
+
+pub returns-in_err-new-clause-full : goal.returns-in_err-new-clause-full
+returns-in_err-new-clause-full g c = λ is.
+    let told = rw is at c.from_residual.ensures.1 in
+    c.in_err-new.ensures.full (cc told)
+
+pub returns-in_err-new-clause-only : goal.returns-in_err-new-clause-only
+returns-in_err-new-clause-only g c = passed c.from_residual.result c.in_err-new.field-0.0 c.from_residual.ensures.1
+    (λ r. OnlyReads g.D.Device (r ≡ Err Device) c.args.device.now c.args.device.now)
+    (reads_where g.D.Device _ _ _ _ (λ is. write_not_device c.in_err-new.field-0.0 c.in_err-new.ensures.cause is)
+    (reads_nothing g.D.Device c.args.device.now))
+
+pub returns-then-root-eq0-clause-only : goal.returns-then-root-eq0-clause-only
+returns-then-root-eq0-clause-only g c =
+    reads_where g.D.Device _ _ _ _ (λ is. never_ok is) (reads_nothing g.D.Device c.args.device.now)
+
+pub returns-in_err-new-clause-agrees : goal.returns-in_err-new-clause-agrees
+returns-in_err-new-clause-agrees g c =
+    λ honest agrees. c.first_leaf.ensures.keeps.agrees (g.D.Device.state c.args.device.now).disk agrees
+
+pub returns-then-root-eq0-clause-agrees : goal.returns-then-root-eq0-clause-agrees
+returns-then-root-eq0-clause-agrees g c =
+    λ honest agrees. c.first_leaf.ensures.keeps.agrees (g.D.Device.state c.args.device.now).disk agrees
+
+pub returns-in_err-new-clause-open : goal.returns-in_err-new-clause-open
+returns-in_err-new-clause-open g c = c.first_leaf.ensures.keeps.is_open c.requires.open
+
+pub returns-then-root-eq0-clause-open : goal.returns-then-root-eq0-clause-open
+returns-then-root-eq0-clause-open g c = c.first_leaf.ensures.keeps.is_open c.requires.open
+
+pub returns-in_err-new-clause-spent : goal.returns-in_err-new-clause-spent
+returns-in_err-new-clause-spent g c = passed c.from_residual.result c.in_err-new.field-0.0 c.from_residual.ensures.1
+    (λ r. (r ≡ Err Spent) ↔ (is_spent c.args.pages.now ≡ true))
+    (λ is. c.in_err-new.ensures.spent.0 (still_error is), λ was. still_error (c.in_err-new.ensures.spent.1 was))
+
+pub returns-then-root-eq0-clause-spent : goal.returns-then-root-eq0-clause-spent
+returns-then-root-eq0-clause-spent g c =
+    (λ is. never_ok is, λ was. never_ok (sym c.in_ok-new.was ∙ c.first_leaf.ensures.spent.1 was))
+
+pub returns-in_err-new-clause-cause : goal.returns-in_err-new-clause-cause
+returns-in_err-new-clause-cause g c = passed c.from_residual.result c.in_err-new.field-0.0 c.from_residual.ensures.1
+    (λ r. IfErr r IsInsertRefusal)
+    (write_is_insert c.in_err-new.field-0.0 c.in_err-new.ensures.cause)
+
+pub returns-then-root-eq0-clause-full : goal.returns-then-root-eq0-clause-full
+returns-then-root-eq0-clause-full g c = λ is. never_ok is
+
+pub returns-then-root-eq0-clause-there : goal.returns-then-root-eq0-clause-there
+returns-then-root-eq0-clause-there g c = λ is. some_not_none is
+
+pub returns-in_err-new-clause-there : goal.returns-in_err-new-clause-there
+returns-in_err-new-clause-there g c = passed c.from_residual.result c.in_err-new.field-0.0 c.from_residual.ensures.1
+    (λ r. r ≡ Ok None → IsUnchanged c.args.pages.now c.first_leaf.new.pages)
+    (λ is. never_err is)
+
+pub returns-in_err-new-clause-changed_pages : goal.returns-in_err-new-clause-changed_pages
+returns-in_err-new-clause-changed_pages g c =
+    λ honest agrees levels holds. few_weaker (length (changed_pages_of c.args.pages.now))
+    (length (changed_pages_of c.first_leaf.new.pages)) 1 41 c.first_leaf.ensures.changed_pages
+
+pub returns-in_err-new-clause-filled : goal.returns-in_err-new-clause-filled
+returns-in_err-new-clause-filled g c =
+    λ honest agrees levels holds. few_weaker (filled_of c.args.pages.now) (filled_of c.first_leaf.new.pages) 1 41
+    c.first_leaf.ensures.filled
+
+pub returns-then-root-eq0-clause-changed_pages : goal.returns-then-root-eq0-clause-changed_pages
+returns-then-root-eq0-clause-changed_pages g c =
+    λ honest agrees levels holds. few_weaker (length (changed_pages_of c.args.pages.now))
+    (length (changed_pages_of c.first_leaf.new.pages)) 1 41 c.first_leaf.ensures.changed_pages
+
+pub returns-then-root-eq0-clause-filled : goal.returns-then-root-eq0-clause-filled
+returns-then-root-eq0-clause-filled g c =
+    λ honest agrees levels holds. few_weaker (filled_of c.args.pages.now) (filled_of c.first_leaf.new.pages) 1 41
+    c.first_leaf.ensures.filled

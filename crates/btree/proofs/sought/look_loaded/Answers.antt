@@ -1,8 +1,7 @@
-use Rattle.std.proofs.Common.{List, sym, subst}
-use Rattle.std.specs.Prelude.{Option, IfOk}
+use Rattle.std.proofs.Common.{List, sym}
+use Rattle.std.specs.Prelude.{Option}
 use Rattle.station.specs.Disk.{Sector}
 use Rattle.pages.specs.Pages.{map_now}
-use Rattle.btree.specs.Tree.{IsOnPage}
 use Rattle.btree.specs.Sought.{LooksIn, LooksAt}
 use Rattle.btree.proofs.Frames.{unchanged_on, same_pages, seen_before}
 use Rattle.btree.proofs.TreeNodes.{spells_none}
@@ -17,6 +16,10 @@ use Rattle.pages.specs.declared.error.PagesError.TheVariants.{Device, Spent}
 use Rattle.btree.proofs.Passing.{passed, never_ok, still_error}
 use Rattle.btree.proofs.Passing.{reads_where, sectors_on}
 use Rattle.btree.proofs.Passing.{damaged_alone, damaged_is_read, spent_exactly}
+use Rattle.std.proofs.Common.{ap, refl}
+use Rattle.std.specs.Prelude.{Some, None, slice_index_or}
+use Rattle.btree.proofs.TreeNodes.{read_none}
+use Rattle.btree.proofs.Passing.{damaged_not_device, damaged_not_spent}
 use Rattle.btree.proofs.sought.look_loaded.Goals as goal
 
 pub returns-in-Some-clause-look : goal.returns-in-Some-clause-look
@@ -44,30 +47,6 @@ returns-in-Some-clause-damaged g c = λ honest agrees is kind node at stands.
     c.in_ok-load.ensures.unchanged (c.in_ok-load.ensures.only.state honest) seen in
     spells_none c.args.layout pages c.args.page bytes here (c.look_in.ensures.damaged is) kind node at stands
 
-pub returns-clause-unchanged : goal.returns-clause-unchanged
-returns-clause-unchanged g c =
-    unchanged_on c.args.pages.now c.load.new.self c.look_read.new.pages c.in_ok-load.ensures.unchanged
-    c.look_read.ensures.unchanged
-
-pub returns-clause-look : goal.returns-clause-look
-returns-clause-look g c = λ honest agrees.
-    let before = g.D.Device.state c.args.device.now in
-    let after = g.D.Device.state c.load.new.device in
-    let same = same_pages c.args.pages.now c.load.new.self before after c.in_ok-load.ensures.unchanged
-    (c.in_ok-load.ensures.only.state honest) in
-    subst (λ (p : List (Option Sector)). IfOk c.look_read.result
-    (LooksAt c.args.layout p c.args.page c.args.key.now c.args.sought c.look_read.new.entry)) same
-    (c.look_read.ensures.look (c.in_ok-load.ensures.only.honest.0 honest) (c.in_ok-load.ensures.agrees honest agrees))
-
-pub returns-clause-damaged : goal.returns-clause-damaged
-returns-clause-damaged g c = λ honest agrees is kind node at stands.
-    let before = g.D.Device.state c.args.device.now in
-    let after = g.D.Device.state c.load.new.device in
-    let same = same_pages c.args.pages.now c.load.new.self before after c.in_ok-load.ensures.unchanged
-    (c.in_ok-load.ensures.only.state honest) in
-    c.look_read.ensures.damaged (c.in_ok-load.ensures.only.honest.0 honest) (c.in_ok-load.ensures.agrees honest agrees)
-    is kind node at (subst (λ (p : List (Option Sector)). IsOnPage c.args.layout p kind node) (sym same) stands)
-
 pub returns-in_err-load-clause-only : goal.returns-in_err-load-clause-only
 returns-in_err-load-clause-only g c = passed c.from_residual.result c.in_err-load.field-0.0 c.from_residual.ensures.1
     (λ r. OnlyReads g.D.Device (r ≡ Err Device) c.args.device.now c.load.new.device)
@@ -76,19 +55,6 @@ returns-in_err-load-clause-only g c = passed c.from_residual.result c.in_err-loa
 pub returns-in-Some-clause-only : goal.returns-in-Some-clause-only
 returns-in-Some-clause-only g c =
     reads_where g.D.Device _ _ _ _ (λ is. damaged_alone c.look_in.result c.look_in.ensures.cause is) c.load.ensures.only
-
-pub returns-clause-only : goal.returns-clause-only
-returns-clause-only g c = reads_then g.D.Device _ _ _ _ _ _ (λ is. inr is) c.load.ensures.only
-    c.look_read.ensures.only
-
-pub returns-clause-agrees : goal.returns-clause-agrees
-returns-clause-agrees g c = λ honest agrees. c.look_read.ensures.agrees (c.in_ok-load.ensures.only.honest.0 honest)
-    (c.in_ok-load.ensures.agrees honest agrees)
-
-pub look_read-requires-clause-sectors : goal.look_read-requires-clause-sectors
-look_read-requires-clause-sectors g c =
-    sectors_on c.args.pages.now c.load.new.self _ _ c.in_ok-load.ensures.unchanged.committed.volume
-    c.in_ok-load.ensures.only.sectors c.requires.sectors
 
 pub returns-in_err-load-clause-spent : goal.returns-in_err-load-clause-spent
 returns-in_err-load-clause-spent g c = passed c.from_residual.result c.in_err-load.field-0.0 c.from_residual.ensures.1
@@ -99,11 +65,112 @@ pub returns-in-Some-clause-spent : goal.returns-in-Some-clause-spent
 returns-in-Some-clause-spent g c = spent_exactly c.look_in.result (is_spent c.args.pages.now) c.look_in.ensures.cause
     (λ was. never_ok (sym c.in_ok-load.was ∙ c.load.ensures.spent.1 was))
 
-pub returns-clause-spent : goal.returns-clause-spent
-returns-clause-spent g c = (
-  λ is. sym c.load.ensures.unchanged.committed.spent ∙ c.look_read.ensures.spent.0 is,
-  λ was. never_ok (sym c.in_ok-load.was ∙ c.load.ensures.spent.1 was),
-)
-
 pub returns-in-Some-clause-cause : goal.returns-in-Some-clause-cause
 returns-in-Some-clause-cause g c = damaged_is_read c.look_in.result c.look_in.ensures.cause
+
+pub returns-in-Some-2-clause-look : goal.returns-in-Some-2-clause-look
+returns-in-Some-2-clause-look g c = λ honest agrees.
+    let load = c.in_ok-load.ensures in
+    let pages : List (Option Sector) =
+    (map_now c.args.pages.now (g.D.Device.state c.args.device.now).disk.present).pages in
+    let bytes = c.in-Some-2.bytes in
+    let here = seen_before c.args.pages.now c.load.new.self (g.D.Device.state c.args.device.now)
+    (g.D.Device.state c.load.new.device) c.args.page bytes load.unchanged (load.only.state honest)
+    (sym (c.in_ok-bytes.ensures.page (load.only.honest.0 honest) (load.agrees honest agrees)) ∙ c.in-Some-2.is) in
+    if_ok (LooksIn c.args.layout bytes c.args.key.now c.args.sought c.look_in-in-Some-2.new.entry)
+    (LooksAt c.args.layout pages c.args.page c.args.key.now c.args.sought c.look_in-in-Some-2.new.entry)
+    c.look_in-in-Some-2.result
+    (λ look looks.
+    looks_there c.args.layout pages c.args.page bytes c.args.key.now c.args.sought c.look_in-in-Some-2.new.entry
+    look here looks) c.look_in-in-Some-2.ensures.look
+
+pub returns-in-Some-2-clause-damaged : goal.returns-in-Some-2-clause-damaged
+returns-in-Some-2-clause-damaged g c = λ honest agrees is kind node at stands.
+    let load = c.in_ok-load.ensures in
+    let pages : List (Option Sector) =
+    (map_now c.args.pages.now (g.D.Device.state c.args.device.now).disk.present).pages in
+    let bytes = c.in-Some-2.bytes in
+    let here = seen_before c.args.pages.now c.load.new.self (g.D.Device.state c.args.device.now)
+    (g.D.Device.state c.load.new.device) c.args.page bytes load.unchanged (load.only.state honest)
+    (sym (c.in_ok-bytes.ensures.page (load.only.honest.0 honest) (load.agrees honest agrees)) ∙ c.in-Some-2.is) in
+    spells_none c.args.layout pages c.args.page bytes here (c.look_in-in-Some-2.ensures.damaged is) kind node at stands
+
+pub returns-in_err-bytes-clause-unchanged : goal.returns-in_err-bytes-clause-unchanged
+returns-in_err-bytes-clause-unchanged g c =
+    unchanged_on c.args.pages.now c.load.new.self c.read.new.self c.in_ok-load.ensures.unchanged
+    c.read.ensures.unchanged
+
+pub returns-in_err-bytes-clause-agrees : goal.returns-in_err-bytes-clause-agrees
+returns-in_err-bytes-clause-agrees g c =
+    λ honest agrees. c.read.ensures.agrees (c.in_ok-load.ensures.only.honest.0 honest)
+    (c.in_ok-load.ensures.agrees honest agrees)
+
+pub returns-in-Some-2-clause-unchanged : goal.returns-in-Some-2-clause-unchanged
+returns-in-Some-2-clause-unchanged g c =
+    unchanged_on c.args.pages.now c.load.new.self c.read.new.self c.in_ok-load.ensures.unchanged
+    c.read.ensures.unchanged
+
+pub returns-in-Some-2-clause-agrees : goal.returns-in-Some-2-clause-agrees
+returns-in-Some-2-clause-agrees g c = λ honest agrees. c.read.ensures.agrees (c.in_ok-load.ensures.only.honest.0 honest)
+    (c.in_ok-load.ensures.agrees honest agrees)
+
+pub returns-in-None-clause-unchanged : goal.returns-in-None-clause-unchanged
+returns-in-None-clause-unchanged g c =
+    unchanged_on c.args.pages.now c.load.new.self c.read.new.self c.in_ok-load.ensures.unchanged
+    c.read.ensures.unchanged
+
+pub returns-in-None-clause-agrees : goal.returns-in-None-clause-agrees
+returns-in-None-clause-agrees g c = λ honest agrees. c.read.ensures.agrees (c.in_ok-load.ensures.only.honest.0 honest)
+    (c.in_ok-load.ensures.agrees honest agrees)
+
+pub returns-in_err-bytes-clause-only : goal.returns-in_err-bytes-clause-only
+returns-in_err-bytes-clause-only g c = passed c.from_residual-in_err-bytes.result c.in_err-bytes.field-0.0
+    c.from_residual-in_err-bytes.ensures.1
+    (λ r. OnlyReads g.D.Device (r ≡ Err Device) c.args.device.now c.read.new.device)
+    (reads_then g.D.Device _ _ _ _ _ _ (λ is. inr (still_error is)) c.load.ensures.only c.in_err-bytes.ensures.only)
+
+pub returns-in-Some-2-clause-only : goal.returns-in-Some-2-clause-only
+returns-in-Some-2-clause-only g c = reads_then g.D.Device _ _ _ _ _ _
+    (λ is. damaged_alone c.look_in-in-Some-2.result c.look_in-in-Some-2.ensures.cause is) c.load.ensures.only
+    c.read.ensures.only
+
+pub returns-in-None-clause-only : goal.returns-in-None-clause-only
+returns-in-None-clause-only g c =
+    reads_then g.D.Device _ _ _ _ _ _ (λ is. damaged_not_device is) c.load.ensures.only c.read.ensures.only
+
+pub returns-in-None-clause-damaged : goal.returns-in-None-clause-damaged
+returns-in-None-clause-damaged g c = λ honest agrees is kind node same stands.
+    let before = g.D.Device.state c.args.device.now in
+    let after = g.D.Device.state c.load.new.device in
+    let pages : List (Option Sector) = (map_now c.args.pages.now before.disk.present).pages in
+    let still = same_pages c.args.pages.now c.load.new.self before after c.in_ok-load.ensures.unchanged
+    (c.in_ok-load.ensures.only.state honest) in
+    read_none c.args.layout pages c.args.page None kind node
+    (sym c.in-None.is ∙ c.in_ok-bytes.ensures.page (c.in_ok-load.ensures.only.honest.0 honest)
+    (c.in_ok-load.ensures.agrees honest agrees)
+    ∙ ap (λ (p : List (Option Sector)). slice_index_or p c.args.page None) still) refl same stands
+
+pub read-requires-clause-sectors : goal.read-requires-clause-sectors
+read-requires-clause-sectors g c =
+    sectors_on c.args.pages.now c.load.new.self _ _ c.in_ok-load.ensures.unchanged.committed.volume
+    c.in_ok-load.ensures.only.sectors c.requires.sectors
+
+pub returns-in_err-bytes-clause-spent : goal.returns-in_err-bytes-clause-spent
+returns-in_err-bytes-clause-spent g c = passed c.from_residual-in_err-bytes.result c.in_err-bytes.field-0.0
+    c.from_residual-in_err-bytes.ensures.1
+    (λ r. (r ≡ Err Spent) ↔ (is_spent c.args.pages.now ≡ true)) (
+      λ is. sym c.load.ensures.unchanged.committed.spent ∙ c.in_err-bytes.ensures.spent.0 (still_error is),
+      λ was. never_ok (sym c.in_ok-load.was ∙ c.load.ensures.spent.1 was),
+    )
+
+pub returns-in-Some-2-clause-spent : goal.returns-in-Some-2-clause-spent
+returns-in-Some-2-clause-spent g c =
+    spent_exactly c.look_in-in-Some-2.result (is_spent c.args.pages.now) c.look_in-in-Some-2.ensures.cause
+    (λ was. never_ok (sym c.in_ok-load.was ∙ c.load.ensures.spent.1 was))
+
+pub returns-in-None-clause-spent : goal.returns-in-None-clause-spent
+returns-in-None-clause-spent g c =
+    (λ is. damaged_not_spent is, λ was. never_ok (sym c.in_ok-load.was ∙ c.load.ensures.spent.1 was))
+
+pub returns-in-Some-2-clause-cause : goal.returns-in-Some-2-clause-cause
+returns-in-Some-2-clause-cause g c = damaged_is_read c.look_in-in-Some-2.result c.look_in-in-Some-2.ensures.cause

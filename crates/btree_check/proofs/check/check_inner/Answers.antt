@@ -6,7 +6,7 @@ use Rattle.btree_check.specs.declared.separator.Separator.{Separator}
 use Rattle.btree_check.specs.Walks.{Lists}
 use Rattle.btree.proofs.Frames.{unchanged_on}
 use Rattle.btree_check.proofs.Walking.{level_none, lists_none}
-use Rattle.btree_check.proofs.LevelReads.{count_listed, reads_none, reads_next, page_missing, inner_next, names_within}
+use Rattle.btree_check.proofs.LevelReads.{reads_none, page_missing, inner_read, names_within}
 use Rattle.btree_check.proofs.check.check_inner.Goals as goal
 
 pub loop-place-init : goal.loop-place-init
@@ -61,16 +61,11 @@ loop-place-preserved g c =
     let read = c.check_node.ensures in
     let node = c.in_ok-node.ensures in
     let pushed = c.in_ok-push_separators.ensures in
-    let count = count_listed c.in_ok-node.node.layout c.in_ok-node.node.rows loop.lower.items _ pushed.separators in
     let within : length c.push_separators.new.separators.items ≤ length c.check_node.new.seen = search rules in
-    record {
-      reads = reads_next g.D.Device c.args.pages.now loop.pages c.check_node.new.pages c.args.device.now loop.device _
-          c.args.seen.now loop.seen c.check_node.new.seen c.args.separators.now loop.place _ _ loop.invariant.reads
-          read.only read.unchanged read.agrees read.open c.loop-place-test.true c.index-separators-place.is node.marks;
-      more = omega (arith, node.shape.2, loop.invariant.more, count);
-      few = omega (arith, within, node.marks.count, loop.invariant.reads.marks.count);
-      level = inner_next g.D.Device c.args.pages.now loop.pages c.args.device.now loop.device c.args.seen.now
-          loop.seen c.args.layout c.args.separators.now loop.place c.index-separators-place.result loop.invariant.reads
-          c.loop-place-test.true c.index-separators-place.is c.in_ok-node.node.layout c.in_ok-node.node.rows
-          loop.lower.items _ node.node node.shape.0 pushed.separators pushed.rows loop.invariant.level;
-    }
+    let next = inner_read g.D.Device c.args.pages.now loop.pages c.args.device.now loop.device c.args.seen.now loop.seen
+    c.args.layout c.args.separators.now loop.place c.index-separators-place.result loop.invariant.reads
+    c.loop-place-test.true c.index-separators-place.is c.check_node.new.pages c.check_node.new.device
+    c.check_node.new.seen c.in_ok-node.node.layout c.in_ok-node.node.rows loop.lower.items
+    c.push_separators.new.separators.items _ read.only read.unchanged read.agrees read.open node.marks node.node
+    node.shape.0 node.shape.2 pushed.separators pushed.rows loop.invariant.more loop.invariant.level in
+    record { reads = next.0; more = next.1; few = omega (arith, within, next.0.marks.count); level = next.2 }

@@ -1,16 +1,14 @@
-use Rattle.std.proofs.Common.{◌≡◌, ◌≤◌, ◌^◌, ℕ, List, [], false, Err, length, sym, ap, subst, ◌∙◌, arith}
-use Rattle.std.specs.Prelude.{Option, slice_index_or}
+use Rattle.std.proofs.Common.{◌≡◌, ◌≤◌, ℕ, List, Err, sym, subst, ◌∙◌, arith}
+use Rattle.std.specs.Prelude.{Option}
 use Rattle.std.proofs.lemmas.Result.{err_from_is_err_and, on_ok_weaker}
 use Rattle.station.specs.Disk.{Sector}
-use Rattle.pages.specs.Pages.{map_now, is_spent, page_count}
-use Rattle.pages.specs.declared.error.PagesError.TheVariants.{Damaged, Spent}
+use Rattle.pages.specs.Pages.{map_now}
+use Rattle.pages.specs.declared.error.PagesError.TheVariants.{Damaged}
 use Rattle.btree_pages.specs.declared.row_layout.RowLayout.{RowLayout}
-use Rattle.btree_pages.specs.Keys.{key_of}
-use Rattle.btree.specs.Changes.{pages_of_map}
 use Rattle.btree.specs.Tree.{IsTreeOrEmpty}
-use Rattle.btree.proofs.TreeNodes.{few_pages, root_node}
-use Rattle.btree.proofs.Frames.{holds_tree, unchanged_on, same_pages, false_unless, ok_or_err}
-use Rattle.btree_check.proofs.Descending.{finds_root, root_held, root_missing}
+use Rattle.btree.proofs.TreeNodes.{root_node}
+use Rattle.btree.proofs.Frames.{holds_tree, unchanged_on, same_pages}
+use Rattle.btree_check.proofs.Descending.{finds_root, few_read, root_missing}
 use Rattle.btree_check.proofs.check.check_tree.Given.{Over}
 use Rattle.btree_check.proofs.check.check_tree.Goals as goal
 
@@ -46,19 +44,15 @@ returns-clause-holds g c = λ honest agrees.
 pub returns-clause-damaged : goal.returns-clause-damaged
 returns-clause-damaged g c = λ honest agrees is levels holds unmarked.
     let read = c.read_node.ensures in
+    let numbers = c.page_count-page_count.ensures in
     let image = (g.D.Device.state c.args.device.now).disk.present in
     let same = same_pages c.args.pages.now c.read_node.new.pages (g.D.Device.state c.args.device.now)
     (g.D.Device.state c.read_node.new.device) read.unchanged (read.only.state honest) in
-    let tree = root_held c.layout-layout.result c.args.tree.now.layout _ c.root-root.result _ levels
-    c.layout-layout.ensures.is c.root-root.ensures c.if-root-eq0.false holds in
-    let key = c.in_ok-key.ensures.is ∙ c.key.ensures.key
-    ∙ ap (λ (f : RowLayout). key_of f (slice_index_or c.in_ok-top.top.rows 0 [])) c.in_ok-top.ensures.shape.0 in
-    let unspent : is_spent c.args.pages.now ≡ false = false_unless (is_spent c.args.pages.now)
-    (λ spent. ok_or_err c.in_ok-top.top Spent (sym c.in_ok-top.was ∙ c.read_node.ensures.spent.1 spent)) in
-    let few = few_pages (pages_of_map c.args.pages.now image) (page_count c.args.pages.now)
-    c.page_count-page_count.result (c.page_count-page_count.ensures.pages image) c.page_count-page_count.ensures.count
-    (c.page_count-page_count.ensures.few c.requires.open unspent) in
-    root_missing c.layout-layout.result _ _ c.root-root.result c.in_ok-key.key c.in_ok-top.top c.push.new.self.items
-    c.new-separators.result.items c.args.seen.now levels _ (c.check_levels.result ≡ Err Damaged) tree same
-    c.in_ok-push.ensures.items c.new-separators.ensures.items (c.in_ok-top.ensures.node honest agrees) key few unmarked
-    (omega arith) (c.check_levels.ensures.damaged (read.only.honest.0 honest) (read.agrees honest agrees)) is
+    let few = few_read c.in_ok-top.top c.read_node.result c.args.pages.now image c.page_count-page_count.result
+    c.in_ok-top.was read.spent.1 (numbers.pages image) numbers.count (numbers.few c.requires.open) in
+    root_missing c.layout-layout.result c.args.tree.now.layout _ _ c.root-root.result c.args.tree.now.root
+    c.in_ok-key.key c.in_ok-top.top c.push.new.self.items c.new-separators.result.items c.args.seen.now levels _
+    (c.check_levels.result ≡ Err Damaged) c.layout-layout.ensures.is c.root-root.ensures c.if-root-eq0.false holds same
+    c.in_ok-push.ensures.items c.new-separators.ensures.items (c.in_ok-top.ensures.node honest agrees)
+    c.in_ok-top.ensures.shape.0 (c.in_ok-key.ensures.is ∙ c.key.ensures.key) few unmarked (omega arith)
+    (c.check_levels.ensures.damaged (read.only.honest.0 honest) (read.agrees honest agrees)) is

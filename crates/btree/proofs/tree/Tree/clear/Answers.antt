@@ -8,12 +8,11 @@ use Rattle.btree.proofs.NamedTrees.{named_tree}
 use Rattle.btree.proofs.SmallMaps.{small_map}
 use Rattle.std.specs.Prelude.{IfErr, Err}
 use Rattle.std.proofs.Common.{◌≢◌, true}
-use Rattle.station.specs.Calls.{OnlyReads}
-use Rattle.station.proofs.Calls.{reads_nothing}
 use Rattle.pages.specs.declared.error.PagesError.TheVariants.{Device}
 use Rattle.btree.specs.Refusals.{IsChangeRefusal}
 use Rattle.btree.proofs.Passing.{passed, never_ok, still_error, damaged_not_spent}
-use Rattle.btree.proofs.Passing.{reads_where}
+use Rattle.btree.specs.Calls.{EditsPages}
+use Rattle.btree.proofs.EditedPages.{edits_by, edits_none, edits_where}
 use Rattle.btree.proofs.tree.Tree.clear.Goals as goal
 
 pub returns-in_err-clear_levels-clause-damaged : goal.returns-in_err-clear_levels-clause-damaged
@@ -43,19 +42,6 @@ returns-clause-cleared g c = λ honest agrees levels holds.
     never_ok (sym c.in_ok-clear_levels.was ∙ c.clear_levels.ensures.told spent down.0 (omega arith))) in
     c.in_ok-clear_levels.ensures.cleared honest agrees levels few down.1
 
-pub returns-then-top-eq0-clause-only : goal.returns-then-top-eq0-clause-only
-returns-then-top-eq0-clause-only g c =
-    reads_where g.D.Device _ _ _ _ (λ is. never_ok is) (reads_nothing g.D.Device c.args.device.now)
-
-pub returns-in_err-clear_levels-clause-only : goal.returns-in_err-clear_levels-clause-only
-returns-in_err-clear_levels-clause-only g c = passed c.from_residual-in_err-clear_levels.result
-    c.in_err-clear_levels.field-0.0 c.from_residual-in_err-clear_levels.ensures.1
-    (λ r. OnlyReads g.D.Device (r ≡ Err Device) c.args.device.now c.clear_levels.new.device)
-    (reads_where g.D.Device _ _ _ _ (λ is. still_error is) c.in_err-clear_levels.ensures.only)
-
-pub returns-clause-only : goal.returns-clause-only
-returns-clause-only g c = reads_where g.D.Device _ _ _ _ (λ is. never_ok is) c.clear_levels.ensures.only
-
 pub returns-in_err-clear_levels-clause-cause : goal.returns-in_err-clear_levels-clause-cause
 returns-in_err-clear_levels-clause-cause g c = passed c.from_residual-in_err-clear_levels.result
     c.in_err-clear_levels.field-0.0 c.from_residual-in_err-clear_levels.ensures.1
@@ -82,3 +68,24 @@ returns-then-top-eq0-clause-damaged g c = λ honest agrees is. never_ok is
 
 pub returns-clause-damaged : goal.returns-clause-damaged
 returns-clause-damaged g c = λ honest agrees is. never_ok is
+
+pub returns-then-top-eq0-clause-edits : goal.returns-then-top-eq0-clause-edits
+returns-then-top-eq0-clause-edits g c =
+    edits_where g.D.Device _ _ _ _ _ _ (λ is. never_ok is)
+    (edits_none g.D.Device c.args.pages.now c.args.device.now c.requires.open)
+
+pub returns-in_err-clear_levels-clause-edits : goal.returns-in_err-clear_levels-clause-edits
+returns-in_err-clear_levels-clause-edits g c =
+    let gone = c.in_err-clear_levels.ensures in
+    passed c.from_residual-in_err-clear_levels.result c.in_err-clear_levels.field-0.0
+    c.from_residual-in_err-clear_levels.ensures.1
+    (λ r. EditsPages g.D.Device (r ≡ Err Device) c.args.pages.now c.args.device.now c.clear_levels.new.pages
+    c.clear_levels.new.device)
+    (edits_where g.D.Device _ _ _ _ _ _ (λ is. still_error is)
+    (edits_by g.D.Device _ _ _ _ _ gone.only gone.committed gone.catalog gone.agrees gone.open))
+
+pub returns-clause-edits : goal.returns-clause-edits
+returns-clause-edits g c =
+    let gone = c.clear_levels.ensures in
+    edits_where g.D.Device _ _ _ _ _ _ (λ is. never_ok is)
+    (edits_by g.D.Device _ _ _ _ _ gone.only gone.committed gone.catalog gone.agrees gone.open)

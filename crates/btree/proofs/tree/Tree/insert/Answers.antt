@@ -9,12 +9,12 @@ use Rattle.btree.proofs.NamedTrees.{same_holds}
 use Rattle.btree.proofs.Refused.{few_left}
 use Rattle.std.specs.Prelude.{IfErr, Ok}
 use Rattle.std.proofs.Common.{◌↔◌, true, ◌∙◌}
-use Rattle.station.specs.Calls.{OnlyReads}
 use Rattle.pages.specs.declared.error.PagesError.TheVariants.{Device}
 use Rattle.btree.specs.Refusals.{IsInsertRefusal}
 use Rattle.btree.proofs.Passing.{passed, never_ok, never_err, still_error}
-use Rattle.btree.proofs.Passing.{reads_where}
 use Rattle.btree.proofs.Passing.{false_not_true}
+use Rattle.btree.specs.Calls.{EditsPages}
+use Rattle.btree.proofs.EditedPages.{edits_by, edits_where, few_named}
 use Rattle.btree.proofs.tree.Tree.insert.Goals as goal
 
 pub returns-in_err-added-clause-damaged : goal.returns-in_err-added-clause-damaged
@@ -40,22 +40,10 @@ returns-in-Some-clause-inserted g c = λ honest agrees levels holds is.
     (subst (λ (f : RowLayout). Inserts f before levels after key value (Some c.in-Some.root)) c.layout-layout.ensures.is
     added)
 
-pub returns-in-Some-clause-changed_pages : goal.returns-in-Some-clause-changed_pages
-returns-in-Some-clause-changed_pages g c = λ honest agrees levels holds.
-    let before = pages_of_map c.args.pages.now (g.D.Device.state c.args.device.now).disk.present in
-    c.in_ok-added.ensures.changed_pages honest agrees levels
-    (same_holds _ _ _ _ before levels c.layout-layout.ensures.is c.root-top.ensures holds)
-
 pub returns-in_err-added-clause-full : goal.returns-in_err-added-clause-full
 returns-in_err-added-clause-full g c = λ is.
     let told = rw is at c.from_residual.ensures.1 in
     c.in_err-added.ensures.full (cc told)
-
-pub returns-in_err-added-clause-changed_pages : goal.returns-in_err-added-clause-changed_pages
-returns-in_err-added-clause-changed_pages g c = λ honest agrees levels holds.
-    let before = pages_of_map c.args.pages.now (g.D.Device.state c.args.device.now).disk.present in
-    c.in_err-added.ensures.changed_pages honest agrees levels
-    (same_holds _ _ _ _ before levels c.layout-layout.ensures.is c.root-top.ensures holds)
 
 pub returns-in_err-added-clause-room : goal.returns-in_err-added-clause-room
 returns-in_err-added-clause-room g c = λ honest agrees levels holds is.
@@ -70,26 +58,6 @@ returns-in_err-added-clause-room g c = λ honest agrees levels holds is.
     few_left old c.insert_entry.new.pages 42 c.few_free.ensures c.insert_entry.ensures.open
     c.insert_entry.ensures.committed unspent (c.insert_entry.ensures.full full) changed_pages
 
-pub returns-in-Some-clause-filled : goal.returns-in-Some-clause-filled
-returns-in-Some-clause-filled g c = λ honest agrees levels holds.
-    let before = pages_of_map c.args.pages.now (g.D.Device.state c.args.device.now).disk.present in
-    c.in_ok-added.ensures.filled honest agrees levels
-    (same_holds _ _ _ _ before levels c.layout-layout.ensures.is c.root-top.ensures holds)
-
-pub returns-in_err-added-clause-filled : goal.returns-in_err-added-clause-filled
-returns-in_err-added-clause-filled g c = λ honest agrees levels holds.
-    let before = pages_of_map c.args.pages.now (g.D.Device.state c.args.device.now).disk.present in
-    c.in_err-added.ensures.filled honest agrees levels
-    (same_holds _ _ _ _ before levels c.layout-layout.ensures.is c.root-top.ensures holds)
-
-pub returns-in_err-added-clause-only : goal.returns-in_err-added-clause-only
-returns-in_err-added-clause-only g c = passed c.from_residual.result c.in_err-added.field-0.0 c.from_residual.ensures.1
-    (λ r. OnlyReads g.D.Device (r ≡ Err Device) c.args.device.now c.insert_entry.new.device)
-    (reads_where g.D.Device _ _ _ _ (λ is. still_error is) c.in_err-added.ensures.only)
-
-pub returns-in-Some-clause-only : goal.returns-in-Some-clause-only
-returns-in-Some-clause-only g c = reads_where g.D.Device _ _ _ _ (λ is. never_ok is) c.insert_entry.ensures.only
-
 pub returns-in-Some-clause-spent : goal.returns-in-Some-clause-spent
 returns-in-Some-clause-spent g c =
     (λ is. never_ok is, λ was. never_ok (sym c.in_ok-added.was ∙ c.insert_entry.ensures.spent.1 was))
@@ -102,9 +70,6 @@ returns-in-Some-clause-full g c = λ is. never_ok is
 
 pub returns-in-Some-clause-room : goal.returns-in-Some-clause-room
 returns-in-Some-clause-room g c = λ honest agrees levels holds is. never_ok is
-
-pub returns-in-None-clause-only : goal.returns-in-None-clause-only
-returns-in-None-clause-only g c = reads_where g.D.Device _ _ _ _ (λ is. never_ok is) c.insert_entry.ensures.only
 
 pub returns-in-None-clause-spent : goal.returns-in-None-clause-spent
 returns-in-None-clause-spent g c =
@@ -155,3 +120,42 @@ returns-in-Some-clause-there g c = λ honest agrees levels holds is. false_not_t
 
 pub returns-in-Some-clause-same : goal.returns-in-Some-clause-same
 returns-in-Some-clause-same g c = λ is. false_not_true (sym is)
+
+pub returns-in_err-added-clause-edits : goal.returns-in_err-added-clause-edits
+returns-in_err-added-clause-edits g c =
+    let ins = c.in_err-added.ensures in
+    passed c.from_residual.result c.in_err-added.field-0.0 c.from_residual.ensures.1
+    (λ r. EditsPages g.D.Device (r ≡ Err Device) c.args.pages.now c.args.device.now c.insert_entry.new.pages
+    c.insert_entry.new.device)
+    (edits_where g.D.Device _ _ _ _ _ _ (λ is. still_error is)
+    (edits_by g.D.Device _ _ _ _ _ ins.only ins.committed ins.catalog ins.agrees ins.open))
+
+pub returns-in-Some-clause-edits : goal.returns-in-Some-clause-edits
+returns-in-Some-clause-edits g c =
+    let ins = c.insert_entry.ensures in
+    edits_where g.D.Device _ _ _ _ _ _ (λ is. never_ok is)
+    (edits_by g.D.Device _ _ _ _ _ ins.only ins.committed ins.catalog ins.agrees ins.open)
+
+pub returns-in-None-clause-edits : goal.returns-in-None-clause-edits
+returns-in-None-clause-edits g c =
+    let ins = c.insert_entry.ensures in
+    edits_where g.D.Device _ _ _ _ _ _ (λ is. never_ok is)
+    (edits_by g.D.Device _ _ _ _ _ ins.only ins.committed ins.catalog ins.agrees ins.open)
+
+pub returns-in_err-added-clause-few : goal.returns-in_err-added-clause-few
+returns-in_err-added-clause-few g c =
+    few_named g.D.Device 42 c.args.self.now c.layout-layout.result c.root-top.result c.args.pages.now
+    c.insert_entry.new.pages c.args.device.now c.layout-layout.ensures.is c.root-top.ensures
+    c.insert_entry.ensures.changed_pages c.insert_entry.ensures.filled
+
+pub returns-in-Some-clause-few : goal.returns-in-Some-clause-few
+returns-in-Some-clause-few g c =
+    few_named g.D.Device 42 c.args.self.now c.layout-layout.result c.root-top.result c.args.pages.now
+    c.insert_entry.new.pages c.args.device.now c.layout-layout.ensures.is c.root-top.ensures
+    c.insert_entry.ensures.changed_pages c.insert_entry.ensures.filled
+
+pub returns-in-None-clause-few : goal.returns-in-None-clause-few
+returns-in-None-clause-few g c =
+    few_named g.D.Device 42 c.args.self.now c.layout-layout.result c.root-top.result c.args.pages.now
+    c.insert_entry.new.pages c.args.device.now c.layout-layout.ensures.is c.root-top.ensures
+    c.insert_entry.ensures.changed_pages c.insert_entry.ensures.filled

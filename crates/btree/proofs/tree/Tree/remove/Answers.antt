@@ -4,17 +4,16 @@ use Rattle.btree_pages.specs.declared.row_layout.RowLayout.{RowLayout}
 use Rattle.btree.specs.Tree.{IsTreeOrEmpty}
 use Rattle.btree.specs.Changes.{pages_of_map}
 use Rattle.btree.specs.Removals.{Removes}
-use Rattle.std.specs.Prelude.{IfErr, OnOk, Err, Ok}
+use Rattle.std.specs.Prelude.{IfErr, Err, Ok}
 use Rattle.std.proofs.Common.{◌≡◌, ◌≢◌, ◌↔◌, true, ◌∙◌}
-use Rattle.station.specs.Calls.{OnlyReads}
 use Rattle.pages.specs.Pages.{is_spent}
 use Rattle.pages.specs.declared.error.PagesError.TheVariants.{Device, Spent}
 use Rattle.btree.specs.Refusals.{IsChangeRefusal}
 use Rattle.btree.proofs.Passing.{passed, never_ok, never_err, still_error}
-use Rattle.btree.proofs.Passing.{reads_where}
 use Rattle.btree.proofs.Passing.{false_not_true}
-use Rattle.std.specs.Prelude.{OnOk}
-use Rattle.btree.specs.Results.{FewChanged, FewFilled}
+use Rattle.btree.specs.Calls.{EditsPages}
+use Rattle.btree.specs.TreeEdits.{OkOnlyIfEditsFew}
+use Rattle.btree.proofs.EditedPages.{edits_by, edits_where, few_named_ok}
 use Rattle.btree.proofs.tree.Tree.remove.Goals as goal
 
 pub returns-in_err-removed-clause-damaged : goal.returns-in_err-removed-clause-damaged
@@ -40,29 +39,6 @@ returns-in-Some-clause-removed g c = λ honest agrees levels holds is.
     (subst (λ (f : RowLayout). Removes f before levels after key (Some c.in-Some.root)) c.layout-layout.ensures.is
     removed)
 
-pub returns-in-Some-clause-changed_pages : goal.returns-in-Some-clause-changed_pages
-returns-in-Some-clause-changed_pages g c = λ honest agrees levels holds.
-    let before = pages_of_map c.args.pages.now (g.D.Device.state c.args.device.now).disk.present in
-    c.in_ok-removed.ensures.changed_pages honest agrees levels
-    (subst (λ (f : RowLayout). IsTreeOrEmpty f before c.root-top.result levels) (sym c.layout-layout.ensures.is)
-    (subst (λ (r : ℕ). IsTreeOrEmpty c.args.self.now.layout before r levels) (sym c.root-top.ensures) holds))
-
-pub returns-in-Some-clause-filled : goal.returns-in-Some-clause-filled
-returns-in-Some-clause-filled g c = λ honest agrees levels holds.
-    let before = pages_of_map c.args.pages.now (g.D.Device.state c.args.device.now).disk.present in
-    c.in_ok-removed.ensures.filled honest agrees levels
-    (subst (λ (f : RowLayout). IsTreeOrEmpty f before c.root-top.result levels) (sym c.layout-layout.ensures.is)
-    (subst (λ (r : ℕ). IsTreeOrEmpty c.args.self.now.layout before r levels) (sym c.root-top.ensures) holds))
-
-pub returns-in_err-removed-clause-only : goal.returns-in_err-removed-clause-only
-returns-in_err-removed-clause-only g c =
-    passed c.from_residual.result c.in_err-removed.field-0.0 c.from_residual.ensures.1
-    (λ r. OnlyReads g.D.Device (r ≡ Err Device) c.args.device.now c.remove_entry.new.device)
-    (reads_where g.D.Device _ _ _ _ (λ is. still_error is) c.in_err-removed.ensures.only)
-
-pub returns-in-Some-clause-only : goal.returns-in-Some-clause-only
-returns-in-Some-clause-only g c = reads_where g.D.Device _ _ _ _ (λ is. never_ok is) c.remove_entry.ensures.only
-
 pub returns-in-Some-clause-spent : goal.returns-in-Some-clause-spent
 returns-in-Some-clause-spent g c = (
   λ is. never_ok is,
@@ -72,9 +48,6 @@ returns-in-Some-clause-spent g c = (
 
 pub returns-in-Some-clause-damaged : goal.returns-in-Some-clause-damaged
 returns-in-Some-clause-damaged g c = λ honest agrees is. never_ok is
-
-pub returns-in-None-clause-only : goal.returns-in-None-clause-only
-returns-in-None-clause-only g c = reads_where g.D.Device _ _ _ _ (λ is. never_ok is) c.remove_entry.ensures.only
 
 pub returns-in-None-clause-spent : goal.returns-in-None-clause-spent
 returns-in-None-clause-spent g c = (
@@ -130,14 +103,41 @@ returns-in-Some-clause-missing g c = λ honest agrees levels holds is. false_not
 pub returns-in-Some-clause-same : goal.returns-in-Some-clause-same
 returns-in-Some-clause-same g c = λ is. false_not_true (sym is)
 
-pub returns-in_err-removed-clause-changed_pages : goal.returns-in_err-removed-clause-changed_pages
-returns-in_err-removed-clause-changed_pages g c =
-    λ honest agrees levels holds. passed c.from_residual.result c.in_err-removed.field-0.0 c.from_residual.ensures.1
-    (λ r. OnOk r (FewChanged 42 c.args.pages.now c.remove_entry.new.pages))
-    (tt)
+pub returns-in_err-removed-clause-edits : goal.returns-in_err-removed-clause-edits
+returns-in_err-removed-clause-edits g c =
+    let cut = c.in_err-removed.ensures in
+    passed c.from_residual.result c.in_err-removed.field-0.0 c.from_residual.ensures.1
+    (λ r. EditsPages g.D.Device (r ≡ Err Device) c.args.pages.now c.args.device.now c.remove_entry.new.pages
+    c.remove_entry.new.device)
+    (edits_where g.D.Device _ _ _ _ _ _ (λ is. still_error is)
+    (edits_by g.D.Device _ _ _ _ _ cut.only cut.committed cut.catalog cut.agrees cut.open))
 
-pub returns-in_err-removed-clause-filled : goal.returns-in_err-removed-clause-filled
-returns-in_err-removed-clause-filled g c =
-    λ honest agrees levels holds. passed c.from_residual.result c.in_err-removed.field-0.0 c.from_residual.ensures.1
-    (λ r. OnOk r (FewFilled 42 c.args.pages.now c.remove_entry.new.pages))
-    (tt)
+pub returns-in-Some-clause-edits : goal.returns-in-Some-clause-edits
+returns-in-Some-clause-edits g c =
+    let cut = c.remove_entry.ensures in
+    edits_where g.D.Device _ _ _ _ _ _ (λ is. never_ok is)
+    (edits_by g.D.Device _ _ _ _ _ cut.only cut.committed cut.catalog cut.agrees cut.open)
+
+pub returns-in-None-clause-edits : goal.returns-in-None-clause-edits
+returns-in-None-clause-edits g c =
+    let cut = c.remove_entry.ensures in
+    edits_where g.D.Device _ _ _ _ _ _ (λ is. never_ok is)
+    (edits_by g.D.Device _ _ _ _ _ cut.only cut.committed cut.catalog cut.agrees cut.open)
+
+pub returns-in_err-removed-clause-few : goal.returns-in_err-removed-clause-few
+returns-in_err-removed-clause-few g c =
+    passed c.from_residual.result c.in_err-removed.field-0.0 c.from_residual.ensures.1
+    (λ r. OkOnlyIfEditsFew g.D.Device 42 c.args.self.now c.args.pages.now c.args.device.now c.remove_entry.new.pages r)
+    (record { changed_pages = λ honest agrees levels holds. tt; filled = λ honest agrees levels holds. tt })
+
+pub returns-in-Some-clause-few : goal.returns-in-Some-clause-few
+returns-in-Some-clause-few g c =
+    few_named_ok g.D.Device 42 c.args.self.now c.layout-layout.result c.root-top.result c.args.pages.now
+    c.remove_entry.new.pages c.args.device.now true c.layout-layout.ensures.is c.root-top.ensures
+    c.in_ok-removed.ensures.changed_pages c.in_ok-removed.ensures.filled
+
+pub returns-in-None-clause-few : goal.returns-in-None-clause-few
+returns-in-None-clause-few g c =
+    few_named_ok g.D.Device 42 c.args.self.now c.layout-layout.result c.root-top.result c.args.pages.now
+    c.remove_entry.new.pages c.args.device.now false c.layout-layout.ensures.is c.root-top.ensures
+    c.in_ok-removed.ensures.changed_pages c.in_ok-removed.ensures.filled

@@ -1,43 +1,27 @@
-use Rattle.std.proofs.Common.{false, ◌≡◌, ℕ, List, [], length, sym, ap, subst, ◌∙◌, arith, true}
+use Rattle.std.proofs.Common.{false, ◌≡◌, ℕ, List, length, sym, ap, subst, ◌∙◌, arith, true}
 use Rattle.std.specs.Prelude.{Option, Ok}
 use Rattle.station.specs.Disk.{Sector}
-use Rattle.pages.specs.Image.{Map}
 use Rattle.pages.specs.declared.page_map.PageMap.{PageMap}
 use Rattle.pages.specs.Pages.{IsUnchanged, changed_pages_of, filled_of}
 use Rattle.btree.specs.Tree.{IsTreeOrEmpty}
 use Rattle.btree.proofs.Frames.{pages_yet, unchanged_on}
 use Rattle.std.specs.Prelude.{IfErr, Err}
-use Rattle.std.proofs.Common.{◌≢◌, ◌↔◌, ◌≤◌, ◌+◌, inr}
-use Rattle.station.specs.Calls.{OnlyReads}
-use Rattle.station.proofs.Calls.{reads_then, reads_nothing}
+use Rattle.std.proofs.Common.{◌≢◌, ◌↔◌, ◌≤◌, ◌+◌}
 use Rattle.pages.specs.Pages.{is_spent}
 use Rattle.pages.specs.declared.error.PagesError.TheVariants.{Damaged, Device, Spent}
 use Rattle.btree.specs.Refusals.{IsChangeRefusal}
 use Rattle.btree.proofs.Passing.{passed, never_ok, never_err, still_error}
 use Rattle.btree.proofs.Passing.{put_is_rest, rest_is_change, search_is_change, put_not_device}
 use Rattle.btree.proofs.Passing.{put_not_damaged}
-use Rattle.btree.proofs.Passing.{reads_where, committed_on, sectors_on}
-use Rattle.btree.proofs.Passing.{few_equal, few_same, false_not_true, search_is_change}
+use Rattle.btree.proofs.Passing.{sectors_on}
+use Rattle.btree.proofs.Passing.{few_equal, few_same, false_not_true}
 use Rattle.btree.proofs.Frames.{unchanged_still}
 use Rattle.btree.specs.Tree.{TreeNode}
 use Rattle.btree.proofs.ReadMaps.{change_before}
 use Rattle.btree.proofs.ReplaceCalls.{ReplacesEntry, replaced_in_place, unchanged_equal}
+use Rattle.btree.specs.Calls.{EditsPages}
+use Rattle.btree.proofs.EditedPages.{edits_by, edits_kept, edits_last, edits_none, edits_read, edits_where}
 use Rattle.btree.proofs.tree.Tree.replace.Goals as goal
-
-pub returns-in_err-way-clause-catalog : goal.returns-in_err-way-clause-catalog
-returns-in_err-way-clause-catalog g c = ap (λ (m : Map). m.catalog) (c.follow.ensures.unchanged.map [])
-
-pub returns-in_err-set_value_in-clause-catalog : goal.returns-in_err-set_value_in-clause-catalog
-returns-in_err-set_value_in-clause-catalog g c =
-    c.set_value_in.ensures.keeps.catalog ∙ ap (λ (m : Map). m.catalog) (c.follow.ensures.unchanged.map [])
-
-pub returns-then-branch-clause-catalog : goal.returns-then-branch-clause-catalog
-returns-then-branch-clause-catalog g c =
-    c.set_value_in.ensures.keeps.catalog ∙ ap (λ (m : Map). m.catalog) (c.follow.ensures.unchanged.map [])
-
-pub returns-clause-catalog : goal.returns-clause-catalog
-returns-clause-catalog g c = c.replace_slowly.ensures.catalog ∙ c.set_value_in.ensures.keeps.catalog
-    ∙ ap (λ (m : Map). m.catalog) (c.follow.ensures.unchanged.map [])
 
 pub returns-then-branch-clause-replaced : goal.returns-then-branch-clause-replaced
 returns-then-branch-clause-replaced g c = λ honest agrees levels holds is.
@@ -114,64 +98,6 @@ returns-clause-filled g c =
     let count = ap (λ (p : PageMap). filled_of p) same in
     let still = c.follow.ensures.unchanged.filled in
     omega (arith, few, count, still)
-
-pub returns-then-top-eq0-clause-only : goal.returns-then-top-eq0-clause-only
-returns-then-top-eq0-clause-only g c =
-    reads_where g.D.Device _ _ _ _ (λ is. never_ok is) (reads_nothing g.D.Device c.args.device.now)
-
-pub returns-in_err-way-clause-only : goal.returns-in_err-way-clause-only
-returns-in_err-way-clause-only g c = passed c.from_residual.result c.in_err-way.field-0.0 c.from_residual.ensures.1
-    (λ r. OnlyReads g.D.Device (r ≡ Err Device) c.args.device.now c.follow.new.device)
-    (reads_where g.D.Device _ _ _ _ (λ is. still_error is) c.in_err-way.ensures.only)
-
-pub returns-in_err-set_value_in-clause-only : goal.returns-in_err-set_value_in-clause-only
-returns-in_err-set_value_in-clause-only g c = passed c.from_residual-in_err-set_value_in.result
-    c.in_err-set_value_in.field-0.0 c.from_residual-in_err-set_value_in.ensures.1
-    (λ r. OnlyReads g.D.Device (r ≡ Err Device) c.args.device.now c.follow.new.device)
-    (reads_where g.D.Device _ _ _ _ (λ is.
-    put_not_device c.in_err-set_value_in.field-0.0 c.in_err-set_value_in.ensures.cause is) c.follow.ensures.only)
-
-pub returns-then-branch-clause-only : goal.returns-then-branch-clause-only
-returns-then-branch-clause-only g c = reads_where g.D.Device _ _ _ _ (λ is. never_ok is) c.follow.ensures.only
-
-pub returns-clause-only : goal.returns-clause-only
-returns-clause-only g c = reads_then g.D.Device _ _ _ _ _ _ (λ is. inr is) c.follow.ensures.only
-    c.replace_slowly.ensures.only
-
-pub returns-in_err-set_value_in-clause-committed : goal.returns-in_err-set_value_in-clause-committed
-returns-in_err-set_value_in-clause-committed g c = committed_on c.args.pages.now c.follow.new.pages
-    c.set_value_in.new.pages c.follow.ensures.unchanged.committed c.set_value_in.ensures.keeps.committed
-
-pub returns-then-branch-clause-committed : goal.returns-then-branch-clause-committed
-returns-then-branch-clause-committed g c = committed_on c.args.pages.now c.follow.new.pages c.set_value_in.new.pages
-    c.follow.ensures.unchanged.committed c.set_value_in.ensures.keeps.committed
-
-pub returns-clause-committed : goal.returns-clause-committed
-returns-clause-committed g c = committed_on c.args.pages.now c.set_value_in.new.pages c.replace_slowly.new.pages
-    (committed_on c.args.pages.now c.follow.new.pages c.set_value_in.new.pages c.follow.ensures.unchanged.committed
-    c.set_value_in.ensures.keeps.committed)
-    c.replace_slowly.ensures.committed
-
-pub returns-in_err-set_value_in-clause-agrees : goal.returns-in_err-set_value_in-clause-agrees
-returns-in_err-set_value_in-clause-agrees g c =
-    λ honest agrees. c.set_value_in.ensures.keeps.agrees (g.D.Device.state c.follow.new.device).disk
-    (c.follow.ensures.agrees honest agrees)
-
-pub returns-then-branch-clause-agrees : goal.returns-then-branch-clause-agrees
-returns-then-branch-clause-agrees g c =
-    λ honest agrees. c.set_value_in.ensures.keeps.agrees (g.D.Device.state c.follow.new.device).disk
-    (c.follow.ensures.agrees honest agrees)
-
-pub returns-clause-agrees : goal.returns-clause-agrees
-returns-clause-agrees g c = λ honest agrees. c.replace_slowly.ensures.agrees (c.follow.ensures.only.honest.0 honest)
-    (c.set_value_in.ensures.keeps.agrees (g.D.Device.state c.follow.new.device).disk
-    (c.follow.ensures.agrees honest agrees))
-
-pub returns-in_err-set_value_in-clause-open : goal.returns-in_err-set_value_in-clause-open
-returns-in_err-set_value_in-clause-open g c = c.set_value_in.ensures.keeps.is_open c.follow.ensures.open
-
-pub returns-then-branch-clause-open : goal.returns-then-branch-clause-open
-returns-then-branch-clause-open g c = c.set_value_in.ensures.keeps.is_open c.follow.ensures.open
 
 pub replace_slowly-requires-clause-open : goal.replace_slowly-requires-clause-open
 replace_slowly-requires-clause-open g c = c.set_value_in.ensures.keeps.is_open c.follow.ensures.open
@@ -319,3 +245,42 @@ pub returns-then-branch-clause-filled : goal.returns-then-branch-clause-filled
 returns-then-branch-clause-filled g c =
     subst (λ (n : ℕ). filled_of c.set_value_in.new.pages ≤ n + 1) c.follow.ensures.unchanged.filled
     c.set_value_in.ensures.filled
+
+pub returns-then-top-eq0-clause-edits : goal.returns-then-top-eq0-clause-edits
+returns-then-top-eq0-clause-edits g c =
+    edits_where g.D.Device _ _ _ _ _ _ (λ is. never_ok is)
+    (edits_none g.D.Device c.args.pages.now c.args.device.now c.requires.open)
+
+pub returns-in_err-way-clause-edits : goal.returns-in_err-way-clause-edits
+returns-in_err-way-clause-edits g c =
+    let way = c.in_err-way.ensures in
+    passed c.from_residual.result c.in_err-way.field-0.0 c.from_residual.ensures.1
+    (λ r. EditsPages g.D.Device (r ≡ Err Device) c.args.pages.now c.args.device.now c.follow.new.pages
+    c.follow.new.device)
+    (edits_where g.D.Device _ _ _ _ _ _ (λ is. still_error is)
+    (edits_read g.D.Device _ _ _ _ _ way.only way.unchanged way.agrees way.open))
+
+pub returns-in_err-set_value_in-clause-edits : goal.returns-in_err-set_value_in-clause-edits
+returns-in_err-set_value_in-clause-edits g c =
+    let way = c.follow.ensures in
+    let x = c.in_err-set_value_in.field-0.0 in
+    passed c.from_residual-in_err-set_value_in.result x c.from_residual-in_err-set_value_in.ensures.1
+    (λ r. EditsPages g.D.Device (r ≡ Err Device) c.args.pages.now c.args.device.now c.set_value_in.new.pages
+    c.follow.new.device)
+    (edits_kept g.D.Device _ _ _ _ _ _ _ (λ is. put_not_device x c.in_err-set_value_in.ensures.cause is)
+    (edits_read g.D.Device _ _ _ _ _ way.only way.unchanged way.agrees way.open) c.set_value_in.ensures.keeps)
+
+pub returns-then-branch-clause-edits : goal.returns-then-branch-clause-edits
+returns-then-branch-clause-edits g c =
+    let way = c.follow.ensures in
+    edits_kept g.D.Device _ _ _ _ _ _ _ (λ is. never_ok is)
+    (edits_read g.D.Device _ _ _ _ _ way.only way.unchanged way.agrees way.open) c.set_value_in.ensures.keeps
+
+pub returns-clause-edits : goal.returns-clause-edits
+returns-clause-edits g c =
+    let way = c.follow.ensures in
+    let slow = c.replace_slowly.ensures in
+    edits_last g.D.Device _ _ _ _ _ _ _ _ _ (λ is. is)
+    (edits_kept g.D.Device _ ⊥ _ _ _ _ _ (λ never. absurd never)
+    (edits_read g.D.Device _ _ _ _ _ way.only way.unchanged way.agrees way.open) c.set_value_in.ensures.keeps)
+    (edits_by g.D.Device _ _ _ _ _ slow.only slow.committed slow.catalog slow.agrees slow.open)

@@ -68,11 +68,6 @@ perform_on-requires g c =
       bytes = c.requires.bytes ∙ ap (λ (e : Entry). e.spec.record_length) (at_entry at);
     }
 
-pub returns-clause-changes : goal.returns-clause-changes
-returns-clause-changes g c = changes_over g.T.Keeps g.D.Device c.perform_on.result c.args.self.now.store
-    c.args.device.now c.perform_on.new.store c.perform_on.new.device refl refl refl refl
-    c.perform_on.ensures.does.changes
-
 pub returns-clause-entries : goal.returns-clause-entries
 returns-clause-entries g c =
     let at = is_at c.args.self.now.links.items c.args.file c.index_mut-2.result.now c.args.verb c.requires.file
@@ -108,14 +103,11 @@ returns-clause-full g c = λ files stands is.
     does_full at c.perform_on.ensures.does files (record { honest = stands.honest; there = stands.there.0 })
     stands.there.1 is
 
-pub returns-clause-never_full : goal.returns-clause-never_full
-returns-clause-never_full g c = c.perform_on.ensures.does.never_full
-
-pub returns-clause-old : goal.returns-clause-old
-returns-clause-old g c = c.perform_on.ensures.does.mark
-
-pub returns-clause-idle : goal.returns-clause-idle
-returns-clause-idle g c = c.perform_on.ensures.does.idle
+pub returns-clause-lacks : goal.returns-clause-lacks
+returns-clause-lacks g c = record {
+  never_full = c.perform_on.ensures.does.never_full;
+  old = c.perform_on.ensures.does.mark;
+}
 
 pub returns-clause-refused : goal.returns-clause-refused
 returns-clause-refused g c =
@@ -123,15 +115,18 @@ returns-clause-refused g c =
     c.deref.ensures.value c.barred.ensures c.in_default.is c.index_mut-2.ensures.value in
     does_refused at c.perform_on.ensures.does
 
-pub returns-clause-rests : goal.returns-clause-rests
-returns-clause-rests g c =
+pub returns-clause-store : goal.returns-clause-store
+returns-clause-store g c =
     let at = is_at c.args.self.now.links.items c.args.file c.index_mut-2.result.now c.args.verb c.requires.file
     c.deref.ensures.value c.barred.ensures c.in_default.is c.index_mut-2.ensures.value in
     let does = c.perform_on.ensures.does in
-    err_both c.perform_on.result (λ same rests. rests_over g.T.Keeps g.D.Device c.perform_on.result
-    c.args.self.now.store c.args.device.now c.perform_on.new.store c.perform_on.new.device refl
-    (λ files stands. record { honest = stands.honest; there = stands.there.0 })
-    (λ files stands now. record {
-      honest = now.honest;
-      there = (now.there, does_still at does same files stands.there.1);
-    }) rests) does.same does.rests
+    record {
+      changes = changes_over g.T.Keeps g.D.Device c.perform_on.result c.args.self.now.store c.args.device.now
+          c.perform_on.new.store c.perform_on.new.device refl refl refl refl does.changes;
+      idle = does.idle;
+      rests = err_both c.perform_on.result (λ same rests. rests_over g.T.Keeps g.D.Device c.perform_on.result
+          c.args.self.now.store c.args.device.now c.perform_on.new.store c.perform_on.new.device refl
+          (λ files stands. record { honest = stands.honest; there = stands.there.0 }) (λ files stands now.
+          record { honest = now.honest; there = (now.there, does_still at does same files stands.there.1) }) rests)
+          does.same does.rests;
+    }

@@ -9,10 +9,10 @@ use Rattle.pages.specs.Layout.{version_of}
 use Rattle.pages.specs.Image.{Map, IsCommitted, pages_in, page_at}
 use Rattle.pages.specs.Changes.{pages_after, changed_pages, next_map}
 use Rattle.pages.specs.Commits.{map_on, volume_on, LeavesEither}
-use Rattle.pages.specs.Cache.{KeepsChanges, Gathers}
+use Rattle.pages.specs.Cache.{KeepsChanges, Gathers, IsCacheOf}
 use Rattle.pages.specs.declared.change.Change.{Change}
 use Rattle.pages.proofs.Caches.{gathers, after_commit}
-use Rattle.pages.specs.Pages.{committed_of, map_now, next_generation}
+use Rattle.pages.specs.Pages.{committed_of, map_now, next_generation, Agrees}
 use Rattle.pages.proofs.Committed.{at_rest}
 use Rattle.pages.proofs.page_map.PageMap.commit.Given.{Over}
 use Rattle.pages.proofs.page_map.PageMap.commit.Goals as goal
@@ -49,11 +49,19 @@ gathered g c image =
     (subst (λ (l : List Change). KeepsChanges l c.args.self.now.cache c.keep_changes.new.cache) same
     c.keep_changes.ensures)
 
-pub returns-clause-gathers : goal.returns-clause-gathers
-returns-clause-gathers g c = λ image. gathered g c image
+pub returns-clause-caches : goal.returns-clause-caches
+returns-clause-caches g c = record {
+  gathers = λ image. gathered g c image;
+  cache = tt;
+  capacity = c.keep_changes.ensures.capacity;
+}
 
-pub returns-clause-agrees : goal.returns-clause-agrees
-returns-clause-agrees g c = λ honest agrees.
+-- the cache agrees with the disk then
+cached : (g : Over) (c : goal.After-self-2-1 g) → g.D.Device.is_honest c.args.device.now
+    → Agrees c.args.self.now (g.D.Device.state c.args.device.now).disk
+    → IsCacheOf (pages_in (g.D.Device.state c.commit_volume.new.device).disk.present c.commit_volume.new.volume.table)
+    (changed_pages c.replace-changes.new.dest.items) c.keep_changes.new.cache.entries
+cached g c honest agrees =
     let changes = c.args.self.now.changes.items in
     let present = (g.D.Device.state c.args.device.now).disk.present in
     let pages = pages_in present c.args.self.now.volume.table in
@@ -62,11 +70,8 @@ returns-clause-agrees g c = λ honest agrees.
     ap (λ (m : Map). m.pages) (c.in_ok-commit_volume.ensures.map honest agrees.committed)
     ∙ ap (λ (l : List Change). pages_after pages l) c.deref.ensures.value in
     let none : c.replace-changes.new.dest.items ≡ [] = search rules in
-    record {
-      committed = c.in_ok-commit_volume.ensures.committed honest agrees.committed;
-      cache = after_commit pages after changes c.replace-changes.new.dest.items c.args.self.now.cache
-          c.keep_changes.new.cache next none (gathered g c present) agrees.cache;
-    }
+    after_commit pages after changes c.replace-changes.new.dest.items c.args.self.now.cache
+    c.keep_changes.new.cache next none (gathered g c present) agrees.cache
 
 -- the map that the disk holds then is the next one
 mapped : (g : Over) (c : goal.After-self-2-1 g) → g.D.Device.is_honest c.args.device.now
@@ -77,6 +82,17 @@ mapped g c honest committed =
     ap (λ (m : Map). m.pages) (c.in_ok-commit_volume.ensures.map honest committed)
     ∙ ap (pages_after (pages_in (g.D.Device.state c.args.device.now).disk.present c.args.self.now.volume.table))
     c.deref.ensures.value
+
+-- the map's pages over the disk then
+pages_then : (g : Over) (c : goal.After-self-2-1 g) → g.D.Device.is_honest c.args.device.now
+    → IsCommitted (committed_of c.args.self.now) (g.D.Device.state c.args.device.now).disk
+    → pages_after (pages_in (g.D.Device.state c.commit_volume.new.device).disk.present
+    c.commit_volume.new.volume.table) c.replace-changes.new.dest.items
+    ≡ (map_on g.D.Device c.args.self.now c.args.device.now).pages
+pages_then g c honest committed =
+    let after = pages_in (g.D.Device.state c.commit_volume.new.device).disk.present c.commit_volume.new.volume.table in
+    let none : c.replace-changes.new.dest.items ≡ [] = search rules in
+    ap (pages_after after) none ∙ mapped g c honest committed
 
 pub returns-in_err-commit_volume-clause-moments : goal.returns-in_err-commit_volume-clause-moments
 returns-in_err-commit_volume-clause-moments g c = λ honest agrees.
@@ -94,19 +110,16 @@ returns-clause-moments g c = λ honest agrees.
     c.args.device.now c.commit_volume.new.device) c.deref.ensures.value
     (c.commit_volume.ensures.moments honest agrees.committed)
 
-pub returns-clause-map : goal.returns-clause-map
-returns-clause-map g c = λ honest agrees.
-    let after = pages_in (g.D.Device.state c.commit_volume.new.device).disk.present c.commit_volume.new.volume.table in
-    let none : c.replace-changes.new.dest.items ≡ [] = search rules in
-    record { mark = refl; catalog = refl; pages = ap (pages_after after) none ∙ mapped g c honest agrees.committed }
-
-pub returns-clause-advances : goal.returns-clause-advances
-returns-clause-advances g c = λ honest agrees changed.
-    let self = c.args.self.now in
-    let after = pages_in (g.D.Device.state c.commit_volume.new.device).disk.present c.commit_volume.new.volume.table in
-    let none : c.replace-changes.new.dest.items ≡ [] = search rules in
-    ap
-    (λ (p : List (Option Sector)). map_with (version_of self.mark) c.commit_volume.new.volume.generation self.catalog p)
-    (ap (pages_after after) none ∙ mapped g c honest agrees.committed)
-    ∙ ap (λ (n : ℕ). map_with (version_of self.mark) n self.catalog (map_on g.D.Device self c.args.device.now).pages)
-    c.in_ok-commit_volume.ensures.next.0
+pub returns-clause-holds : goal.returns-clause-holds
+returns-clause-holds g c = let self = c.args.self.now in record {
+  agrees = λ honest agrees. record {
+    committed = c.in_ok-commit_volume.ensures.committed honest agrees.committed;
+    cache = cached g c honest agrees;
+  };
+  map = λ honest agrees. record { mark = refl; catalog = refl; pages = pages_then g c honest agrees.committed };
+  advances = λ honest agrees changed.
+      ap (map_with (version_of self.mark) c.commit_volume.new.volume.generation self.catalog)
+      (pages_then g c honest agrees.committed)
+      ∙ ap (λ (n : ℕ). map_with (version_of self.mark) n self.catalog (map_on g.D.Device self c.args.device.now).pages)
+      c.in_ok-commit_volume.ensures.next.0;
+}

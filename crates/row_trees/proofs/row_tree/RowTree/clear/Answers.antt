@@ -6,7 +6,7 @@ use Rattle.btree.proofs.Clearing.{moves_none}
 use Rattle.btree.proofs.Passing.{passed, still_error}
 use Rattle.row_trees.specs.Calls.{EditsPages}
 use Rattle.row_trees.proofs.Among.{alone, chained, viewed, same_chained, stands_among, stored_in}
-use Rattle.row_trees.proofs.Calling.{edits_by, edits_where, edits_last, refused_by_call}
+use Rattle.row_trees.proofs.Calling.{edits_where, edits_last, refused_by_call}
 use Rattle.row_trees.proofs.Forms.{no_chains}
 use Rattle.row_trees.proofs.Passing.{on_ok, on_err}
 use Rattle.row_trees.proofs.ReleasedRows.{clears_tree, cleared_never}
@@ -64,7 +64,7 @@ returns-clause-edits g c =
     let one = c.release_chains.ensures.edits in
     let two = c.clear-2.ensures in
     edits_last g.D.Device _ _ _ _ _ _ _ _ _ (λ is. is) one
-    (edits_by g.D.Device _ _ _ _ _ two.only two.committed two.catalog two.agrees two.open)
+    two.edits
 
 pub returns-clause-cleared : goal.returns-clause-cleared
 returns-clause-cleared g c =

@@ -9,7 +9,7 @@ use Rattle.btree.proofs.Passing.{committed_on, search_is_insert, write_is_insert
 use Rattle.row_trees.specs.Calls.{EditsPages}
 use Rattle.row_trees.specs.RowTree.{ChainedTree}
 use Rattle.row_trees.proofs.Among.{chained, viewed, same_chained, stands_among}
-use Rattle.row_trees.proofs.Calling.{looks_by, looks_edits, edits_by, edits_where, edits_last, edits_kept}
+use Rattle.row_trees.proofs.Calling.{looks_by, looks_edits, edits_where, edits_last, edits_kept}
 use Rattle.row_trees.proofs.Calling.{refused_by_call}
 use Rattle.row_trees.proofs.LaidRows.{LaysRecord, laid_few, laid_room, laid_never, laid_missing, inserted_on, room_laid}
 use Rattle.row_trees.proofs.Passing.{search_not_full, write_not_damaged, on_err, full_unspent, few_laid, few_first}
@@ -51,7 +51,7 @@ returns-then-self-eq0-clause-changed_pages g c = λ honest agrees left right ent
     let before = pages_of_map c.args.pages.now (g.D.Device.state c.args.device.now).disk.present in
     let view = chained c.self.inside.tree c.self.inside.record_bytes in
     let own = viewed before left right view _ entries c.self.view_is is in
-    few_weaker _ _ 42 _ (c.insert.ensures.changed_pages honest agrees own.planted.levels
+    few_weaker _ _ 42 _ (c.insert.ensures.few.changed_pages honest agrees own.planted.levels
     (stands_among before left right view entries own).tree)
 
 pub returns-then-self-eq0-clause-room : goal.returns-then-self-eq0-clause-room
@@ -197,7 +197,7 @@ returns-in_err-added-clause-edits g c =
     (edits_kept g.D.Device _ ⊥ _ _ _ _ _ (λ never. absurd never)
     (looks_edits g.D.Device _ _ _ _ _ (looks_by g.D.Device _ _ _ _ _ got.only got.unchanged got.agrees got.open))
     c.lay.ensures.keeps)
-    (edits_by g.D.Device _ _ _ _ _ ins.only ins.committed ins.catalog ins.agrees ins.open))
+    ins.edits)
 
 pub returns-in_err-added-clause-damaged : goal.returns-in_err-added-clause-damaged
 returns-in_err-added-clause-damaged g c =
@@ -208,7 +208,7 @@ pub returns-in_err-added-clause-changed_pages : goal.returns-in_err-added-clause
 returns-in_err-added-clause-changed_pages g c =
     laid_few g.D.Device c.insert-2.new.pages _
     (lays g (goal.at.returns-in_err-added-clause-changed_pages g c).After-insert-2) c.self.view_is
-    c.insert-2.ensures.changed_pages
+    c.insert-2.ensures.few.changed_pages
 
 pub returns-in_err-added-clause-room : goal.returns-in_err-added-clause-room
 returns-in_err-added-clause-room g c =
@@ -235,7 +235,7 @@ returns-then-not-added-clause-edits g c =
     (edits_kept g.D.Device _ ⊥ _ _ _ _ _ (λ never. absurd never)
     (looks_edits g.D.Device _ _ _ _ _ (looks_by g.D.Device _ _ _ _ _ got.only got.unchanged got.agrees got.open))
     c.lay.ensures.keeps)
-    (edits_by g.D.Device _ _ _ _ _ ins.only ins.committed ins.catalog ins.agrees ins.open)
+    ins.edits
 
 pub returns-then-not-added-clause-damaged : goal.returns-then-not-added-clause-damaged
 returns-then-not-added-clause-damaged g c = λ honest agrees left right entries is told.
@@ -248,7 +248,7 @@ pub returns-then-not-added-clause-changed_pages : goal.returns-then-not-added-cl
 returns-then-not-added-clause-changed_pages g c =
     laid_few g.D.Device c.insert-2.new.pages _
     (lays g (goal.at.returns-then-not-added-clause-changed_pages g c).After-insert-2) c.self.view_is
-    c.insert-2.ensures.changed_pages
+    c.insert-2.ensures.few.changed_pages
 
 pub returns-then-not-added-clause-refused : goal.returns-then-not-added-clause-refused
 returns-then-not-added-clause-refused g c = same_chained _ _ c.self.inside.record_bytes _
@@ -264,7 +264,7 @@ returns-clause-edits g c =
     (edits_kept g.D.Device _ ⊥ _ _ _ _ _ (λ never. absurd never)
     (looks_edits g.D.Device _ _ _ _ _ (looks_by g.D.Device _ _ _ _ _ got.only got.unchanged got.agrees got.open))
     c.lay.ensures.keeps)
-    (edits_by g.D.Device _ _ _ _ _ ins.only ins.committed ins.catalog ins.agrees ins.open)
+    ins.edits
 
 pub returns-clause-inserted : goal.returns-clause-inserted
 returns-clause-inserted g c =
@@ -278,4 +278,4 @@ pub returns-clause-changed_pages : goal.returns-clause-changed_pages
 returns-clause-changed_pages g c =
     laid_few g.D.Device c.insert-2.new.pages _ (lays g (goal.at.returns-clause-changed_pages g c).After-insert-2)
     c.self.view_is
-    c.insert-2.ensures.changed_pages
+    c.insert-2.ensures.few.changed_pages

@@ -55,7 +55,7 @@ returns-then-self-eq0-clause-changed_pages g c = λ honest agrees left right ent
     let own = viewed before left right view _ entries c.self.view_is is in
     let stands = stands_among before left right view entries own in
     on_ok c.remove.result _ _ (few_weaker _ _ 42 _)
-    (c.remove.ensures.changed_pages honest agrees own.planted.levels stands.tree)
+    (c.remove.ensures.few.changed_pages honest agrees own.planted.levels stands.tree)
 
 pub returns-then-self-eq0-clause-same : goal.returns-then-self-eq0-clause-same
 returns-then-self-eq0-clause-same g c = λ no. (
@@ -117,7 +117,7 @@ returns-in_err-removed-clause-edits g c =
     c.remove-2.new.device)
     (edits_last g.D.Device _ _ _ _ _ _ _ _ _ (λ is. still_error is)
     (looks_edits g.D.Device _ _ _ _ _ (looks_by g.D.Device _ _ _ _ _ got.only got.unchanged got.agrees got.open))
-    (edits_by g.D.Device _ _ _ _ _ cut.only cut.committed cut.catalog cut.agrees cut.open))
+    cut.edits)
 
 pub returns-in_err-removed-clause-damaged : goal.returns-in_err-removed-clause-damaged
 returns-in_err-removed-clause-damaged g c = λ honest agrees left right entries is told.
@@ -144,7 +144,7 @@ returns-then-not-removed-clause-edits g c =
     let cut = c.remove-2.ensures in
     edits_last g.D.Device _ _ _ _ _ _ _ _ _ (λ is. damaged_not_device is)
     (looks_edits g.D.Device _ _ _ _ _ (looks_by g.D.Device _ _ _ _ _ got.only got.unchanged got.agrees got.open))
-    (edits_by g.D.Device _ _ _ _ _ cut.only cut.committed cut.catalog cut.agrees cut.open)
+    cut.edits
 
 pub returns-then-not-removed-clause-damaged : goal.returns-then-not-removed-clause-damaged
 returns-then-not-removed-clause-damaged g c = λ honest agrees left right entries is told.
@@ -174,7 +174,7 @@ takes g c = let got = c.get.ensures in
       looks = looks_by g.D.Device _ _ _ _ _ got.only got.unchanged got.agrees got.open;
       found = λ h a levels tree. sym (c.in_ok-entry.ensures.entry h a levels tree) ∙ c.in-Some.is;
       taken = λ h a levels tree. cut.removed h a levels tree done;
-      edits = edits_by g.D.Device _ _ _ _ _ cut.only cut.committed cut.catalog cut.agrees cut.open;
+      edits = cut.edits;
       first_is = c.first_page-first.ensures ∙ ap (big_number 4) c.value.ensures;
       long = c.if-self-eq0.false;
     }
@@ -190,7 +190,7 @@ returns-in_err-release-clause-edits g c =
     (edits_last g.D.Device _ _ _ _ _ _ _ _ _ (λ is. still_error is)
     (edits_last g.D.Device _ _ ⊥ _ _ _ _ _ _ (λ never. absurd never)
     (looks_edits g.D.Device _ _ _ _ _ (looks_by g.D.Device _ _ _ _ _ got.only got.unchanged got.agrees got.open))
-    (edits_by g.D.Device _ _ _ _ _ cut.only cut.committed cut.catalog cut.agrees cut.open))
+    cut.edits)
     (edits_by g.D.Device _ _ _ _ _ end.only end.committed end.catalog end.agrees end.open))
 
 pub returns-in_err-release-clause-damaged : goal.returns-in_err-release-clause-damaged
@@ -200,7 +200,7 @@ returns-in_err-release-clause-damaged g c =
 
 pub returns-in_err-release-clause-spent : goal.returns-in_err-release-clause-spent
 returns-in_err-release-clause-spent g c = λ is.
-    sym c.get.ensures.unchanged.committed.spent ∙ sym c.remove-2.ensures.committed.spent
+    sym c.get.ensures.unchanged.committed.spent ∙ sym c.remove-2.ensures.edits.committed.spent
     ∙ (c.release.ensures.spent.0 (refused_by_call c.in_err-release.was c.from_residual-in_err-release.ensures.1 is)).0
 
 -- It was.
@@ -212,7 +212,7 @@ returns-clause-edits g c =
     edits_last g.D.Device _ _ _ _ _ _ _ _ _ (λ is. never_ok is)
     (edits_last g.D.Device _ _ ⊥ _ _ _ _ _ _ (λ never. absurd never)
     (looks_edits g.D.Device _ _ _ _ _ (looks_by g.D.Device _ _ _ _ _ got.only got.unchanged got.agrees got.open))
-    (edits_by g.D.Device _ _ _ _ _ cut.only cut.committed cut.catalog cut.agrees cut.open))
+    cut.edits)
     (edits_by g.D.Device _ _ _ _ _ end.only end.committed end.catalog end.agrees end.open)
 
 pub returns-clause-removed : goal.returns-clause-removed
@@ -226,4 +226,4 @@ returns-clause-changed_pages g c =
     let got = c.get.ensures in
     taken_few g.D.Device c.remove-2.new.pages c.release.new.pages _
     (looks_by g.D.Device _ _ _ _ _ got.only got.unchanged got.agrees got.open) c.self.view_is
-    c.in_ok-removed.ensures.changed_pages c.release.ensures.changed_pages
+    c.in_ok-removed.ensures.few.changed_pages c.release.ensures.changed_pages

@@ -205,7 +205,7 @@ returns-in_err-replaced-clause-edits g c =
     (edits_last g.D.Device _ _ ⊥ _ _ _ _ _ _ (λ never. absurd never)
     (looks_edits g.D.Device _ _ _ _ _ (looks_by g.D.Device _ _ _ _ _ got.only got.unchanged got.agrees got.open))
     (edits_by g.D.Device _ _ _ _ _ put.only put.committed put.catalog put.agrees put.open))
-    (edits_by g.D.Device _ _ _ _ _ end.only end.committed end.catalog end.agrees end.open))
+    end.edits)
 
 pub returns-in_err-replaced-clause-damaged : goal.returns-in_err-replaced-clause-damaged
 returns-in_err-replaced-clause-damaged g c =
@@ -239,7 +239,7 @@ returns-then-not-replaced-clause-edits g c =
     (edits_last g.D.Device _ _ ⊥ _ _ _ _ _ _ (λ never. absurd never)
     (looks_edits g.D.Device _ _ _ _ _ (looks_by g.D.Device _ _ _ _ _ got.only got.unchanged got.agrees got.open))
     (edits_by g.D.Device _ _ _ _ _ put.only put.committed put.catalog put.agrees put.open))
-    (edits_by g.D.Device _ _ _ _ _ end.only end.committed end.catalog end.agrees end.open)
+    end.edits
 
 pub returns-then-not-replaced-clause-damaged : goal.returns-then-not-replaced-clause-damaged
 returns-then-not-replaced-clause-damaged g c = λ honest agrees left right entries is told.
@@ -271,7 +271,7 @@ returns-clause-edits g c =
     (edits_last g.D.Device _ _ ⊥ _ _ _ _ _ _ (λ never. absurd never)
     (looks_edits g.D.Device _ _ _ _ _ (looks_by g.D.Device _ _ _ _ _ got.only got.unchanged got.agrees got.open))
     (edits_by g.D.Device _ _ _ _ _ put.only put.committed put.catalog put.agrees put.open))
-    (edits_by g.D.Device _ _ _ _ _ end.only end.committed end.catalog end.agrees end.open)
+    end.edits
 
 pub returns-clause-replaced : goal.returns-clause-replaced
 returns-clause-replaced g c =
