@@ -82,3 +82,16 @@ ring_at count performed ranges order marked given is recursive same alike =
     let ring : PerformOneAnother (marks marked) performed = subst (IsOrder count performed) recursive is in
     subst (PerformOneAnother (marks given)) alike
     (subst (λ (l : List Bool). PerformOneAnother (marks l) performed) (sym same) ring)
+
+-- What is refused leads back: the first of the program's ranges that leads among the marked paragraphs.
+pub refuses_back : (program : Program) (count number : ℕ) (performed ranges items : List PerformedRange) (order : Order)
+    (marked given : List Bool) (places : List Place) (place : Place)
+    → IsOrder count performed order → order ≡ Recursive marked → given ≡ marked
+    → performed ≡ items → ranges ≡ items → items ≡ map (λ (p : Place × PerformedRange). p.1) (performs program)
+    → places ≡ map (λ (p : Place × PerformedRange). p.0) (performs program)
+    → IsFirstWithin (marks given) ranges number → place ≡ get_or places number place
+    → IsRecursivePerform program place
+refuses_back program count number performed ranges items order marked given places place is recursive same one other
+    collected named found at =
+    leads_back program (marks given) ranges places number place (other ∙ collected) named
+    (ring_at count performed ranges order marked given is recursive same (one ∙ sym other)) found at

@@ -26,6 +26,7 @@ use Rattle.declarations.proofs.Firsts.{first_front}
 use Rattle.declarations.proofs.Shown.{seen_kind}
 use Rattle.check_rules.specs.declared.asked.Asked.{Asked}
 use Rattle.check_rules.specs.Asking.{asks, asks_kind, asked_by}
+use Rattle.check_rules.specs.Filed.{whole_record}
 use Rattle.check_rules.specs.References.{shape_rules, named_rules}
 
 -- What a MOVE asks of its receivers is what is asked for what it sends.
@@ -112,6 +113,18 @@ pub record_seen : {S : Type 0} (items : List LocatedItem) (files : List ProgramF
     → record_item items files phrases place (seen_by part found) ≡ record_item items files phrases place found
 record_seen items files phrases place None found = refl
 record_seen items files phrases place (Some part) found = refl
+
+-- What is found of a record that is named without a part is found of its name.
+pub record_kept : {A S : Type 0} (items : List LocatedItem) (files : List ProgramFile) (phrases : FilePhrases S)
+    (one : Reference) (item : LocatedItem) (placed : PlacedItem) (result : Result A BrokenRule)
+    → items_named items one.item ≡ item ∷ [] → placed ≡ placed_item item → shape_rules one placed ≡ []
+    → no_part_rules one ≡ [] → IsFirstBreach result (record_item items files phrases one.item.name.place item)
+    → IsFirstBreach result (named_rules items (whole_record items files phrases one) one)
+record_kept items files phrases one item placed result only stands shape parts own =
+    let place = one.item.name.place in
+    shape_kept items one item placed only stands (whole_record items files phrases one) result shape
+    (kept_before result (no_part_rules one) (record_item items files phrases place (seen_through one item)) parts
+    (subst (IsFirstBreach result) (sym (record_seen items files phrases place one.part item)) own))
 
 -- ---- what is asked of the item of a key after 75
 

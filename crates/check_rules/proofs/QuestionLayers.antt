@@ -1,5 +1,5 @@
 -- The rules of what an object asks of its subject.
-use Rattle.std.proofs.Common.{◌≡◌, Bool, true, false, List, [], ◌∷◌, ◌++◌, None, Some, refl, sym, ap, ◌∙◌}
+use Rattle.std.proofs.Common.{◌≡◌, Bool, true, false, not, List, [], ◌∷◌, ◌++◌, None, Some, refl, sym, ap, subst, ◌∙◌}
 use Rattle.std.specs.Prelude.{Option, Result, Ok, Err, map}
 use Rattle.std.specs.Option.{option_map}
 use Rattle.std.proofs.lemmas.List.{append-nil}
@@ -9,17 +9,18 @@ use Rattle.source_tree.specs.declared.condition.Relation.TheVariants.{Equal, Gre
 use Rattle.source_tree.specs.declared.condition.Side.{Side}
 use Rattle.source_tree.specs.declared.condition.Condition.{Condition}
 use Rattle.source_tree.specs.declared.condition.Condition.TheVariants.{Name, Relation, Not, All}
+use Rattle.source_tree.specs.declared.evaluate_statement.Object.{Object}
 use Rattle.source_tree.specs.declared.evaluate_statement.Subject.{Subject}
 use Rattle.source_tree.specs.Places.{LocatedItem}
-use Rattle.source_tree.specs.Broken.{RuleBreach}
+use Rattle.source_tree.specs.Broken.{RuleBreach, where_so}
 use Rattle.source_tree.specs.LookUp.{first}
 use Rattle.source_tree.specs.ConditionRules.{condition_name_rules, relation_rules, condition_rules}
-use Rattle.source_tree.specs.Evaluate.{constant, condition_or_opposite, alike, value_within}
-use Rattle.source_tree.specs.EvaluateRules.{at_object, objects_rules}
+use Rattle.source_tree.specs.Evaluate.{constant, condition_or_opposite, alike, value_within, selection_condition, fits}
+use Rattle.source_tree.specs.EvaluateRules.{at_object, object_rules, objects_rules}
 use Rattle.entry_rules.specs.declared.rule.BrokenRule.{BrokenRule}
 use Rattle.entry_rules.specs.Checks.{IsFirstBreach}
 use Rattle.declarations.specs.Resolved.{broken_in}
-use Rattle.declarations.proofs.Firsts.{first_front}
+use Rattle.declarations.proofs.Firsts.{first_front, front_none}
 use Rattle.check_rules.proofs.ConditionLayers.{name_is, relation_is, not_is, all_is, any_is}
 
 module _ (items : List LocatedItem) where
@@ -111,6 +112,22 @@ module _ (place : Place) where
   finds_at (Ok value) (Err other) rules e h = absurd cc
   finds_at (Err one) (Ok other) rules e h = absurd cc
   finds_at (Err one) (Err other) rules e h = first_map rules ∙ ap (option_map (at_object place)) h ∙ sym e
+
+-- What an object that fits its subject breaks is what its condition breaks, at the object.
+pub object_found : {A B : Type 0} (items : List LocatedItem) (subject : Subject) (object : Object) (unfit : Bool)
+    (asked : Condition) (found : Result A BrokenRule) (told : Result B BrokenRule)
+    → unfit ≡ not (fits items subject object.choice) → where_so unfit 53 object.place ≡ []
+    → asked ≡ selection_condition items subject object.choice → IsFirstBreach found (condition_rules items asked)
+    → broken_in told ≡ option_map (at_object object.place) (broken_in found)
+    → IsFirstBreach told (object_rules items subject object)
+object_found items subject object unfit asked found told is kept same first_is told_is =
+    let fault = where_so (not (fits items subject object.choice)) 53 object.place in
+    let rules = condition_rules items (selection_condition items subject object.choice) in
+    let none : fault ≡ [] = subst (λ (b : Bool). where_so b 53 object.place ≡ []) is kept in
+    subst (λ (l : List RuleBreach). IsFirstBreach told l)
+    (sym (front_none fault (map (at_object object.place) rules) none))
+    (finds_at object.place found told rules told_is
+    (subst (λ (one : Condition). IsFirstBreach found (condition_rules items one)) same first_is))
 
 -- each form
 pub ruleset forms = (constant_is, told_is, truths_is, name_told_is, alike_is, finds_twice)

@@ -185,22 +185,7 @@ impl Instruction {
     {
         match self {
             Instruction::File { file, .. } => (file.number as usize) < count,
-            Instruction::Tick { .. }
-            | Instruction::Show
-            | Instruction::Stop
-            | Instruction::Count { .. }
-            | Instruction::CountNumber { .. }
-            | Instruction::Turn { .. }
-            | Instruction::Accept
-            | Instruction::Date
-            | Instruction::Branch { .. }
-            | Instruction::Jump { .. }
-            | Instruction::Join
-            | Instruction::Perform { .. }
-            | Instruction::Back { .. }
-            | Instruction::TestStatus { .. }
-            | Instruction::Unheard
-            | Instruction::Data(_) => true,
+            _ => true,
         }
     }
 }

@@ -338,6 +338,25 @@ module _ (items : List LocatedItem) (whole : Code) (entries : (n : ℕ) (one : L
             (right_none all (name_rules.number_rules_of items one) e);
       }
 
+  -- the subscripts of a condition name's item
+  pub name_subscripts : (one : Reference) (k : KeepsName one)
+      → CodedBy whole (AreSubscriptsCode items whole.tables k.found.item.dimensions one.subscripts)
+      (subscripts_fragment items (dimensions_of (slice_get items (condition_item items one.item).number))
+      one.subscripts)
+  name_subscripts one k =
+      let dimensions = dimensions_of (slice_get items (condition_item items one.item).number) in
+      let same : dimensions ≡ k.found.item.dimensions = ap dimensions_of k.item in
+      record {
+        by = λ before st.
+            let c = subscripts_coded items whole entries dimensions one.subscripts before
+            (k.count ∙ ap length (sym same)) k.subscripts st in
+            record {
+              code = c.code;
+              is = c.is;
+              holds = subst (λ ds. AreSubscriptsCode items whole.tables ds one.subscripts c.code) same c.holds;
+            };
+      }
+
   -- what follows the place of a condition name's item
   abbrev IsTakenCode : List ValueRange → List DataInstruction → Type 0
   IsTakenCode all code = (values : List DataInstruction) × AreValuesCode items whole.tables all values
@@ -355,31 +374,17 @@ module _ (items : List LocatedItem) (whole : Code) (entries : (n : ℕ) (one : L
   name_codes one e =
       let k = keeps_name one e in
       let index = condition_item items one.item in
-      let dimensions = dimensions_of (slice_get items index.number) in
-      let same : dimensions ≡ k.found.item.dimensions = ap dimensions_of k.item in
-      let subscripts = subscripts_fragment items dimensions one.subscripts in
+      let subscripts = subscripts_fragment items (dimensions_of (slice_get items index.number)) one.subscripts in
       let values = values_fragment (values_named items one.item) in
       let taking = i.Take ∷ i.ClearTruth ∷ [] in
       let are_values : CodedBy whole (AreValuesCode items whole.tables k.found.condition.values) values =
       subst (λ (all : List ValueRange). CodedBy whole (AreValuesCode items whole.tables all) values) k.values
       (values_codes (values_named items one.item)) in
-      let are_subscripts :
-      CodedBy whole (AreSubscriptsCode items whole.tables k.found.item.dimensions one.subscripts) subscripts =
-      record {
-        by = λ before st.
-            let c = subscripts_coded items whole entries dimensions one.subscripts before
-            (k.count ∙ ap length (sym same)) k.subscripts st in
-            record {
-              code = c.code;
-              is = c.is;
-              holds = subst (λ ds. AreSubscriptsCode items whole.tables ds one.subscripts c.code) same c.holds;
-            };
-      } in
       before_by whole (i.Place index ∷ []) (IsFoundCode k.found one) (IsNameCode items whole.tables one)
       (sequence subscripts (sequence (works_fragment taking) values))
       (both_by whole (AreSubscriptsCode items whole.tables k.found.item.dimensions one.subscripts)
       (IsTakenCode k.found.condition.values) (IsFoundCode k.found one) subscripts
-      (sequence (works_fragment taking) values) are_subscripts
+      (sequence (works_fragment taking) values) (name_subscripts one k)
       (before_by whole taking (AreValuesCode items whole.tables k.found.condition.values)
       (IsTakenCode k.found.condition.values) values are_values (λ code is. (code, is, refl)))
       (λ front back is taken. (front, is, taken.0, taken.1, ap (λ l. front ++ l) taken.2)))

@@ -17,6 +17,7 @@ use Rattle.source_tree.specs.declared.inspect_statement.TalliedText.{TalliedText
 use Rattle.source_tree.specs.declared.inspect_statement.Tallied.TheVariants as tallied
 use Rattle.source_tree.specs.declared.inspect_statement.Tallying.{Tallying}
 use Rattle.source_tree.specs.declared.inspect_statement.ReplacedText.{ReplacedText}
+use Rattle.source_tree.specs.declared.inspect_statement.Replacing.{Replacing}
 use Rattle.source_tree.specs.declared.inspect_statement.Replacing.TheVariants as replacing
 use Rattle.source_tree.specs.declared.inspect_statement.Converting.{Converting}
 use Rattle.source_tree.specs.declared.inspect_statement.InspectStatement.{InspectStatement}
@@ -49,7 +50,7 @@ use Rattle.codegen.proofs.InspectKept.{named_length, taken_once, measured_once}
 use Rattle.codegen.proofs.Fragments.{joined_assoc, joined_nothing, in_order-append}
 use Rattle.codegen.proofs.InspectLists.{all_inspected_append, texts_append, takings_append, counts_append, sizes_append}
 use Rattle.codegen.proofs.InspectLists.{inspected_whole, so_many, entries_append, measured_sources, measured_whole}
-use Rattle.codegen.proofs.Sequences.{then_piece}
+use Rattle.codegen.proofs.Sequences.{then_piece, on_ok}
 
 made_entry : (f g : Fit) (a b c d x y : Option Span) → f ≡ g → a ≡ b → c ≡ d → x ≡ y
     → (let one : Entry = record { fit = f; before = a; after = c; by = x } in let other : Entry =
@@ -473,6 +474,27 @@ module _ (items : List LocatedItem) where
       (then_piece parts (inspection_fragment entry (taken_numbers items all)) b d e taken
       (last ∙ ap (λ (i : Inspection). append d (inspection_fragment i (q.line.measured + q.line.measured) d)) same
       ∙ ap (λ n. append d (inspection_fragment entry n d)) so_many))
+
+  -- the same where a call may have failed, with the lists of TALLYING and REPLACING as they were read
+  pub inspect_emitted : {T E : Type 0} (result : Result T E) (one : InspectStatement) (counted : List Tallying)
+      (replaced : List Replacing) (a b c d e : Code) (counts others : List ℕ) (x y : List Entry) (p q : Entries)
+      → counted ≡ one.tallying → replaced ≡ one.replacing
+      → b ≡ append a (reference_fragment items one.subject a) → others ≡ [] → x ≡ [] → y ≡ []
+      → Counts items counted b c (record { line = nothing; entries = x }) p others counts
+      → Puts items (all_inspected (replacing_entries items) replaced) c d (record { line = p.line; entries = y }) q
+      → OnOk result (e ≡ append d (inspection_fragment
+      (record { size = q.line.size; counters = counts; tallying = p.entries; replacing = q.entries })
+      (q.line.measured + q.line.measured) d))
+      → OnOk result (e ≡ append a (inspect_fragment items one a))
+  inspect_emitted result one counted replaced a b c d e counts others x y p q of_tallying of_replacing subject
+      none_counted none_tallied none_replaced counting putting last =
+      let begins : Entries = record { line = nothing; entries = x } in
+      let goes_on : Entries = record { line = p.line; entries = y } in
+      let counts_are = subst (λ l. Counts items l b c begins p others counts) of_tallying counting in
+      let puts_are = subst (λ l. Puts items (all_inspected (replacing_entries items) l) c d goes_on q) of_replacing
+      putting in
+      on_ok result last (λ h. inspect_made one a b c d e counts others begins p goes_on q subject none_counted refl
+      none_tallied refl none_replaced counts_are puts_are h)
 
   -- ---- the whole of CONVERTING
 

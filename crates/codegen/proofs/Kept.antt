@@ -21,6 +21,13 @@ pub back_kept : (xs ys : List RuleBreach) → xs ++ ys ≡ [] → ys ≡ []
 back_kept [] ys e = e
 back_kept (x ∷ xs) ys e = cc
 
+-- what is in front of two phrases, and both of them
+pub phrases_kept : (own first second : List RuleBreach) → own ++ (first ++ second) ≡ []
+    → (own ≡ []) × (first ≡ []) × (second ≡ [])
+phrases_kept own first second e =
+    let phrases = back_kept own (first ++ second) e in
+    (front_kept own (first ++ second) e, front_kept first second phrases, back_kept first second phrases)
+
 pub both_kept : (xs ys : List RuleBreach) → xs ≡ [] → ys ≡ [] → xs ++ ys ≡ []
 both_kept [] ys e f = f
 both_kept (x ∷ xs) ys e f = cc

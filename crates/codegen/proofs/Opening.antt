@@ -1,6 +1,6 @@
 -- Ways one within the other, whose branches and jumps get their addresses when all of them stand.
 use Rattle.std.proofs.Common.{◌≡◌, ℕ, ◌+◌, ◌-◌, ◌<◌, ◌≤◌, List, [], ◌∷◌, ◌++◌, length, drop, get_or, Option, refl, sym}
-use Rattle.std.proofs.Common.{ap, ◌∙◌, arith, length-append}
+use Rattle.std.proofs.Common.{ap, subst, ◌∙◌, arith, length-append}
 use Rattle.std.specs.Prelude.{slice_set}
 use Rattle.std.specs.List.{AllByRecursion}
 use Rattle.std.proofs.lemmas.List.{length-set, drop_more, drop_all}
@@ -107,6 +107,18 @@ still_ways (one ∷ others) count more le h = (
   still_ways others count more le h.1,
 )
 
+-- A way that was opened is one of those of the longer code.
+pub ways_pushed : (test first : Fragment) (before after : Code) (ways new : List Way) (way : Way)
+    → new ≡ ways ++ way ∷ [] → Opens test first before after way
+    → AllByRecursion (IsWay (length before.instructions)) ways
+    → AllByRecursion (IsWay (length after.instructions)) new
+ways_pushed test first before after ways new way pushed o within =
+    let now = length before.instructions in
+    let next = length after.instructions in
+    subst (AllByRecursion (IsWay next)) (sym pushed)
+    (with_last (IsWay next) ways way (still_ways ways now next (opened_longer test first before after way o) within)
+    (opened_way test first before after way o))
+
 pub met_longer : (branch other : ℕ) (code : Code)
     → length (patched_code branch other code).instructions ≡ length code.instructions + 1
 met_longer branch other code =
@@ -141,6 +153,18 @@ module _ (scope : Scope) {S : Type 0} (inside : S → Fragment) (subjects : List
       (selection_fragment scope inside subjects rest other) next way o
       ∙ ap (λ (l : List (Selected S)). append code (selection_fragment scope inside subjects l other code)) list)
       ∙ so_far
+
+  -- the same with the new way at the end of a list
+  pub groups_pushed : (ways new : List Way) (groups : List (Selected S)) (i : ℕ) (one : Selected S)
+      (code next total : Code) (way : Way) → i < length groups → one ≡ get_or groups i one → new ≡ ways ++ way ∷ []
+      → Opens (condition_fragment scope.items (selected_condition scope.items subjects one))
+      (in_order inside one.statements) code next way
+      → met_all ways (append code (selection_fragment scope inside subjects (drop i groups) other code)) ≡ total
+      → met_all new (append next (selection_fragment scope inside subjects (drop (i + 1) groups) other next)) ≡ total
+  groups_pushed ways new groups i one code next total way lt is pushed o so_far =
+      let rest = selection_fragment scope inside subjects (drop (i + 1) groups) other in
+      ap (λ (l : List Way). met_all l (append next (rest next))) pushed
+      ∙ groups_go_on ways groups i one one code next total way lt is o so_far
 
   pub groups_done : (ways : List Way) (groups : List (Selected S)) (i : ℕ) (code done total : Code) → length groups ≤ i
       → done ≡ append code (phrase_fragment scope inside other code)

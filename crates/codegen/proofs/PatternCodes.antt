@@ -27,9 +27,9 @@ use Rattle.codegen.specs.DataCode.{item_number, dimensions_of, subscripts_fragme
 use Rattle.codegen.specs.ConditionCode.{condition_number, condition_item}
 use Rattle.codegen.specs.PatternCode.{pattern_fragment, pattern_of, set_of, initialize_fragment, initializes_fragment}
 use Rattle.codegen.specs.PatternCode.{set_fragment, sets_fragment}
-use Rattle.codegen.proofs.Codes.{left_none, right_none, item_there, subscripts_coded, keeps, reference_coded}
+use Rattle.codegen.proofs.Codes.{left_none, right_none, item_there, keeps, reference_coded}
 use Rattle.codegen.proofs.CodedPieces.{CodedBy, both_by, before_by}
-use Rattle.codegen.proofs.ConditionCodes.{keeps_name}
+use Rattle.codegen.proofs.ConditionCodes.{keeps_name, name_subscripts}
 use Rattle.codegen.proofs.ConditionItems.{condition_there}
 use Rattle.codegen.proofs.Lying.{lies_all}
 use Rattle.codegen.proofs.Standing.{Stands, at_seam, text_stands}
@@ -137,28 +137,14 @@ module _ (items : List LocatedItem) (whole : Code) (entries : (n : ℕ) (one : L
   set_codes one e =
       let k = keeps_name items whole entries one (set_kept items one e) in
       let index = condition_item items one.item in
-      let dimensions = dimensions_of (slice_get items index.number) in
-      let same : dimensions ≡ k.found.item.dimensions = ap dimensions_of k.item in
-      let subscripts = subscripts_fragment items dimensions one.subscripts in
+      let subscripts = subscripts_fragment items (dimensions_of (slice_get items index.number)) one.subscripts in
       let pattern = set_of (slice_get (all_conditions items) (condition_number items one.item)) in
       let set_is : pattern ≡ set_pattern k.found = ap set_of (condition_there items one.item k.found k.named) in
-      let are_subscripts :
-      CodedBy whole (AreSubscriptsCode items whole.tables k.found.item.dimensions one.subscripts) subscripts =
-      record {
-        by = λ before st.
-            let c = subscripts_coded items whole entries dimensions one.subscripts before
-            (k.count ∙ ap length (sym same)) k.subscripts st in
-            record {
-              code = c.code;
-              is = c.is;
-              holds = subst (λ ds. AreSubscriptsCode items whole.tables ds one.subscripts c.code) same c.holds;
-            };
-      } in
       before_by whole (i.Place index ∷ []) (IsSetEnd k.found one) (IsSetCode items whole.tables one)
       (sequence subscripts (pattern_fragment pattern))
       (both_by whole (AreSubscriptsCode items whole.tables k.found.item.dimensions one.subscripts)
       (Overlaid (set_pattern k.found)) (IsSetEnd k.found one)
-      subscripts (pattern_fragment pattern) are_subscripts
+      subscripts (pattern_fragment pattern) (name_subscripts items whole entries one k)
       (overlaid_as pattern (set_pattern k.found) set_is (pattern_codes pattern))
       (λ front back is over. (front, is, over.0, over.1, ap (λ l. front ++ l) over.2)))
       (λ code is. (

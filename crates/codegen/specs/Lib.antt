@@ -8,6 +8,7 @@ pub mod PatternCode
 pub mod StringCode
 pub mod InspectCode
 pub mod UntilCode
+pub mod Turns
 pub mod FileCode
 pub mod SubjectCode
 pub mod Operations

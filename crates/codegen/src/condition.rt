@@ -271,6 +271,18 @@ impl<'a> Emitter<'a> {
         }
     }
 
+    /// Of two operands alone the left one is taken before the subscripts of the right one: it is a numeric item, and the
+    /// right one is not at hand.
+    fn takes_first(&self, one: Alone<'_>, other: Alone<'_>) -> bool
+        requires { IsDeclared self.now.declarations.now }
+        ensures { result
+            ≡ (spec.is_numeric_operand (items_in self.now.declarations.now) (operand_of one.entry)
+            && not (spec.is_operand_at_hand (items_in self.now.declarations.now)
+            (operand_of other.entry))) }
+    {
+        self.is_numeric_operand(one) && !self.is_operand_at_hand(other)
+    }
+
     /// A relation: two operands alone are compared as what they are, others as numbers. A numeric item is taken before the
     /// subscripts of the right operand.
     pub(crate) fn emit_relation(
@@ -292,7 +304,7 @@ impl<'a> Emitter<'a> {
         let Some(other) = alone_side(right) else {
             return self.emit_numbers_compared(code, left, relation, right);
         };
-        if self.is_numeric_operand(one) && !self.is_operand_at_hand(other) {
+        if self.takes_first(one, other) {
             if self.is_numeric_operand(other) {
                 return self.emit_numbers_compared(code, left, relation, right);
             }

@@ -11,6 +11,7 @@ ghost use Rattle.declarations.specs.Named.{IsDeclared, items_in, scope_in};
 ghost use Rattle.codegen.specs.Fragments.{append, sequence, in_order};
 ghost use Rattle.codegen.specs.UntilCode.{tick_fragment};
 ghost use Rattle.codegen.specs.Layout.{data_fragment, texts_fragment, stop_run_fragment, conditional_fragment, control_fragment, range_fragment, turn_fragment, perform_fragment, phrase_fragment, phrases_fragment, arithmetic_statement_fragment, statement_fragment, sentence_fragment, start_fragment, back_fragment, paragraph_fragment, section_fragment, end_fragment};
+ghost use Rattle.codegen.specs.Turns.{KeepsPerformed};
 
 use crate::emitter::Emitter;
 use crate::phrases::{emit_branch, emit_jump, emit_meeting, has_phrase};
@@ -301,9 +302,7 @@ impl<'a> Emitter<'a> {
     ) -> Result<(), AllocError>
         requires declared { IsDeclared self.now.declarations.now }
         requires entries { entry_rules self.now.declarations.now.storage.now ≡ [] }
-        requires rules { rules.performed_rules (scope_in self.now.declarations.now).procedures
-            all_permitted (rules.statement_rules (scope_in self.now.declarations.now) all_permitted)
-            one.now ≡ [] }
+        requires rules { KeepsPerformed self.now.declarations.now one.now }
         ensures { OnOk
             result (code.new ≡ append code.old (turn_fragment (scope_in self.now.declarations.now)
             (statement_fragment (scope_in self.now.declarations.now)) line one.now code.old)) }

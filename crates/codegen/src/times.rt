@@ -4,12 +4,12 @@ ghost use Rattle.std.specs.Prelude.{◌≡◌, [], length, OnOk, IfOk};
 ghost use Rattle.source_tree.specs.EntryRules.{entry_rules};
 ghost use Rattle.source_tree.specs.NameRules.{reference_rules};
 ghost use Rattle.source_tree.specs.Performing.{turns_of};
-ghost use Rattle.source_tree.specs.Rules as rules;
-ghost use Rattle.source_tree.specs.Rules.{all_permitted, integer_item};
+ghost use Rattle.source_tree.specs.Rules.{integer_item};
 ghost use Rattle.declarations.specs.Named.{IsDeclared, items_in, scope_in};
 ghost use Rattle.codegen.specs.Fragments.{append, sequence};
 ghost use Rattle.codegen.specs.DataCode.{take_fragment};
 ghost use Rattle.codegen.specs.Layout.{loop_begin, count_begin, turn_end, counted_turn, times_fragment, counted_fragment, turn_fragment, statement_fragment};
+ghost use Rattle.codegen.specs.Turns.{KeepsPerformed};
 ghost use Rattle.data_instructions.specs.declared.instruction.DataInstruction.TheVariants as i;
 
 use crate::emitter::Emitter;
@@ -80,9 +80,7 @@ impl<'a> Emitter<'a> {
     ) -> Result<(), AllocError>
         requires declared { IsDeclared self.now.declarations.now }
         requires entries { entry_rules self.now.declarations.now.storage.now ≡ [] }
-        requires rules { rules.performed_rules (scope_in self.now.declarations.now).procedures
-            all_permitted (rules.statement_rules (scope_in self.now.declarations.now) all_permitted)
-            one.now ≡ [] }
+        requires rules { KeepsPerformed self.now.declarations.now one.now }
         ensures { OnOk result (code.new ≡ append
             code.old (times_fragment count (turn_fragment (scope_in self.now.declarations.now)
             (statement_fragment (scope_in self.now.declarations.now)) line one.now) code.old)) }
@@ -107,9 +105,7 @@ impl<'a> Emitter<'a> {
         requires entries { entry_rules self.now.declarations.now.storage.now ≡ [] }
         requires item { reference_rules (items_in self.now.declarations.now) integer_item item.now
             ≡ [] }
-        requires rules { rules.performed_rules (scope_in self.now.declarations.now).procedures
-            all_permitted (rules.statement_rules (scope_in self.now.declarations.now) all_permitted)
-            one.now ≡ [] }
+        requires rules { KeepsPerformed self.now.declarations.now one.now }
         ensures { OnOk result (code.new ≡ append
             code.old (sequence (take_fragment (items_in self.now.declarations.now) i.Push item.now)
             (counted_fragment (turn_fragment (scope_in self.now.declarations.now)
@@ -134,9 +130,7 @@ impl<'a> Emitter<'a> {
     ) -> Result<(), AllocError>
         requires declared { IsDeclared self.now.declarations.now }
         requires entries { entry_rules self.now.declarations.now.storage.now ≡ [] }
-        requires rules { rules.performed_rules (scope_in self.now.declarations.now).procedures
-            all_permitted (rules.statement_rules (scope_in self.now.declarations.now) all_permitted)
-            one.now ≡ [] }
+        requires rules { KeepsPerformed self.now.declarations.now one.now }
         ensures { OnOk result (code.new ≡ append
             code.old (counted_turn begin (turn_fragment (scope_in self.now.declarations.now)
             (statement_fragment (scope_in self.now.declarations.now)) line one.now) code.old)) }

@@ -3,8 +3,6 @@
 ghost use Rattle.std.specs.Prelude.{◌≡◌, [], false, OnOk};
 ghost use Rattle.source_tree.specs.EntryRules.{entry_rules};
 ghost use Rattle.source_tree.specs.ConditionRules.{varying_rules, until_rules};
-ghost use Rattle.source_tree.specs.Rules as rules;
-ghost use Rattle.source_tree.specs.Rules.{all_permitted};
 ghost use Rattle.declarations.specs.Named.{IsDeclared, items_in, scope_in};
 ghost use Rattle.codegen.specs.Fragments.{append, sequence};
 ghost use Rattle.codegen.specs.Meeting.{either_fragment, nothing_fragment};
@@ -12,6 +10,7 @@ ghost use Rattle.codegen.specs.DataCode.{work_fragment};
 ghost use Rattle.codegen.specs.ConditionCode.{condition_fragment};
 ghost use Rattle.codegen.specs.UntilCode as spec;
 ghost use Rattle.codegen.specs.Layout.{turn_fragment, statement_fragment};
+ghost use Rattle.codegen.specs.Turns.{KeepsPerformed};
 ghost use Rattle.data_instructions.specs.declared.instruction.DataInstruction.TheVariants as i;
 
 use crate::arithmetic::discard;
@@ -81,9 +80,7 @@ impl<'a> Emitter<'a> {
         requires declared { IsDeclared self.now.declarations.now }
         requires entries { entry_rules self.now.declarations.now.storage.now ≡ [] }
         requires turns { until_rules (items_in self.now.declarations.now) one.now ≡ [] }
-        requires rules { rules.performed_rules (scope_in self.now.declarations.now).procedures
-            all_permitted (rules.statement_rules (scope_in self.now.declarations.now) all_permitted)
-            performed.now ≡ [] }
+        requires rules { KeepsPerformed self.now.declarations.now performed.now }
         ensures { OnOk result
             (code.new ≡ append code.old (spec.until_fragment (items_in self.now.declarations.now)
             one.now (turn_fragment (scope_in self.now.declarations.now) (statement_fragment
@@ -108,9 +105,7 @@ impl<'a> Emitter<'a> {
         requires declared { IsDeclared self.now.declarations.now }
         requires entries { entry_rules self.now.declarations.now.storage.now ≡ [] }
         requires turns { until_rules (items_in self.now.declarations.now) one.now ≡ [] }
-        requires rules { rules.performed_rules (scope_in self.now.declarations.now).procedures
-            all_permitted (rules.statement_rules (scope_in self.now.declarations.now) all_permitted)
-            performed.now ≡ [] }
+        requires rules { KeepsPerformed self.now.declarations.now performed.now }
         ensures { OnOk result (code.new ≡ append code.old (spec.until_before_fragment
             (condition_fragment (items_in self.now.declarations.now) one.now.condition)
             (spec.vary_on_fragment (items_in self.now.declarations.now) one.now.varying)
@@ -136,9 +131,7 @@ impl<'a> Emitter<'a> {
         requires declared { IsDeclared self.now.declarations.now }
         requires entries { entry_rules self.now.declarations.now.storage.now ≡ [] }
         requires turns { until_rules (items_in self.now.declarations.now) one.now ≡ [] }
-        requires rules { rules.performed_rules (scope_in self.now.declarations.now).procedures
-            all_permitted (rules.statement_rules (scope_in self.now.declarations.now) all_permitted)
-            performed.now ≡ [] }
+        requires rules { KeepsPerformed self.now.declarations.now performed.now }
         ensures { OnOk result (code.new ≡ append
             code.old (spec.repetition_fragment (turn_fragment (scope_in self.now.declarations.now)
             (statement_fragment (scope_in self.now.declarations.now)) line performed.now)
@@ -165,9 +158,7 @@ impl<'a> Emitter<'a> {
         requires declared { IsDeclared self.now.declarations.now }
         requires entries { entry_rules self.now.declarations.now.storage.now ≡ [] }
         requires turns { until_rules (items_in self.now.declarations.now) one.now ≡ [] }
-        requires rules { rules.performed_rules (scope_in self.now.declarations.now).procedures
-            all_permitted (rules.statement_rules (scope_in self.now.declarations.now) all_permitted)
-            performed.now ≡ [] }
+        requires rules { KeepsPerformed self.now.declarations.now performed.now }
         ensures { OnOk result (code.new ≡ append code.old (spec.until_after_fragment
             (condition_fragment (items_in self.now.declarations.now) one.now.condition)
             (spec.vary_on_fragment (items_in self.now.declarations.now) one.now.varying)

@@ -1,6 +1,6 @@
 -- Files that are found among those of a program.
 use Rattle.std.proofs.Common.{◌≡◌, ℕ, suc, ◌+◌, ◌<◌, Bool, true, false, List, [], ◌∷◌, ◌++◌, None, Some, length, drop}
-use Rattle.std.proofs.Common.{get_or, refl, sym, ap, ◌∙◌, add-one, drop-cons, arith}
+use Rattle.std.proofs.Common.{get_or, refl, sym, ap, subst, ◌∙◌, add-one, drop-cons, arith}
 use Rattle.std.specs.Prelude.{◌==◌, cond, filter, map, Option}
 use Rattle.std.specs.Borrow.{Bor}
 use Rattle.lexical.specs.declared.place.Place.{Place}
@@ -118,3 +118,18 @@ of_program items program all files area l e is h =
 
 pub same_area : (a b : ℕ) → a ≡ b → (a == b) ≡ true
 same_area a b e = grind arith
+
+-- a second file of the area, after one that was found
+pub second_in_area : (items : List LocatedItem) (program : Program) (all files : List ProgramFile) (area i : ℕ)
+    (place : Place) (found : Option (Bor ProgramFile)) (known : Bor ProgramFile) (one : ProgramFile)
+    → map (file_in items) all ≡ tree.files_of items program → files ≡ all → AreSought items area files i found
+    → found ≡ Some known → i < length files → one ≡ get_or files i one → one.area ≡ area
+    → (rules : tree.ProgramFile → List RuleBreach)
+    → first (unique_name_rules place rules (tree.files_with (tree.files_of items program) area))
+    ≡ Some (record { rule = 41; place = place })
+second_in_area items program all files area i place found known one e is sought some within here same =
+    unnamed_two place (tree.files_with (tree.files_of items program) area) (file_in items known.now) (file_in items one)
+    (filter (λ (x : tree.ProgramFile). x.places.area == area) (map (file_in items) (drop (i + 1) files)))
+    (of_program items program all files area _ e is (two_sought items area known one within here
+    (subst (λ (o : Option (Bor ProgramFile)). AreSought items area files i o) some sought)
+    (same_area one.area area same)))

@@ -48,6 +48,15 @@ pub is_first_front : (fault : Option RuleBreach) (xs ys : List RuleBreach) → I
 is_first_front None xs ys h = tt
 is_first_front (Some one) xs ys h = first_front xs ys one h
 
+-- What is found of one element is found of all from it on.
+pub each_first : {A : Type 0} (rules : A → List RuleBreach) (xs : List A) (i : ℕ) (one : A) (all : List RuleBreach)
+    (fault : Option RuleBreach) → i < length xs → all ≡ each rules (drop i xs) → one ≡ get_or xs i one
+    → IsFirst fault (rules one) → IsFirst fault all
+each_first rules xs i one all fault h e is found =
+    subst (IsFirst fault) (sym (e ∙ each_at rules xs i one h))
+    (is_first_front fault (rules (get_or xs i one)) (each rules (drop (i + 1) xs))
+    (subst (IsFirst fault) (ap rules is) found))
+
 -- What is looked for after rules that are kept is the first of all.
 pub is_first_behind : (fault : Option RuleBreach) (xs ys : List RuleBreach) → xs ≡ [] → IsFirst fault ys
     → IsFirst fault (xs ++ ys)

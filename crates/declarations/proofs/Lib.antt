@@ -13,4 +13,5 @@ pub mod ConditionItems
 pub mod ItemEntries
 pub mod EntryNumbers
 pub mod FilesFound
+pub mod SelectFaults
 pub mod Shown

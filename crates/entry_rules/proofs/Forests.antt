@@ -88,6 +88,21 @@ pub extent_at : (at : Position) (place : rules.Position) (one : ItemEntry) (inne
     → at_of at ≡ place → bytes ≡ extent at.around one inner → bytes ≡ extent place.around one inner
 extent_at at place one inner bytes same is = is ∙ ap (λ (p : rules.Position). extent p.around one inner) same
 
+-- what is known after the first item, at a position that is known
+pub after_item : (at : Position) (place : rules.Position) (last new : Option Redefinable) (F : Forest) (one : ItemEntry)
+    (conditions : List ConditionEntry) (inner next : Forest) (all : List RuleBreach) (bytes : ℕ) → at_of at ≡ place
+    → F ≡ Tree one conditions inner next → HasLevels F → HasKnownLevel last → all ≡ forest_rules place last F
+    → item_rules at one conditions inner last ≡ [] → bytes ≡ extent at.around one inner
+    → new ≡ redefinable_after one bytes last
+    → HasLevels next × HasKnownLevel new × (all ≡ forest_rules place new next)
+    × (bytes ≡ extent place.around one inner)
+after_item at place last new F one conditions inner next all bytes same e levels known before none is after = (
+  (levels_tree F one conditions inner next e levels).2,
+  known_after F one conditions inner next bytes last new e levels known after,
+  none_at at place last new F one conditions inner next all bytes same e before none is after,
+  extent_at at place one inner bytes same is,
+)
+
 pub room_tree :
     (around : Around) (F : Forest) (one : ItemEntry) (conditions : List ConditionEntry) (inner next : Forest)
     → F ≡ Tree one conditions inner next → room around F ≡ own_bytes one (extent around one inner) + room around next

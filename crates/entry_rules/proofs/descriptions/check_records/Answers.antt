@@ -7,8 +7,7 @@ use Rattle.source_tree.specs.Rooms.{longest}
 use Rattle.entry_rules.specs.Checks.{fault_of}
 use Rattle.entry_rules.specs.Walk.{redefinable_of}
 use Rattle.entry_rules.proofs.FileEntries.{longest_tree}
-use Rattle.entry_rules.proofs.Forests.{found_in, none_at, extent_at, known_after}
-use Rattle.entry_rules.proofs.LevelLaws.{levels_tree}
+use Rattle.entry_rules.proofs.Forests.{found_in, after_item}
 use Rattle.entry_rules.proofs.descriptions.check_records.Goals as goal
 
 pub returns-in_err-bytes-clause-rules : goal.returns-in_err-bytes-clause-rules
@@ -24,15 +23,14 @@ returns-in_err-bytes-clause-rules c =
 pub items-preserved : goal.items-preserved
 items-preserved c =
     let inv = c.items.invariant in
-    let bytes = extent_at c.outermost.result (outermost true) c.in-Some.one.entry.now (forest_of c.in-Some.one.inner.now)
-    c.in_ok-bytes.bytes c.outermost.ensures c.in_ok-bytes.ensures.bytes in
+    let after = after_item _ _ _ _ _ _ _ _ _ _ _ c.outermost.ensures c.in-Some.ensures.0 inv.levels inv.last inv.rules
+    c.in_ok-bytes.ensures.rules c.in_ok-bytes.ensures.bytes c.remembered-last.ensures in
     record {
-      levels = (levels_tree _ _ _ _ _ c.in-Some.ensures.0 inv.levels).2;
-      last = known_after _ _ _ _ _ _ _ _ c.in-Some.ensures.0 inv.levels inv.last c.remembered-last.ensures;
+      levels = after.0;
+      last = after.1;
       shorter = omega (arith, c.in-Some.ensures.1, inv.shorter);
-      rules = none_at _ _ _ _ _ _ _ _ _ _ _ c.outermost.ensures c.in-Some.ensures.0 inv.rules
-          c.in_ok-bytes.ensures.rules c.in_ok-bytes.ensures.bytes c.remembered-last.ensures;
-      longest = longest_tree _ _ _ _ _ _ _ _ c.in-Some.ensures.0 inv.longest bytes
+      rules = after.2;
+      longest = longest_tree _ _ _ _ _ _ _ _ c.in-Some.ensures.0 inv.longest after.3
           ∙ ap (λ n. max n (longest nothing_around (forest_of c.in-Some.one.next.now))) (sym c.max-longest.ensures);
       bound = omega (arith, inv.bound, c.in_ok-bytes.ensures.bound, c.max-longest.ensures);
     }

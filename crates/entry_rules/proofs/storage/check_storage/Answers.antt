@@ -8,8 +8,7 @@ use Rattle.entry_rules.specs.Areas.{bytes_in, past_rules, broken_area_rules}
 use Rattle.entry_rules.specs.Checks.{fault_of}
 use Rattle.entry_rules.specs.Walk.{redefinable_of}
 use Rattle.entry_rules.proofs.Firsts.{same_front}
-use Rattle.entry_rules.proofs.Forests.{found_in, none_at, extent_at, known_after}
-use Rattle.entry_rules.proofs.LevelLaws.{levels_tree}
+use Rattle.entry_rules.proofs.Forests.{found_in, after_item}
 use Rattle.entry_rules.proofs.Sums.{from_start, area_step, with_bytes}
 use Rattle.entry_rules.proofs.Totals as totals
 use Rattle.entry_rules.proofs.storage.check_storage.Goals as goal
@@ -44,16 +43,15 @@ returns-in_err-bytes-clause-rules c =
 pub items-preserved : goal.items-preserved
 items-preserved c =
     let inv = c.items.invariant in
-    let bytes = extent_at c.outermost.result (outermost false) c.in-Some.one.entry.now (forest_of c.in-Some.one.inner.now)
-    c.in_ok-bytes.bytes c.outermost.ensures c.in_ok-bytes.ensures.bytes in
+    let after = after_item _ _ _ _ _ _ _ _ _ _ _ c.outermost.ensures c.in-Some.ensures.0 inv.levels inv.last inv.rules
+    c.in_ok-bytes.ensures.rules c.in_ok-bytes.ensures.bytes c.remembered-last.ensures in
     let more = with_bytes c.items.areas c.with-areas.result c.in-Some.one.entry.now _ c.with-areas.ensures in
     record {
-      levels = (levels_tree _ _ _ _ _ c.in-Some.ensures.0 inv.levels).2;
-      last = known_after _ _ _ _ _ _ _ _ c.in-Some.ensures.0 inv.levels inv.last c.remembered-last.ensures;
+      levels = after.0;
+      last = after.1;
       shorter = omega (arith, c.in-Some.ensures.1, inv.shorter);
-      rules = none_at _ _ _ _ _ _ _ _ _ _ _ c.outermost.ensures c.in-Some.ensures.0 inv.rules
-          c.in_ok-bytes.ensures.rules c.in_ok-bytes.ensures.bytes c.remembered-last.ensures;
-      areas = area_step _ _ _ _ _ _ _ _ _ c.in-Some.ensures.0 inv.areas bytes c.with-areas.ensures;
-      total = totals.total_step _ _ _ _ _ _ _ _ _ c.in-Some.ensures.0 inv.total bytes c.with-areas.ensures;
+      rules = after.2;
+      areas = area_step _ _ _ _ _ _ _ _ _ c.in-Some.ensures.0 inv.areas after.3 c.with-areas.ensures;
+      total = totals.total_step _ _ _ _ _ _ _ _ _ c.in-Some.ensures.0 inv.total after.3 c.with-areas.ensures;
       bound = omega (arith, more, c.in-Some.ensures.1, inv.bound, c.in_ok-bytes.ensures.bound);
     }

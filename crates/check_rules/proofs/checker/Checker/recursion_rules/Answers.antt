@@ -5,7 +5,7 @@ use Rattle.perform_graph.specs.declared.performed.PerformedRange.{PerformedRange
 use Rattle.perform_graph.specs.Order.{IsRange, marks}
 use Rattle.check_rules.specs.Performs.{HasNext}
 use Rattle.check_rules.proofs.PerformedRanges.{collected, collected_ranges, ranges_end, place_there}
-use Rattle.check_rules.proofs.Back.{some_leads, leads_back, ring_at}
+use Rattle.check_rules.proofs.Back.{some_leads, ring_at, refuses_back}
 use Rattle.check_rules.proofs.checker.Checker.recursion_rules.Goals as goal
 
 pub order_of-requires : goal.order_of-requires
@@ -63,13 +63,10 @@ returns-clause-back c =
     let count = c.in_ok-count.count in
     let h = collected program c.args.self.now.declarations.now c.as_slice.result.now c.new-all.result all count
     c.requires.program c.as_slice.ensures
-    c.new-all.ensures.places c.new-all.ensures.ranges c.in_ok-count.ensures.count c.in_ok-count.ensures.added in
-    let ring = ring_at count c.deref.result.now c.deref-2.result.now c.in_ok-order_of.field-0 c.in-Recursive.marked
-    c.as_slice-2.result.now
-    c.in_ok-order_of.ensures c.in-Recursive.is c.as_slice-2.ensures
-    (c.deref.ensures.value ∙ sym c.deref-2.ensures.value) in (
+    c.new-all.ensures.places c.new-all.ensures.ranges c.in_ok-count.ensures.count c.in_ok-count.ensures.added in (
       refl,
-      leads_back program (marks c.as_slice-2.result.now) c.deref-2.result.now all.places.items c.in-Some.number
-          c.index.result.now
-          (c.deref-2.ensures.value ∙ h.ranges) h.places ring c.in-Some.ensures c.index.ensures,
+      refuses_back program count c.in-Some.number c.deref.result.now c.deref-2.result.now all.ranges.items
+          c.in_ok-order_of.field-0 c.in-Recursive.marked c.as_slice-2.result.now all.places.items c.index.result.now
+          c.in_ok-order_of.ensures c.in-Recursive.is c.as_slice-2.ensures c.deref.ensures.value c.deref-2.ensures.value
+          h.ranges h.places c.in-Some.ensures c.index.ensures,
     )

@@ -1,6 +1,5 @@
-use Rattle.std.proofs.Common.{rules, ◌≡◌, ◌+◌, true, List, [], ◌∷◌, ◌++◌, length, drop, Some, refl, sym, ap, subst}
+use Rattle.std.proofs.Common.{rules, ◌≡◌, ◌+◌, true, List, [], ◌++◌, length, Some, refl, sym, ap}
 use Rattle.std.proofs.Common.{arith, ◌∙◌, length-append}
-use Rattle.std.specs.List.{AllByRecursion}
 use Rattle.std.proofs.lemmas.Grind.{common_steps}
 use Rattle.records.specs.declared.verb.Verb.{Verb}
 use Rattle.records.specs.declared.verb.Verb.TheVariants as file_verb
@@ -38,7 +37,6 @@ use Rattle.declarations.proofs.RuleLayers as layers
 use Rattle.data_instructions.specs.declared.instruction.DataInstruction.TheVariants as i
 use Rattle.file_image.specs.declared.class.StatusClass.TheVariants.{Successful}
 use Rattle.code_image.specs.declared.code.Code.{Code}
-use Rattle.codegen.specs.declared.phrases.Way.{Way}
 use Rattle.codegen.specs.Fragments.{append, sequence, in_order}
 use Rattle.codegen.specs.Meeting.{either_fragment, nothing_fragment}
 use Rattle.codegen.specs.DataCode.{work_fragment, take_fragment}
@@ -54,14 +52,14 @@ use Rattle.codegen.specs.Layout.{phrase_fragment}
 use Rattle.codegen.specs.Layout.{phrases_fragment, selection_fragment, conditional_fragment, taken_fragment}
 use Rattle.codegen.specs.Layout.{success_fragment, failure_fragment, status_fragment, statement_on_fragment}
 use Rattle.codegen.specs.Layout.{alone_fragment, file_statement_fragment, statement_fragment}
-use Rattle.codegen.specs.Phrases.{IsWay, met_all}
+use Rattle.codegen.specs.Phrases.{met_all}
 use Rattle.codegen.proofs.EvaluateKept.{subjects_of, groups_of, other_of}
-use Rattle.codegen.proofs.Opening.{opened_way, opened_longer, with_last, still_ways, groups_go_on, groups_done}
+use Rattle.codegen.proofs.Opening.{still_ways, ways_pushed, groups_pushed, groups_done}
 use Rattle.codegen.proofs.Questions.{whens_rules}
 use Rattle.codegen.proofs.StringCodes.{keeps_string, pointer_kept}
 use Rattle.codegen.proofs.Sequences.{then_piece, is_so, ends_so, on_ok, three_so}
 use Rattle.codegen.proofs.Meeting.{phrases_stand}
-use Rattle.codegen.proofs.Kept.{front_kept, back_kept, one_kept, item_kept}
+use Rattle.codegen.proofs.Kept.{front_kept, back_kept, phrases_kept, one_kept, item_kept}
 use Rattle.codegen.proofs.FilingKept.{first_kept, read_key_kept, read_into_kept, start_key_kept, record_names_one}
 use Rattle.codegen.proofs.FilingKept.{record_from_kept}
 use Rattle.codegen.proofs.OnFiles.{none_found, one_found}
@@ -78,40 +76,28 @@ pub emit_statement-emit_calculating-requires : goal.emit_statement-emit_calculat
 emit_statement-emit_calculating-requires t c =
     let scope = scope_in c.args.self.now.declarations.now in
     let one = c.in-Arithmetic.arithmetic in
-    let r : arithmetic_rules scope.items (statement_rules scope all_permitted) one ≡ [] =
-    sym (ap (verb_rules scope all_permitted (statement_rules scope all_permitted)) c.in-Arithmetic.is)
+    let inside = statement_rules scope all_permitted in
+    let r : arithmetic_rules scope.items inside one ≡ [] =
+    sym (ap (verb_rules scope all_permitted inside) c.in-Arithmetic.is)
     ∙ sym (layers.statement_is scope all_permitted c.args.one.now) ∙ c.requires.rules in
-    let first = phrase_rules (statement_rules scope all_permitted) one.phrases.arose in
-    let second = phrase_rules (statement_rules scope all_permitted) one.phrases.did_not in
-    let front = front_kept (operation_rules scope.items one.operation)
-    (phrases_rules (statement_rules scope all_permitted) one.phrases) r in
-    let phrases = back_kept (operation_rules scope.items one.operation)
-    (phrases_rules (statement_rules scope all_permitted) one.phrases) r in (
+    let kept = phrases_kept (operation_rules scope.items one.operation) (phrase_rules inside one.phrases.arose)
+    (phrase_rules inside one.phrases.did_not) r in (
       search (rules, the_lemmas),
-      (
-        c.requires.declared,
-        (c.requires.entries, (front, (front_kept first second phrases, back_kept first second phrases))),
-      ),
+      (c.requires.declared, (c.requires.entries, (kept.0, (kept.1, kept.2)))),
     )
 
 pub emit_statement-emit_stringing-requires : goal.emit_statement-emit_stringing-requires
 emit_statement-emit_stringing-requires t c =
     let scope = scope_in c.args.self.now.declarations.now in
     let one = c.in-StringStatement.stringing in
-    let r : stringing_rules scope.items (statement_rules scope all_permitted) one ≡ [] =
-    sym (ap (verb_rules scope all_permitted (statement_rules scope all_permitted)) c.in-StringStatement.is)
+    let inside = statement_rules scope all_permitted in
+    let r : stringing_rules scope.items inside one ≡ [] =
+    sym (ap (verb_rules scope all_permitted inside) c.in-StringStatement.is)
     ∙ sym (layers.statement_is scope all_permitted c.args.one.now) ∙ c.requires.rules in
-    let first = phrase_rules (statement_rules scope all_permitted) one.phrases.arose in
-    let second = phrase_rules (statement_rules scope all_permitted) one.phrases.did_not in
-    let front =
-    front_kept (string_rules scope.items one) (phrases_rules (statement_rules scope all_permitted) one.phrases) r in
-    let phrases =
-    back_kept (string_rules scope.items one) (phrases_rules (statement_rules scope all_permitted) one.phrases) r in (
+    let kept = phrases_kept (string_rules scope.items one) (phrase_rules inside one.phrases.arose)
+    (phrase_rules inside one.phrases.did_not) r in (
       search (rules, the_lemmas),
-      (
-        c.requires.declared,
-        (c.requires.entries, (front, (front_kept first second phrases, back_kept first second phrases))),
-      ),
+      (c.requires.declared, (c.requires.entries, (kept.0, (kept.1, kept.2)))),
     )
 
 pub emit_statement-emit_filing-requires : goal.emit_statement-emit_filing-requires
@@ -369,29 +355,17 @@ emit_groups-emit_selected-requires t c =
 pub emit_groups-loop-one-preserved : goal.emit_groups-loop-one-preserved
 emit_groups-loop-one-preserved t c =
     let scope = scope_in c.args.self.now.declarations.now in
-    let inside = statement_fragment scope in
-    let subjects = c.args.subjects.now in
-    let groups = c.args.selected.now in
     let one = c.one-item.result in
-    let ways = c.loop-one.ways.items in
-    let way = c.in_ok-way.way in
-    let now = c.loop-one.code in
-    let next = c.emit_selected.new.code in
-    let test = condition_fragment scope.items (selected_condition scope.items subjects one) in
-    let first = in_order inside one.statements in
-    let pushed : c.push.new.self.items ≡ ways ++ way ∷ [] = c.in_ok-push.ensures.items in
+    let test = condition_fragment scope.items (selected_condition scope.items c.args.subjects.now one) in
     record {
       same = λ other.
-          let rest = selection_fragment scope inside subjects (drop (c.loop-one.one-index + 1) groups) other in
-          ap (λ (l : List Way). met_all l (append next (rest next))) pushed
-          ∙ groups_go_on scope inside subjects other ways groups c.loop-one.one-index one one now next _ way
-          c.loop-one-test.true c.one-item.is c.in_ok-way.ensures
+          groups_pushed scope (statement_fragment scope) c.args.subjects.now other c.loop-one.ways.items
+          c.push.new.self.items c.args.selected.now c.loop-one.one-index one c.loop-one.code c.emit_selected.new.code _
+          c.in_ok-way.way c.loop-one-test.true c.one-item.is c.in_ok-push.ensures.items c.in_ok-way.ensures
           (c.loop-one.invariant.same other);
-      within = subst (λ (l : List Way). AllByRecursion (IsWay (length next.instructions)) l) (sym pushed)
-          (with_last (IsWay (length next.instructions)) ways way
-          (still_ways ways (length now.instructions) (length next.instructions)
-          (opened_longer test first now next way c.in_ok-way.ensures) c.loop-one.invariant.within)
-          (opened_way test first now next way c.in_ok-way.ensures));
+      within = ways_pushed test (in_order (statement_fragment scope) one.statements) c.loop-one.code
+          c.emit_selected.new.code c.loop-one.ways.items c.push.new.self.items c.in_ok-way.way
+          c.in_ok-push.ensures.items c.in_ok-way.ensures c.loop-one.invariant.within;
     }
 
 pub emit_groups-returns : goal.emit_groups-returns

@@ -1,17 +1,15 @@
-use Rattle.std.proofs.Common.{ℕ, suc, List, ◌≤◌, length, get_or, drop, subst, ap, sym, ◌∙◌, drop-cons, arith}
+use Rattle.std.proofs.Common.{◌≤◌, length, ap, sym, ◌∙◌, arith}
 use Rattle.std.proofs.lemmas.Result.{err_from_is_err_and}
-use Rattle.source_tree.specs.declared.select.FileDescription.{FileDescription}
-use Rattle.source_tree.specs.declared.select.Select.{Select}
 use Rattle.source_tree.specs.Broken.{each}
 use Rattle.source_tree.specs.EntryRules.{most_storage}
 use Rattle.source_tree.specs.FileRules.{select_rules}
-use Rattle.source_tree.specs.ProgramFiles.{DescribedFile, described_file}
 use Rattle.source_tree.specs.Records.{storage_areas}
 use Rattle.layout.proofs.KeptFiles.{not_many_files}
-use Rattle.entry_rules.specs.Checks.{IsFirst, fault_of}
+use Rattle.entry_rules.specs.Checks.{fault_of}
 use Rattle.declarations.specs.Found.{items_of}
-use Rattle.declarations.specs.Selecting.{described_of, select_rules_in}
-use Rattle.declarations.proofs.Firsts.{is_first_front}
+use Rattle.declarations.specs.Selecting.{described_of}
+use Rattle.declarations.proofs.Firsts.{each_first}
+use Rattle.declarations.proofs.SelectFaults.{select_first}
 use Rattle.declarations.proofs.declared_items.DeclaredItems.selects_rules.Goals as goal
 
 pub described-there-requires-clause-areas : goal.described-there-requires-clause-areas
@@ -28,20 +26,12 @@ returns-in_err-select_rules c =
     let program = c.args.self.now.program.now in
     let items = items_of c.args.self.now in
     let fault = fault_of c.in_err-select_rules.field-0.0 in
-    let areas = storage_areas program.storage in
-    let rules = select_rules items areas program.files in
-    let selects = c.as_slice-selects.result.now in
-    let i = c.loop-one.one-index in
+    let rules = select_rules items (storage_areas program.storage) program.files in
     let one = c.one-item.result in
-    let same_area = c.storage_areas-areas.ensures.value ∙ ap storage_areas c.as_slice.ensures in
-    let there = c.described-there.ensures ∙ ap (λ (l : List FileDescription).
-    described_file c.storage_areas-areas.result one.name l) c.as_slice-descriptions.ensures
-    ∙ ap (λ (n : ℕ). described_file n one.name program.files) same_area in
-    let by_area = subst (λ (n : ℕ). IsFirst fault (select_rules_in items n (described_of c.described-there.result) one))
-    same_area c.in_err-select_rules.ensures in
-    let own = subst (λ (d : DescribedFile). IsFirst fault (select_rules_in items areas d one)) there by_area in
-    let here = subst (λ (x : Select). IsFirst fault (rules x)) c.one-item.is own in
-    let all = ap (each rules) (sym c.as_slice-selects.ensures) ∙ c.loop-one.invariant
-    ∙ ap (each rules) (drop-cons selects i one c.loop-one-test.true) in
-    rw (p.1, p.2) (subst (IsFirst fault) (sym all)
-    (is_first_front fault (rules (get_or selects i one)) (each rules (drop (suc i) selects)) here))
+    let found = select_first items (storage_areas program.storage) c.storage_areas-areas.result program.files
+    c.as_slice-descriptions.result.now (described_of c.described-there.result) one fault
+    (c.storage_areas-areas.ensures.value ∙ ap storage_areas c.as_slice.ensures) c.as_slice-descriptions.ensures
+    c.described-there.ensures c.in_err-select_rules.ensures in
+    rw (p.1, p.2) (each_first rules c.as_slice-selects.result.now c.loop-one.one-index one (each rules program.selects)
+    fault c.loop-one-test.true (ap (each rules) (sym c.as_slice-selects.ensures) ∙ c.loop-one.invariant) c.one-item.is
+    found)
