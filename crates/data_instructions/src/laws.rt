@@ -1,13 +1,13 @@
 //! What holds of each instruction.
 
-ghost use Rattle.std.specs.Prelude.{◌≡◌, ◌++◌, ℕ, List, Option, Some};
+ghost use Rattle.std.specs.Prelude.{◌≡◌, ◌++◌, ℕ, List, Option};
 ghost use Rattle.data_instructions.specs.PartForms.{part_entry};
 ghost use Rattle.data_instructions.specs.Tables.{IsTables, IsDataItem};
 ghost use Rattle.data_instructions.specs.Scratch.{Scratch, initial_scratch};
 ghost use Rattle.data_instructions.specs.Table as table;
 ghost use Rattle.data_instructions.specs.Shapes as spec;
 ghost use Rattle.data_instructions.specs.Shapes.{Covers};
-ghost use Rattle.data_instructions.specs.Fits.{FitsShape, Safe};
+ghost use Rattle.data_instructions.specs.Fits.{FitsShape, IsSafeStep};
 ghost use Rattle.data_instructions.specs.Codes.{go_on, works, data_item};
 ghost use Rattle.data_instructions.specs.Chains.{effects, LiesWhole};
 ghost use Rattle.data_instructions.specs.ArithmeticCodes.{Computes, PushesNumber, IsValueCode, LiesOperand};
@@ -22,15 +22,12 @@ ghost use Rattle.data_instructions.specs.declared.instruction.DataInstruction.{D
 
 /// Where what is known fits and `effect` gives what is known after, an instruction is never stuck, and that fits what came.
 pub fn safety_law()
-    ensures work { (tables : DataTables) (one : DataInstruction) (s : Scratch) (shape after : Shape)
-        → IsTables tables → FitsShape tables s shape → spec.effect tables one shape ≡ Some after
-        → Safe tables (table.work tables one s) after }
-    ensures accept { (tables : DataTables) (line : List ℕ) (s : Scratch) (shape after : Shape)
-        → FitsShape tables s shape → spec.shape_after_accept shape ≡ Some after
-        → Safe tables (table.accept_step tables line s) after }
-    ensures date { (tables : DataTables) (day : List ℕ) (s : Scratch) (shape after : Shape)
-        → FitsShape tables s shape → spec.shape_after_date tables shape ≡ Some after
-        → Safe tables (table.date_step tables day s) after }
+    ensures work { (tables : DataTables) (one : DataInstruction) (s : Scratch) → IsTables tables
+        → IsSafeStep tables s (spec.effect tables one) (table.work tables one s) }
+    ensures accept { (tables : DataTables) (line : List ℕ) (s : Scratch)
+        → IsSafeStep tables s spec.shape_after_accept (table.accept_step tables line s) }
+    ensures date { (tables : DataTables) (day : List ℕ) (s : Scratch)
+        → IsSafeStep tables s (spec.shape_after_date tables) (table.date_step tables day s) }
     ensures show { (tables : DataTables) (s : Scratch) (shape : Shape) → FitsShape tables s shape
         → FitsShape tables (table.after_showing s) (spec.shape_after_show shape) }
 {}

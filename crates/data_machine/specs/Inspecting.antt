@@ -1,10 +1,12 @@
 -- What INSPECT finds, and its room.
-use Rattle.std.specs.Prelude.{◌≡◌, ℕ, zero, suc, ◌≤◌, List, [], ◌∷◌, length, Option, Some, None, slice_get, Result, Ok, Err}
+use Rattle.std.specs.Prelude.{◌≡◌, ℕ, zero, suc, ◌<◌, ◌≤◌, List, [], ◌∷◌, length, Option, Some, None, slice_get, slice_index}
+use Rattle.std.specs.Prelude.{Result, Ok, Err}
 use Rattle.items.specs.declared.item.Kind.TheVariants as kind
 use Rattle.source_tree.specs.Storage.{Storage}
 use Rattle.source_tree.specs.Evaluated.{Evaluation, ◌>>=◌}
 use Rattle.source_tree.specs.Inspecting.{add_each}
 use Rattle.text_ops.specs.declared.entry.Entry.{Entry}
+use Rattle.text_ops.specs.Inspect.{tally}
 use Rattle.source_tree.specs.References.{ItemPlace, storage_with}
 use Rattle.data_instructions.specs.declared.place.Place.{Place}
 use Rattle.data_instructions.specs.declared.tables.DataItem.{DataItem}
@@ -31,6 +33,11 @@ pub record SameRoom (old new : InspectRoom) : Type 0 where
   pub progress : length new.progress.items ≡ length old.progress.items
   pub counts : length new.counts.items ≡ length old.counts.items
   pub text : new.text.room ≡ old.text.room
+
+-- so many of the counts are how often each entry fits in the subject
+abbrev pub CountsEach : ℕ → List ℕ → List ℕ → List Entry → List ℕ → Type 0
+CountsEach n counts texts entries subject =
+    (k : ℕ) → k < n → slice_index counts k ≡ tally texts entries subject k
 
 -- the item at a place; an index of none has no bytes
 abbrev pub there_or_none : Place → Option DataItem → ItemPlace

@@ -6,7 +6,7 @@ ghost use Rattle.text_ops.specs.Entries.{AreWithin};
 ghost use Rattle.data_instructions.specs.Table.{measured_inspection};
 ghost use Rattle.data_instructions.specs.Tables.{IsInspection};
 ghost use Rattle.data_instructions.specs.declared.tables.Inspection.{Inspection};
-ghost use Rattle.data_machine.specs.Inspecting.{SameRoom};
+ghost use Rattle.data_machine.specs.Inspecting.{CountsEach, SameRoom};
 
 use crate::buffer::Buffer;
 use crate::measuring::{measure, measured};
@@ -106,9 +106,8 @@ impl InspectRoom {
         requires replacing { length one.now.replacing ≤ length self.old.progress.items }
         requires counts { length one.now.tallying ≤ length self.old.counts.items }
         requires text { length subject.now ≤ self.old.text.room }
-        ensures counts { (k : ℕ) → k < length one.now.tallying
-            → slice_index self.new.counts.items k ≡ tally texts.now
-            (measured_inspection (reverse numbers.now) one.now).tallying subject.now k }
+        ensures counts { CountsEach (length one.now.tallying) self.new.counts.items texts.now
+            (measured_inspection (reverse numbers.now) one.now).tallying subject.now }
         ensures text { self.new.text.bytes ≡ replaced_subject texts.now
             (measured_inspection (reverse numbers.now) one.now).replacing subject.now }
         ensures size { length self.new.text.bytes ≡ length subject.now }

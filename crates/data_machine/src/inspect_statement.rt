@@ -67,8 +67,9 @@ impl Data {
         let places = self.places.newest(counters.len());
         let counts = self.inspecting.counts.as_slice();
         let text = self.inspecting.text.bytes();
+        let inspected = InspectionResult { counts, text };
         let areas = &mut self.areas;
-        let done = add_and_store(areas, tables, one, places, counts, to, subject.offset, text);
+        let done = add_and_store(areas, tables, one, places, to, subject.offset, inspected);
         self.places.leave(counters.len() + 1);
         done
     }
@@ -103,6 +104,13 @@ impl Data {
         let one = &tables.inspections.as_slice()[inspection.number as usize];
         self.inspect_by(tables, one, numbers as usize)
     }
+}
+
+/// What an inspection finds before it stores: how often each entry of TALLYING fits, and the replaced text.
+#[derive(Clone, Copy)]
+struct InspectionResult<'a> {
+    counts: &'a [u64],
+    text: &'a [u8],
 }
 
 /// How often so many entries fit together, from one on.
@@ -206,24 +214,30 @@ fn add_and_store(
     tables: &DataTables,
     one: &Inspection,
     places: &[Place],
-    counts: &[u64],
     to: &DataItem,
     offset: usize,
-    text: &[u8],
+    inspected: InspectionResult<'_>,
 ) -> Result<(), ProgramFault>
     requires stand { StandEach tables.now areas.old places.now }
     requires counters { length places.now ≡ length one.now.counters }
-    requires counts { total_length one.now.counters ≤ length counts.now }
+    requires counts { total_length one.now.counters ≤ length inspected.counts.now }
     requires stands { IsAtOffset to.now areas.old offset }
-    requires size { length text.now ≡ to.now.item.length }
+    requires size { length inspected.text.now ≡ to.now.item.length }
     ensures adds { IsAddedStorage result areas.new (added_and_stored (map (there tables.now)
-        places.now) (layout.counted_fits (slice_index counts.now) 0 one.now.counters)
-        one.now.replacing (item_place to.now offset) text.now areas.old) }
+        places.now)
+        (layout.counted_fits (slice_index inspected.entry.counts.now) 0 one.now.counters)
+        one.now.replacing (item_place to.now offset) inspected.entry.text.now areas.old) }
     ensures lengths { map length areas.new ≡ map length areas.old }
 {
-    match add_each(areas, tables, places, one.counters.as_slice(), counts) {
+    match add_each(
+        areas,
+        tables,
+        places,
+        one.counters.as_slice(),
+        inspected.counts,
+    ) {
         Ok(()) => {
-            store_text(areas, to, offset, one.replacing.as_slice(), text);
+            store_text(areas, to, offset, one.replacing.as_slice(), inspected.text);
             Ok(())
         }
         Err(fault) => Err(fault),

@@ -78,7 +78,15 @@ pub(crate) fn file_statement<S: Station, F: FileVerbs>(
     let one = &code.files.as_slice()[file.number as usize];
     let areas = &mut registers.scratch.areas;
     let bytes = &mut registers.record_area;
-    let performed = perform(&code.tables, one, file, verb, areas, bytes, station, verbs);
+    let performed = perform(
+        &code.tables,
+        one,
+        FileOperation { file, verb },
+        areas,
+        bytes,
+        station,
+        verbs,
+    );
     match performed {
         Ok(status) => {
             registers.status = status;
@@ -152,12 +160,18 @@ fn leave(areas: &mut Areas, tables: &DataTables, one: &CodeFile, old: u64, new: 
     put_status(areas, tables, one.status, status);
 }
 
+/// A verb on a file of the code.
+#[derive(Clone, Copy)]
+struct FileOperation {
+    file: FileIndex,
+    verb: Verb,
+}
+
 /// Does the step of a verb on a file, and stores what it leaves. A refusal leaves storage as it was.
 fn perform<D: Device, F: FileVerbs>(
     tables: &DataTables,
     one: &CodeFile,
-    file: FileIndex,
-    verb: Verb,
+    operation: FileOperation,
     areas: &mut Areas,
     bytes: &mut Vec<u8>,
     device: &mut D,
@@ -165,30 +179,35 @@ fn perform<D: Device, F: FileVerbs>(
 ) -> Result<Status, StoreFault>
     requires places { FindsPlaces tables.now areas.old one.now }
     requires needs { F.Keeps.needs verbs.old ≤ D.sectors device.old }
-    requires file { file.number < length (F.entries verbs.old) }
-    requires entry { entry_at (F.entries verbs.old) file.number ≡ entry_of tables.now one.now }
+    requires file { operation.file.number < length (F.entries verbs.old) }
+    requires entry { entry_at (F.entries verbs.old) operation.file.number
+        ≡ entry_of tables.now one.now }
     requires spec { is_spec (spec_of one.now) ≡ true }
-    requires verb { Suits (entry_of tables.now one.now) verb }
+    requires verb { Suits (entry_of tables.now one.now) operation.verb }
     ensures changes { Changes F.Keeps D.Device result verbs.old device.old verbs.new device.new }
     ensures entries { F.entries verbs.new ≡ F.entries verbs.old }
     ensures lengths { map length areas.new ≡ map length areas.old }
     ensures asks { OnErr result
-        (needs_no_store (F.entries verbs.old) (F.connectors verbs.old) file.number verb ≡ false) }
+        (needs_no_store (F.entries verbs.old) (F.connectors verbs.old) operation.file.number
+        operation.verb ≡ false) }
     ensures did { (files : Files) → Represents F.Keeps D.Device verbs.old device.old files →
-        IfOk result (λ status. Did (places_of tables.now file.number one.now)
-        (meaning.step_by (F.entries verbs.old) (places_of tables.now file.number one.now) verb files
+        IfOk result (λ status. Did (places_of tables.now operation.file.number one.now)
+        (meaning.step_by (F.entries verbs.old) (places_of tables.now operation.file.number one.now)
+        operation.verb files
         (F.connectors verbs.old) areas.old)
         status (F.connectors verbs.old) (F.connectors verbs.new) areas.old areas.new) }
     ensures turns { (files : Files) → Represents F.Keeps D.Device verbs.old device.old files →
-        ChangesFiles F.Keeps D.Device result (makes_file verb) one.now.name files
-        (meaning.step_by (F.entries verbs.old) (places_of tables.now file.number one.now) verb files
+        ChangesFiles F.Keeps D.Device result (makes_file operation.verb) one.now.name files
+        (meaning.step_by (F.entries verbs.old) (places_of tables.now operation.file.number one.now)
+        operation.verb files
         (F.connectors verbs.old) areas.old).files
         verbs.old device.old verbs.new device.new }
     ensures full { (files : Files) → Represents F.Keeps D.Device verbs.old device.old files
         → (result ≡ Err StoreFault.Full) ⊎ (result ≡ Err StoreFault.Old) →
-        has_changed verb (meaning.step_by (F.entries verbs.old) (places_of tables.now file.number
-        one.now) verb files (F.connectors verbs.old) areas.old).status ≡ true }
-    ensures old { result ≡ Err StoreFault.Old → makes_file verb ≡ true }
+        has_changed operation.verb
+        (meaning.step_by (F.entries verbs.old) (places_of tables.now operation.file.number
+        one.now) operation.verb files (F.connectors verbs.old) areas.old).status ≡ true }
+    ensures old { result ≡ Err StoreFault.Old → makes_file operation.verb ≡ true }
 {
     let old = relative_number(areas, tables, one.relative_key);
     let mut number = old;
@@ -196,8 +215,8 @@ fn perform<D: Device, F: FileVerbs>(
     areas.exchange(area, bytes);
     let performed = verbs.perform(
         device,
-        file.number as usize,
-        verb,
+        operation.file.number as usize,
+        operation.verb,
         bytes.as_mut_slice(),
         &mut number,
     );

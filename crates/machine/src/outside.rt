@@ -1,15 +1,10 @@
 //! What a run does with what is outside of it.
 
-ghost use Rattle.std.specs.Prelude.{◌≡◌, ◌<◌, ◌+◌, ◌↔◌, ℕ, List, length, slice_get, Some, OnOk, IfErr};
-ghost use Rattle.station.specs.State.{State};
-ghost use Rattle.station.specs.History.{Through};
-ghost use Rattle.records.specs.Files.{Files};
-ghost use Rattle.records.specs.Connector.{Connector};
-ghost use Rattle.source_tree.specs.Meaning.{Run};
+ghost use Rattle.std.specs.Prelude.{◌≡◌, ◌<◌, ◌+◌, ◌↔◌, length, slice_get, Some, OnOk, IfErr};
 ghost use Rattle.code_image.specs.Demands.{IsVerified};
 ghost use Rattle.machine.specs.Ends.{IsOwnEnd};
 ghost use Rattle.machine.specs.Standing.{IsReadyAt};
-ghost use Rattle.machine.specs.Progress.{IsRunning, Between, IsOutside, RunsOn, IsCaused};
+ghost use Rattle.machine.specs.Progress.{IsOutside, StaysBetween, ActsOn, IsCaused};
 
 use crate::accept_statement::accept_line;
 use crate::ended::Ended;
@@ -39,18 +34,10 @@ pub(crate) fn converse<S: Station>(
     ensures stands { OnOk result (IsReadyAt code.now registers.new (address + 1)) }
     ensures returns { registers.new.returns ≡ registers.old.returns }
     ensures own { IfErr result IsOwnEnd }
-    ensures moments { S.is_honest station.old
-        → (run : Run) (before : State) (files : Files) (connectors : List Connector) (left : ℕ) →
-        IsRunning code.now day.now run before files connectors address left registers.old
-        (S.state station.old) →
-        Through (S.history station.old) (S.history station.new) (S.state station.new)
-        (Between run before files (S.state station.old).disk) }
-    ensures on { S.is_honest station.old
-        → (run : Run) (before : State) (files : Files) (connectors : List Connector) (left : ℕ) →
-        IsRunning code.now day.now run before files connectors address left registers.old
-        (S.state station.old) →
-        RunsOn code.now day.now run before files connectors (address + 1) left result registers.new
-        (S.state station.new) }
+    ensures moments { StaysBetween S.Device code.now day.now address registers.old station.old
+        station.new }
+    ensures on { ActsOn S.Device code.now day.now address result registers.old registers.new
+        station.old station.new }
 {
     match one {
         Instruction::Show => match show_line(station, &mut registers.scratch) {

@@ -3,7 +3,7 @@ use Rattle.data_instructions.proofs.Safety.{safe_accept, safe_date, safe_showing
 use Rattle.data_instructions.proofs.laws.safety_law.Goals as goal
 
 pub returns-clause-work : goal.returns-clause-work
-returns-clause-work c = λ tables one s shape after order fit leaves. safe tables order one s shape after fit leaves
+returns-clause-work c = λ tables one s order. safe tables order one s
 
 pub returns-clause-accept : goal.returns-clause-accept
 returns-clause-accept c = safe_accept

@@ -1,8 +1,8 @@
 use Rattle.std.proofs.Common.{length, refl, ap, arith}
 use Rattle.std.specs.Vec.{with_items}
-use Rattle.data_machine.specs.Comes.{KeepsRoom}
 use Rattle.data_machine.specs.declared.data.Data.{Data}
 use Rattle.machine.proofs.Counters.{begun_now, as_many_begun}
+use Rattle.machine.proofs.Rooms.{popped_keeps}
 use Rattle.machine.proofs.Standing.{number_to_count, stands_after_number}
 use Rattle.machine.proofs.Leads.{number_counted_from}
 use Rattle.machine.proofs.Steps.{at_no_turns, after_number}
@@ -25,19 +25,10 @@ pub returns-in-Ok-clause-stands : goal.returns-in-Ok-clause-stands
 returns-in-Ok-clause-stands c =
     let r = c.args.registers.now in
     let worked : Data = record r.scratch { numbers = c.pop-newest.new.self; truth = c.begin_turns-registers.result } in
-    let keeps : KeepsRoom r.scratch worked =
-    record {
-      areas = refl;
-      numbers = c.pop-newest.ensures.room;
-      places = refl;
-      sender = refl;
-      line = refl;
-      inspecting = record { entries = refl; progress = refl; counts = refl; text = refl };
-      taken = λ holds. holds;
-    } in
     stands_after_number c.args.code.now r c.args.address c.requires.stands c.args.counter c.requires.here
     (record r { counters = with_items r.counters c.begin_turns-registers.new.counters; scratch = worked })
-    c.pop-newest.result c.pop-newest.new.self.newest_first c.pop-newest.ensures.newest refl keeps
+    c.pop-newest.result c.pop-newest.new.self.newest_first c.pop-newest.ensures.newest refl
+    (popped_keeps r.scratch c.pop-newest.new.self c.begin_turns-registers.result c.pop-newest.ensures.room)
     (as_many_begun r.counters c.as_mut_slice-counters.result.now c.begin_turns-registers.new.counters
     c.args.counter.number
     c.as_mut_slice-counters.ensures.value c.begin_turns-registers.result c.in-Ok.turns c.begin_turns-registers.ensures)

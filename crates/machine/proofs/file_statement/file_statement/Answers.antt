@@ -1,20 +1,11 @@
-use Rattle.std.proofs.Common.{◌≡◌, ◌∙◌, List, [], ◌∷◌, ◌++◌, length, sym, ap, subst, refl, arith, inl, inr, Err}
+use Rattle.std.proofs.Common.{◌∙◌, List, length, ap, refl, arith, Err}
 use Rattle.std.proofs.lemmas.Option.{slice_get_within}
-use Rattle.station.specs.Disk.{Disk}
-use Rattle.station.specs.State.{State, Event, Noted}
-use Rattle.records.specs.declared.fault.StoreFault.TheVariants.{Full, Old}
-use Rattle.records.specs.Statuses.{bytes_of}
-use Rattle.source_tree.specs.Storage.{Storage}
-use Rattle.data_machine.specs.Data.{scratch_of}
-use Rattle.records.specs.Connector.{Entry, Connector}
-use Rattle.source_tree.specs.FileStatements.{step_by}
-use Rattle.file_image.specs.Files.{entries_of, places_of}
-use Rattle.records.specs.FileStep.{entry_at, makes_file}
+use Rattle.records.specs.Connector.{Entry}
+use Rattle.records.specs.FileStep.{entry_at}
 use Rattle.code_image.specs.declared.instruction.Instruction.TheVariants as instruction
 use Rattle.machine.proofs.Standing.{stands_behind_stored}
-use Rattle.machine.proofs.Placed.{on_ok, on_ok_from, at_file, entry_here, entries_many, finds_places}
-use Rattle.machine.proofs.Stored.{step_looks}
-use Rattle.machine.proofs.Filed.{under_way, noted_through, after_file, refused_by}
+use Rattle.machine.proofs.Placed.{on_ok, at_file, entry_here, entries_many, finds_places}
+use Rattle.machine.proofs.FileCalls.{moments_under_way, moments_noted, goes_on_noted, given_up_by}
 use Rattle.machine.proofs.file_statement.file_statement.Goals as goal
 
 pub perform-performed-requires-clause-places : goal.perform-performed-requires-clause-places
@@ -82,70 +73,27 @@ returns-in-Ok-clause-moments g c = λ day run before left files stands so_far.
     let w = at_file c.args.code.now c.requires.verified c.args.address c.args.file c.args.verb c.requires.here
     c.as_slice.result.now c.index-as_slice-file.result
     c.as_slice.ensures c.index-as_slice-file.is in
-    let code = c.args.code.now in
-    let one = c.index-as_slice-file.result in
-    let r = c.args.registers.now in
-    let entries : List Entry = g.F.FileVerbs.entries c.args.verbs.now in
-    let connectors : List Connector = g.F.FileVerbs.connectors c.args.verbs.now in
-    let did =
-    step_by entries (places_of code.tables c.args.file.number one) c.args.verb files connectors r.scratch.areas in
-    let is : did ≡ step_by (entries_of code.tables code.files) (places_of code.tables c.args.file.number one)
-    c.args.verb files connectors r.scratch.areas =
-    ap (λ (es : List Entry). step_by es (places_of code.tables c.args.file.number one) c.args.verb files connectors
-    r.scratch.areas) c.requires.serves.entries_are in
-    let d = c.in-Ok.ensures.did files stands in
-    let turns = c.in-Ok.ensures.turns files stands in
-    let only = c.in-Ok.ensures.changes.only in
-    let honest = only.honest.0 stands.honest in
-    noted_through code day run before files connectors c.args.address left r (g.S.Device.state c.args.station.now)
-    so_far c.args.file c.args.verb one c.requires.here w.there did is
-    g.F.Keeps.holds (g.S.Device.history c.args.station.now) (g.S.Device.history c.perform-performed.new.device)
-    (g.S.Device.state c.perform-performed.new.device)
-    turns.moments c.note.result (g.S.Device.history c.note.new.station) (g.S.Device.state c.note.new.station)
-    c.in-Ok.status (c.note.ensures.moves honest)
-    (only.console stands.honest).lines d.status_is (c.note.ensures.noted honest) (c.note.ensures.unheard honest)
-    (λ image crash. g.met.F.FileVerbs.held c.perform-performed.new.verbs
-    (g.S.Device.state c.perform-performed.new.device).disk image did.files turns.there.there crash)
+    moments_noted g.F.Keeps g.S.Device c.args.code.now day run before files
+    (g.F.FileVerbs.connectors c.args.verbs.now) c.args.address left c.args.registers.now c.args.station.now so_far
+    c.args.file c.args.verb c.index-as_slice-file.result c.requires.here w.there
+    (g.F.FileVerbs.entries c.args.verbs.now) c.requires.serves.entries_are c.args.verbs.now
+    c.perform-performed.new.verbs c.perform-performed.new.device c.in-Ok.status (c.in-Ok.ensures.turns files stands)
+    (c.in-Ok.ensures.did files stands) c.in-Ok.ensures.changes.only stands.honest c.note.new.station c.note.result
+    c.note.ensures.noted c.note.ensures.moves c.note.ensures.unheard
+    (g.met.F.FileVerbs.held c.perform-performed.new.verbs)
 
 pub returns-in-Ok-clause-on : goal.returns-in-Ok-clause-on
 returns-in-Ok-clause-on g c = λ day run before left files stands so_far.
     let w = at_file c.args.code.now c.requires.verified c.args.address c.args.file c.args.verb c.requires.here
     c.as_slice.result.now c.index-as_slice-file.result
     c.as_slice.ensures c.index-as_slice-file.is in
-    let code = c.args.code.now in
-    let one = c.index-as_slice-file.result in
-    let r = c.args.registers.now in
-    let entries : List Entry = g.F.FileVerbs.entries c.args.verbs.now in
-    let connectors : List Connector = g.F.FileVerbs.connectors c.args.verbs.now in
-    let did =
-    step_by entries (places_of code.tables c.args.file.number one) c.args.verb files connectors r.scratch.areas in
-    let is : did ≡ step_by (entries_of code.tables code.files) (places_of code.tables c.args.file.number one)
-    c.args.verb files connectors r.scratch.areas =
-    ap (λ (es : List Entry). step_by es (places_of code.tables c.args.file.number one) c.args.verb files connectors
-    r.scratch.areas) c.requires.serves.entries_are in
-    let d = c.in-Ok.ensures.did files stands in
-    let turns = c.in-Ok.ensures.turns files stands in
-    let only = c.in-Ok.ensures.changes.only in
-    let honest = only.honest.0 stands.honest in
-    let console = only.console stands.honest in
-    on_ok_from c.note.result _ _ (c.note.ensures.noted honest) (λ heard. (
-      did.files,
-      record {
-        honest = c.note.ensures.honest.0 honest;
-        there = subst (λ (disk : Disk). g.F.Keeps.stands c.perform-performed.new.verbs disk did.files)
-            (sym (ap (λ (u : State). u.disk) heard)) turns.there.there;
-      },
-      after_file code day run before files connectors c.args.address left r (g.S.Device.state c.args.station.now) so_far
-          c.args.file c.args.verb one c.requires.here w.there did is
-          (g.S.Device.state c.note.new.station) _ c.in-Ok.status
-          (g.F.FileVerbs.connectors c.perform-performed.new.verbs)
-          (ap (λ (u : State). u.events) heard
-          ∙ ap (λ (es : List Event).
-          es ++ Noted (record { file = c.args.file.number; status = bytes_of c.in-Ok.status }) ∷ []) console.events)
-          (ap (λ (u : State). u.lines) heard ∙ console.lines) d.status_is d.connectors_are
-          (ap (λ (storage : Storage). record (scratch_of r.scratch) { storage = storage }) d.storage_is) refl refl refl
-          refl,
-    ))
+    goes_on_noted g.F.Keeps g.S.Device c.args.code.now day run before files
+    (g.F.FileVerbs.connectors c.args.verbs.now) c.args.address left c.args.registers.now c.args.station.now so_far
+    c.args.file c.args.verb c.index-as_slice-file.result c.requires.here w.there
+    (g.F.FileVerbs.entries c.args.verbs.now) c.requires.serves.entries_are c.args.verbs.now
+    c.perform-performed.new.verbs c.perform-performed.new.device c.in-Ok.status (c.in-Ok.ensures.turns files stands)
+    (c.in-Ok.ensures.did files stands) c.in-Ok.ensures.changes.only stands.honest c.note.new.station c.note.result
+    c.note.ensures.noted c.note.ensures.honest.0 _ refl refl refl refl refl
 
 pub returns-in-Err-clause-within : goal.returns-in-Err-clause-within
 returns-in-Err-clause-within g c =
@@ -166,60 +114,22 @@ returns-in-Err-clause-moments g c = λ day run before left files stands so_far.
     let w = at_file c.args.code.now c.requires.verified c.args.address c.args.file c.args.verb c.requires.here
     c.as_slice.result.now c.index-as_slice-file.result
     c.as_slice.ensures c.index-as_slice-file.is in
-    let code = c.args.code.now in
-    let one = c.index-as_slice-file.result in
-    let r = c.args.registers.now in
-    let entries : List Entry = g.F.FileVerbs.entries c.args.verbs.now in
-    let connectors : List Connector = g.F.FileVerbs.connectors c.args.verbs.now in
-    let did =
-    step_by entries (places_of code.tables c.args.file.number one) c.args.verb files connectors r.scratch.areas in
-    let is : did ≡ step_by (entries_of code.tables code.files) (places_of code.tables c.args.file.number one)
-    c.args.verb files connectors r.scratch.areas =
-    ap (λ (es : List Entry). step_by es (places_of code.tables c.args.file.number one) c.args.verb files connectors
-    r.scratch.areas) c.requires.serves.entries_are in
-    under_way code day run before files connectors c.args.address left r (g.S.Device.state c.args.station.now) so_far
-    c.args.file c.args.verb one c.requires.here w.there did is
-    g.F.Keeps.holds (g.S.Device.history c.args.station.now) (g.S.Device.history c.perform-performed.new.device)
-    (g.S.Device.state c.perform-performed.new.device)
-    (c.in-Err.ensures.turns files stands).moments
+    moments_under_way g.F.Keeps g.S.Device c.args.code.now day run before files
+    (g.F.FileVerbs.connectors c.args.verbs.now) c.args.address left c.args.registers.now c.args.station.now so_far
+    c.args.file c.args.verb c.index-as_slice-file.result c.requires.here w.there
+    (g.F.FileVerbs.entries c.args.verbs.now) c.requires.serves.entries_are c.args.verbs.now
+    c.perform-performed.new.verbs c.perform-performed.new.device (Err c.in-Err.fault)
+    (c.in-Err.ensures.turns files stands)
 
 pub returns-in-Err-clause-over : goal.returns-in-Err-clause-over
 returns-in-Err-clause-over g c = λ day run before left files stands so_far.
     let w = at_file c.args.code.now c.requires.verified c.args.address c.args.file c.args.verb c.requires.here
     c.as_slice.result.now c.index-as_slice-file.result
     c.as_slice.ensures c.index-as_slice-file.is in
-    let code = c.args.code.now in
-    let one = c.index-as_slice-file.result in
-    let r = c.args.registers.now in
-    let entries : List Entry = g.F.FileVerbs.entries c.args.verbs.now in
-    let connectors : List Connector = g.F.FileVerbs.connectors c.args.verbs.now in
-    let did =
-    step_by entries (places_of code.tables c.args.file.number one) c.args.verb files connectors r.scratch.areas in
-    let is : did ≡ step_by (entries_of code.tables code.files) (places_of code.tables c.args.file.number one)
-    c.args.verb files connectors r.scratch.areas =
-    ap (λ (es : List Entry). step_by es (places_of code.tables c.args.file.number one) c.args.verb files connectors
-    r.scratch.areas) c.requires.serves.entries_are in
-    let turns = c.in-Err.ensures.turns files stands in
-    let console = c.in-Err.ensures.changes.only.console stands.honest in
-    refused_by code day run before files connectors c.args.address left r (g.S.Device.state c.args.station.now) so_far
-    c.args.file c.args.verb one c.requires.here w.there did is
-    g.F.Keeps.holds g.F.Keeps.lacks (g.S.Device.state c.perform-performed.new.device) c.refusal_of.result
-    c.in-Err.fault c.refusal_of.ensures
-    (λ damaged. turns.sound (ap Err damaged))
-    (step_looks entries (places_of code.tables c.args.file.number one) c.args.verb files connectors r.scratch.areas
-    c.in-Err.ensures.asks)
-    console.events console.lines
-    (λ full. record {
-      changes = c.in-Err.ensures.full files stands (inl (ap Err full));
-      need =
-          subst (λ (u : State). g.F.Keeps.lacks Full u.disk.present (makes_file c.args.verb) one.name files did.files)
-          (sym (c.in-Err.ensures.changes.unwritten (inl (ap Err full)) stands.honest)) (turns.room (ap Err full));
-      makes = λ is. absurd cc;
-    })
-    (λ old. record {
-      changes = c.in-Err.ensures.full files stands (inr (ap Err old));
-      need =
-          subst (λ (u : State). g.F.Keeps.lacks Old u.disk.present (makes_file c.args.verb) one.name files did.files)
-          (sym (c.in-Err.ensures.changes.unwritten (inr (ap Err old)) stands.honest)) (turns.mark (ap Err old));
-      makes = λ is. c.in-Err.ensures.old (ap Err old);
-    })
+    given_up_by g.F.Keeps g.S.Device c.args.code.now day run before files
+    (g.F.FileVerbs.connectors c.args.verbs.now) c.args.address left c.args.registers.now c.args.station.now so_far
+    c.args.file c.args.verb c.index-as_slice-file.result c.requires.here w.there
+    (g.F.FileVerbs.entries c.args.verbs.now) c.requires.serves.entries_are c.args.verbs.now
+    c.perform-performed.new.verbs c.perform-performed.new.device c.in-Err.fault (c.in-Err.ensures.turns files stands)
+    c.in-Err.ensures.changes stands.honest c.refusal_of.result c.refusal_of.ensures c.in-Err.ensures.asks
+    (c.in-Err.ensures.full files stands) c.in-Err.ensures.old

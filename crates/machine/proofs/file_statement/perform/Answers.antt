@@ -1,11 +1,9 @@
-use Rattle.std.proofs.Common.{◌≡◌, ◌∙◌, List, ℕ, length, sym, ap, subst, inl, Ok, Err}
+use Rattle.std.proofs.Common.{◌≡◌, ◌∙◌, List, length, sym, ap, inl, Ok, Err}
 use Rattle.std.specs.Prelude.{slice_set}
-use Rattle.records.specs.declared.status.Status.{Status}
 use Rattle.records.specs.Files.{Files}
 use Rattle.records.specs.Steps.{Step}
-use Rattle.records.specs.FileStep.{makes_file, has_changed, entry_at}
+use Rattle.records.specs.FileStep.{makes_file, has_changed}
 use Rattle.records.specs.Connector.{Entry, Connector}
-use Rattle.records.specs.Calls.{ChangesFiles}
 use Rattle.source_tree.specs.ProgramFiles.{FilePlaces, digits_at}
 use Rattle.source_tree.specs.FileStatements.{step_by, area_of}
 use Rattle.file_image.specs.Files.{places_of, place_at}
@@ -13,6 +11,7 @@ use Rattle.machine.proofs.Counters.{now_has}
 use Rattle.machine.proofs.Table.{StaysOrFits}
 use Rattle.machine.proofs.Stored.{status_as_long, number_as_long, taken_back, back_lengths, step_of}
 use Rattle.machine.proofs.Stored.{item_number_fits, step_done}
+use Rattle.machine.proofs.FileCalls.{change_known}
 use Rattle.machine.proofs.file_statement.perform.Given.{Over}
 use Rattle.machine.proofs.file_statement.perform.Goals as goal
 use Rattle.machine.proofs.file_statement.perform.Goals.{After-exchange-2, After-perform-performed}
@@ -31,19 +30,14 @@ returns-in-Err-clause-lengths g c =
 
 pub returns-in-Err-clause-turns : goal.returns-in-Err-clause-turns
 returns-in-Err-clause-turns g c = λ files stands.
-    let entries : List Entry = g.F.FileVerbs.entries c.args.verbs.now in
-    let connectors : List Connector = g.F.FileVerbs.connectors c.args.verbs.now in
-    let places : FilePlaces = places_of c.args.tables.now c.args.file.number c.args.one.now in
-    let is = step_of entries places c.args.verb files connectors c.args.areas.now c.as_mut_slice.result.now
-    c.relative_number-old.result
-    (c.as_mut_slice.ensures.value ∙ c.exchange.ensures.bytes) c.relative_number-old.ensures in
-    let did = step_by entries places c.args.verb files connectors c.args.areas.now in
-    subst (λ (name : List ℕ). ChangesFiles g.F.Keeps g.D.Device {T =
-    Status} (Err c.in-Err.fault) (makes_file c.args.verb) name files did.files c.args.verbs.now c.args.device.now
-    c.perform-performed.new.self c.perform-performed.new.device) (ap (λ (e : Entry). e.name) c.requires.entry)
-    (subst (λ (s : Step). ChangesFiles g.F.Keeps g.D.Device {T = Status} (Err c.in-Err.fault) (makes_file c.args.verb)
-    (entry_at entries c.args.file.number).name files s.files c.args.verbs.now c.args.device.now
-    c.perform-performed.new.self c.perform-performed.new.device) is (c.in-Err.ensures.turns files stands))
+    change_known g.F.Keeps g.D.Device (Err c.in-Err.fault) (makes_file c.args.operation.verb) files c.args.verbs.now
+    c.args.device.now c.perform-performed.new.self c.perform-performed.new.device
+    (ap (λ (e : Entry). e.name) c.requires.entry)
+    (ap (λ (s : Step). s.files) (step_of (g.F.FileVerbs.entries c.args.verbs.now)
+    (places_of c.args.tables.now c.args.operation.file.number c.args.one.now) c.args.operation.verb files
+    (g.F.FileVerbs.connectors c.args.verbs.now) c.args.areas.now c.as_mut_slice.result.now c.relative_number-old.result
+    (c.as_mut_slice.ensures.value ∙ c.exchange.ensures.bytes) c.relative_number-old.ensures))
+    (c.in-Err.ensures.turns files stands)
 
 pub leave-requires-clause-relative_key : goal.leave-requires-clause-relative_key
 leave-requires-clause-relative_key g c =
@@ -97,19 +91,19 @@ area_back g c =
 -- the number after the step
 number_after : (g : Over) (c : After-perform-performed g) (files : Files)
     → StaysOrFits (digits_at (place_at c.args.tables.now c.args.one.now.relative_key))
-    (area_of (places_of c.args.tables.now c.args.file.number c.args.one.now) c.args.areas.now).number
+    (area_of (places_of c.args.tables.now c.args.operation.file.number c.args.one.now) c.args.areas.now).number
     (step_by (g.F.FileVerbs.entries c.args.verbs.now)
-    (places_of c.args.tables.now c.args.file.number c.args.one.now) c.args.verb files
+    (places_of c.args.tables.now c.args.operation.file.number c.args.one.now) c.args.operation.verb files
     (g.F.FileVerbs.connectors c.args.verbs.now) c.args.areas.now).area.number
 number_after g c files = item_number_fits c.args.tables.now (g.F.FileVerbs.entries c.args.verbs.now) c.args.one.now
-    c.args.file.number c.args.verb files (g.F.FileVerbs.connectors c.args.verbs.now) c.args.areas.now c.requires.entry
-    c.requires.spec c.requires.verb
+    c.args.operation.file.number c.args.operation.verb files (g.F.FileVerbs.connectors c.args.verbs.now)
+    c.args.areas.now c.requires.entry c.requires.spec c.requires.verb
 
 pub returns-in-Ok-clause-did : goal.returns-in-Ok-clause-did
 returns-in-Ok-clause-did g c = λ files stands.
     let to = goal.at.returns-in-Ok-clause-did g c in
     step_done (step_of (g.F.FileVerbs.entries c.args.verbs.now)
-    (places_of c.args.tables.now c.args.file.number c.args.one.now) c.args.verb files
+    (places_of c.args.tables.now c.args.operation.file.number c.args.one.now) c.args.operation.verb files
     (g.F.FileVerbs.connectors c.args.verbs.now) c.args.areas.now c.as_mut_slice.result.now c.relative_number-old.result
     (c.as_mut_slice.ensures.value ∙ c.exchange.ensures.bytes) c.relative_number-old.ensures)
     (c.in-Ok.ensures.step files (inl stands)) c.relative_number-old.ensures
@@ -119,26 +113,30 @@ returns-in-Ok-clause-did g c = λ files stands.
 
 pub returns-in-Ok-clause-turns : goal.returns-in-Ok-clause-turns
 returns-in-Ok-clause-turns g c = λ files stands.
-    let entries : List Entry = g.F.FileVerbs.entries c.args.verbs.now in
-    let connectors : List Connector = g.F.FileVerbs.connectors c.args.verbs.now in
-    let places : FilePlaces = places_of c.args.tables.now c.args.file.number c.args.one.now in
-    let is = step_of entries places c.args.verb files connectors c.args.areas.now c.as_mut_slice.result.now
-    c.relative_number-old.result
-    (c.as_mut_slice.ensures.value ∙ c.exchange.ensures.bytes) c.relative_number-old.ensures in
-    let did = step_by entries places c.args.verb files connectors c.args.areas.now in
-    subst (λ (name : List ℕ). ChangesFiles g.F.Keeps g.D.Device {T =
-    Status} (Ok c.in-Ok.status) (makes_file c.args.verb) name files did.files c.args.verbs.now c.args.device.now
-    c.perform-performed.new.self c.perform-performed.new.device) (ap (λ (e : Entry). e.name) c.requires.entry)
-    (subst (λ (s : Step). ChangesFiles g.F.Keeps g.D.Device {T = Status} (Ok c.in-Ok.status) (makes_file c.args.verb)
-    (entry_at entries c.args.file.number).name files s.files c.args.verbs.now c.args.device.now
-    c.perform-performed.new.self c.perform-performed.new.device) is (c.in-Ok.ensures.turns files stands))
+    change_known g.F.Keeps g.D.Device (Ok c.in-Ok.status) (makes_file c.args.operation.verb) files c.args.verbs.now
+    c.args.device.now c.perform-performed.new.self c.perform-performed.new.device
+    (ap (λ (e : Entry). e.name) c.requires.entry)
+    (ap (λ (s : Step). s.files) (step_of (g.F.FileVerbs.entries c.args.verbs.now)
+    (places_of c.args.tables.now c.args.operation.file.number c.args.one.now) c.args.operation.verb files
+    (g.F.FileVerbs.connectors c.args.verbs.now) c.args.areas.now c.as_mut_slice.result.now c.relative_number-old.result
+    (c.as_mut_slice.ensures.value ∙ c.exchange.ensures.bytes) c.relative_number-old.ensures))
+    (c.in-Ok.ensures.turns files stands)
 
 pub returns-in-Err-clause-full : goal.returns-in-Err-clause-full
 returns-in-Err-clause-full g c = λ files stands full.
     let entries : List Entry = g.F.FileVerbs.entries c.args.verbs.now in
     let connectors : List Connector = g.F.FileVerbs.connectors c.args.verbs.now in
-    let places : FilePlaces = places_of c.args.tables.now c.args.file.number c.args.one.now in
-    let is = step_of entries places c.args.verb files connectors c.args.areas.now c.as_mut_slice.result.now
+    let places : FilePlaces = places_of c.args.tables.now c.args.operation.file.number c.args.one.now in
+    let is = step_of entries places c.args.operation.verb files connectors c.args.areas.now c.as_mut_slice.result.now
     c.relative_number-old.result
     (c.as_mut_slice.ensures.value ∙ c.exchange.ensures.bytes) c.relative_number-old.ensures in
-    sym (ap (λ (s : Step). has_changed c.args.verb s.status) is) ∙ c.in-Err.ensures.full files stands full
+    sym (ap (λ (s : Step). has_changed c.args.operation.verb s.status) is) ∙ c.in-Err.ensures.full files stands full
+
+pub returns-in-Ok-clause-changes : goal.returns-in-Ok-clause-changes
+returns-in-Ok-clause-changes g c = c.in-Ok.ensures.store.changes
+
+pub returns-in-Err-clause-changes : goal.returns-in-Err-clause-changes
+returns-in-Err-clause-changes g c = c.in-Err.ensures.store.changes
+
+pub returns-in-Err-clause-old : goal.returns-in-Err-clause-old
+returns-in-Err-clause-old g c = c.in-Err.ensures.lacks.old

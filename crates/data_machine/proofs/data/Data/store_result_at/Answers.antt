@@ -11,7 +11,7 @@ use Rattle.data_machine.proofs.data.Data.store_result_at.Goals as goal
 pub store_short-requires-clause-digits : goal.store_short-requires-clause-digits
 store_short-requires-clause-digits c =
     let fits : FitsSigned w64 c.in-Some.coefficient = search rules in
-    simp to_z-of_z (kept_digits (item_place c.args.one.now c.args.offset) c.args.rounded c.args.keep
+    simp to_z-of_z (kept_digits (item_place c.args.one.now c.args.offset) c.args.storing.rounded c.args.storing.keep
     (operate c.args.operator (Some c.args.left) (Some c.args.right)) c.in-Some.coefficient c.in-Some.ensures)
 
 pub returns-in-Some-clause-does : goal.returns-in-Some-clause-does
@@ -19,6 +19,6 @@ returns-in-Some-clause-does c =
     let s : Scratch = scratch_of c.args.self.now in
     let fits : FitsSigned w64 c.in-Some.coefficient = search rules in
     let stores = simp to_z-of_z at c.store_short.ensures.stores in
-    stored_as (item_place c.args.one.now c.args.offset) c.args.rounded c.args.keep
+    stored_as (item_place c.args.one.now c.args.offset) c.args.storing.rounded c.args.storing.keep
     (operate c.args.operator (Some c.args.left) (Some c.args.right)) c.in-Some.coefficient c.in-Some.ensures s
     ∙ ap (λ storage. Continues (record s { storage = storage })) (sym stores)
