@@ -146,6 +146,15 @@ module _ (here below : List Sector → Files → Type 0) (under : (image : List 
       ends = ends_below ended new ends;
     }
 
+    -- and the call ended so
+    pub ran_over_as : (past later : List State) (new : State) (ended : MachineEnded) (result : Ended)
+        → result ≡ ended_of ended → Moment below run old old → Through past later new (Moment here run old)
+        → EndsAs here lacks entries run old ended new
+        → RunsOver below (LacksForChange lacks' entries') run past old result later new
+    ran_over_as past later new ended result is first moments ends =
+        subst (λ (e : Ended). RunsOver below (LacksForChange lacks' entries') run past old e later new) (sym is)
+        (ran_over past later new ended first moments ends)
+
 -- memory ran out before the run
 pub never_ran : (holds : List Sector → Files → Type 0) (lacking : StoreFault → Run → State → State → Type 0) (run : Run)
     (past : List State) (old : State)
@@ -166,6 +175,14 @@ no_damage_over holds lacking run old ended now ends is =
 pub given_none : (s : State) (day : List ℕ) (budget : ℕ) → given_on s day budget ≡ given_over [] s day budget
 unfolding given_on given_over
 given_none s day budget = refl
+
+-- A machine has the run of its code without files, on its day.
+pub runs_alone_as : (machine : Machine) (code : Code) (day : List ℕ) (s : State) (budget : ℕ) (run : Run)
+    → code_of machine ≡ code → day_of machine ≡ day → Runs code (given_on s day budget) run
+    → Runs (code_of machine) (given_over [] s (day_of machine) budget) run
+runs_alone_as machine code day s budget run same_code same_day runs =
+    runs_as machine code day [] s budget run same_code same_day
+    (subst (λ (given : RunInput). Runs code given run) (given_none s day budget) runs)
 
 no_note : (seen rest : List Event) → note_count (seen ++ rest) ≡ 0 → NoteComes rest → ⊥
 no_note seen rest none (note, more, is) =

@@ -9,23 +9,29 @@ use Rattle.records.specs.Files.{Files}
 use Rattle.records.specs.Connector.{Entry}
 use Rattle.records.specs.declared.fault.StoreFault.{StoreFault}
 use Rattle.records.specs.declared.fault.StoreFault.TheVariants as store
-use Rattle.source_tree.specs.Given.{given_over}
+use Rattle.file_recovery.specs.Recovered.{HoldsFiles}
+use Rattle.source_tree.specs.Given.{RunInput, given_over}
 use Rattle.source_tree.specs.Meaning.{Run}
 use Rattle.half_store.specs.Opened.{IsReadCause}
 use Rattle.run_unit.specs.Ends.{of_opening}
 use Rattle.source_tree.specs.State as end
 use Rattle.data_instructions.specs.Faults.{fault_of}
+use Rattle.code_image.specs.declared.code.Code.{Code}
+use Rattle.code_image.specs.Table.{Runs}
+use Rattle.file_image.specs.Files.{entries_of}
 use Rattle.machine.specs.Prefix.{Moment}
 use Rattle.machine.specs.Ends.{LacksForChange}
 use Rattle.half_store.specs.Half.{Holds as HoldsHalf}
 use Rattle.alternate_keys.specs.Stands.{Lacks as LacksTrees}
-use Rattle.run_unit.specs.Volume.{EndsOver, IsUnopened, IsUnwritten, LeavesClosed, RunsOver, lacks_half}
+use Rattle.volume_format.specs.Volume.{Holds as HoldsTrees}
+use Rattle.run_unit.specs.Runs.{Call, given_files, RunsOverHeld}
+use Rattle.run_unit.specs.Volume.{EndsOver, IsUnopened, IsUnwritten, LeavesClosed, RunsOver, lacks_half, lacks_either}
 use Rattle.run_unit.specs.Volume.{RunsOnVolume, Unopened, Opened, RunsOnHalves, NotOpened, HeldFiles}
 use Rattle.run_unit.specs.declared.ended.Refusal.{Refusal}
 use Rattle.run_unit.specs.declared.ended.Refusal.TheVariants.{Image, Device, Full, Damaged, Memory, Old}
 use Rattle.run_unit.specs.declared.ended.Ended.{Ended}
 use Rattle.run_unit.specs.declared.ended.Ended.TheVariants.{Stopped, Budget, Faulted, Refused}
-use Rattle.run_unit.proofs.Moments.{moment_below, finished_below}
+use Rattle.run_unit.proofs.Moments.{moment_below, finished_below, lacking_under}
 
 -- where only the device and memory refuse a read, no damage is told
 pub read_cause : (fault : StoreFault) → IsReadCause fault → Refused (of_opening fault) ≡ Refused Damaged → ⊥
@@ -75,6 +81,19 @@ pub ran_on : (holds : List Sector → Files → Type 0) (lacking : StoreFault �
     → RunsOnVolume holds lacking run past old ended later new
 ran_on holds lacking run past opened later old mid new ended opening is runs =
     Opened opened opening.spans (subst (λ (s : State). RunsOver holds lacking run opened s ended later new) is runs)
+
+-- the call runs this code over what was opened
+pub ran_opened : (holds : List Sector → Files → Type 0) (lacking : StoreFault → Run → State → State → Type 0)
+    (code : Code) (files : Files) (run : Run) (call : Call) (opened : List State) (mid : State)
+    → Through call.past opened mid (IsOpening call.old) → mid ≡ state_after_sync call.old
+    → Runs code (given_files call files) run
+    → (Runs code (given_over files mid call.day call.budget) run
+    → RunsOver holds lacking run opened mid call.ended call.later call.new)
+    → RunsOnVolume holds lacking run call.past call.old call.ended call.later call.new
+ran_opened holds lacking code files run call opened mid opening is runs over =
+    ran_on holds lacking run call.past opened call.later call.old mid call.new call.ended opening is
+    (over (subst (λ (given : RunInput). Runs code given run)
+    (given_after files call.old mid call.day call.budget is) runs))
 
 -- ---- a volume that another store has looked at
 
@@ -178,6 +197,53 @@ module _ (here either : List Sector → Files → Type 0) (also : (image : List 
   on_either past old ended later new (Unopened closed) = Unopened closed
   on_either past old ended later new (Opened opened spans runs) =
       Opened opened spans (over_either opened (state_after_sync old) ended later new runs)
+
+pub trees_too : (entries : List Entry) (run : Run) (call : Call)
+    → RunsOnVolume HoldsTrees (LacksForChange lacks_trees entries) run call.past call.old call.ended call.later call.new
+    → RunsOnVolume HoldsFiles (LacksForChange lacks_either entries) run call.past call.old call.ended call.later
+    call.new
+trees_too entries run call runs =
+    on_either HoldsTrees HoldsFiles (λ image files is. inl is) run (LacksForChange lacks_trees entries)
+    (LacksForChange lacks_either entries)
+    (λ fault old now. lacking_under lacks_trees lacks_either (λ fault image is_new name before after lacks. inl lacks)
+    entries fault run old now) call.past call.old call.ended call.later call.new runs
+
+pub halves_too : (entries : List Entry) (run : Run) (call : Call)
+    → RunsOnVolume HoldsHalf (LacksForChange lacks_half entries) run call.past call.old call.ended call.later call.new
+    → RunsOnVolume HoldsFiles (LacksForChange lacks_either entries) run call.past call.old call.ended call.later
+    call.new
+halves_too entries run call runs =
+    on_either HoldsHalf HoldsFiles (λ image files is. inr is) run (LacksForChange lacks_half entries)
+    (LacksForChange lacks_either entries)
+    (λ fault old now. lacking_under lacks_half lacks_either (λ fault image is_new name before after lacks. inr lacks)
+    entries fault run old now) call.past call.old call.ended call.later call.new runs
+
+-- the same call, from another moment on
+abbrev pub call_from : Call → List State → State → Call
+call_from call past old = record {
+  ended = call.ended;
+  day = call.day;
+  budget = call.budget;
+  past = past;
+  old = old;
+  later = call.later;
+  new = call.new;
+}
+
+-- a volume of halves, which the other store has looked at
+pub halves_looked_at : (code : Code) (call : Call) (looked : List State) (mid : State)
+    → Through call.past looked mid (IsOpening call.old) → IsUnwritten call.old mid
+    → RunsOverHeld HoldsHalf lacks_half code (call_from call looked mid)
+    → (files : Files) → HoldsHalf call.old.disk.present files
+    → (run : Run) → Runs code (given_files call files) run
+    → RunsOnVolume HoldsFiles (LacksForChange lacks_either (entries_of code.tables code.files)) run call.past call.old
+    call.ended call.later call.new
+halves_looked_at code call looked mid first is ran files held run runs =
+    halves_too (entries_of code.tables code.files) run call
+    (on_volume_then HoldsHalf (LacksForChange lacks_half (entries_of code.tables code.files)) run call.past looked
+    call.later call.old mid call.new call.ended first is
+    (ran files (subst (λ (image : List Sector). HoldsHalf image files) (sym (present_after call.old mid is)) held) run
+    (subst (λ (given : RunInput). Runs code given run) (given_later files call.old mid call.day call.budget is) runs)))
 
 -- where only the device and memory refuse, the other store's layout isn't told
 pub no_layout : IsReadCause store.Layout → ⊥

@@ -1,5 +1,5 @@
 -- Images of programs, and their runs.
-use Rattle.std.specs.Prelude.{◌≡◌, ◌⊎◌, ℕ, List, length, Vec, Result, Ok, Err}
+use Rattle.std.specs.Prelude.{◌≡◌, ◌⊎◌, ℕ, List, [], length, Vec, Result, Ok, Err}
 use Rattle.std.specs.declared.alloc.Global.{Global}
 use Rattle.source_tree.specs.declared.program.Program.{Program}
 use Rattle.source_tree.specs.Given.{RunInput}
@@ -55,6 +55,10 @@ IsImageAnswer tree (Err (Refused fault)) = ⊥
 -- The bytes are the image of some code.
 abbrev pub IsImage : List ℕ → Type 0
 IsImage image = (code : Code) × IsImageOf image code
+
+-- where they are an image without files
+abbrev pub IfImageWithoutFiles : List ℕ → Type 0 → Type 0
+IfImageWithoutFiles image claim = (code : Code) → IsImageOf image code → code.files ≡ [] → claim
 
 -- Why bytes are refused as an image: they spell no code, or code that breaks a demand of the machine.
 abbrev pub RefusesImage : List ℕ → ImageFault → Type 0

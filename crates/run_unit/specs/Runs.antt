@@ -1,7 +1,9 @@
 -- What a call promises of the program that it runs, whatever volume there is: of an image and of a source text alike.
-use Rattle.std.specs.Prelude.{◌≡◌, ◌≢◌, ℕ, List, length}
+use Rattle.std.specs.Prelude.{◌≡◌, ◌≢◌, Bool, ℕ, List, length, Result, IfOk}
+use Rattle.station.specs.Disk.{Sector}
 use Rattle.station.specs.State.{State}
 use Rattle.station.specs.declared.device.Device.{Ghosts as Devices}
+use Rattle.records.specs.declared.fault.StoreFault.{StoreFault}
 use Rattle.records.specs.Files.{Files}
 use Rattle.records.specs.Connector.{Entry}
 use Rattle.file_recovery.specs.Recovered.{HoldsFiles}
@@ -15,7 +17,8 @@ use Rattle.machine.specs.Ends.{LacksForChange}
 use Rattle.run_unit.specs.Trees.{IsTreeOf}
 use Rattle.run_unit.specs.Images.{IsImageOf, entries_of_tree}
 use Rattle.run_unit.specs.Alone.{RunsAlone}
-use Rattle.run_unit.specs.Volume.{RunsOnVolume, RunsOnHalves, IsOfHalves, lacks_either}
+use Rattle.run_unit.specs.Volume.{IsDamageFound, RunsOnVolume, RunsOnHalves, IsOfHalves, lacks_either}
+use Rattle.run_unit.specs.declared.fault.CompileError.{CompileError}
 use Rattle.run_unit.specs.declared.ended.Refusal.TheVariants.{Damaged}
 use Rattle.run_unit.specs.declared.ended.Ended.{Ended}
 use Rattle.run_unit.specs.declared.ended.Ended.TheVariants.{Refused}
@@ -83,3 +86,21 @@ ImageRuns image call = (code : Code) → IsImageOf image code
 abbrev pub TextRuns : List ℕ → Call → Type 0
 TextRuns source call = (tree : Program) → IsTreeOf source tree
     → RunsAsMeant (entries_of_tree tree) (meaning tree) (length tree.selects) call
+
+-- What calls promise that run a program on a station.
+module _ {S : Type 0} (device : Devices S) where
+  -- 82 is reported only of damage that was found
+  abbrev pub DamagedOnlyIfFound : Type 0 → S → S → Type 0
+  DamagedOnlyIfFound damaged old new = device.is_honest old → damaged → IsDamageFound (device.state old) (device.state new)
+
+  -- a source text that is not refused is run
+  abbrev pub RunsUnlessRefused : List ℕ → Result Ended CompileError → List ℕ → ℕ → S → S → Type 0
+  RunsUnlessRefused source result day budget old new =
+      device.is_honest old → IfOk result (λ ended. TextRuns source (call_on device ended day budget old new))
+
+-- The call runs this code, over a volume that holds files and lacks what a change needs, by these senses.
+abbrev pub RunsOverHeld : (List Sector → Files → Type 0) → (StoreFault → List Sector → Bool → List ℕ → Files → Files → Type 0)
+    → Code → Call → Type 0
+RunsOverHeld holds lacks code call = (files : Files) → holds call.old.disk.present files
+    → (run : Run) → Runs code (given_files call files) run
+    → RunsOnVolume holds (LacksForChange lacks (entries_of code.tables code.files)) run call.past call.old call.ended call.later call.new

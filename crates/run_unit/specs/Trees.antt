@@ -31,3 +31,11 @@ pub record IsTreeOf (source : List ℕ) (tree : Program) : Type 0 where
   pub read : IsReadFrom source tree
   pub kept : broken_rules tree ≡ []
   pub order : HasOrder tree
+
+-- a source text with a tree
+abbrev pub HasTree : List ℕ → Type 0
+HasTree source = (tree : Program) × IsTreeOf source tree
+
+-- where it is the text of a program without files
+abbrev pub IfTextWithoutFiles : List ℕ → Type 0 → Type 0
+IfTextWithoutFiles source claim = (tree : Program) → IsTreeOf source tree → tree.selects ≡ [] → claim

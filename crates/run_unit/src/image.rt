@@ -1,12 +1,11 @@
 //! Running an image.
 
-ghost use Rattle.std.specs.Prelude.{◌≡◌, ◌↔◌, [], All, IfOk, IfErr};
+ghost use Rattle.std.specs.Prelude.{◌≡◌, ◌↔◌, All, IfOk, IfErr};
 ghost use Rattle.code_image.specs.declared.code.Code.{Code};
 ghost use Rattle.machine.specs.Ends.{IsDigit};
-ghost use Rattle.run_unit.specs.Images.{IsImageOf};
+ghost use Rattle.run_unit.specs.Images.{IsImageOf, IfImageWithoutFiles};
 ghost use Rattle.run_unit.specs.Ends.{HasCause, IsCauseOf, ForImage, IfUnbegun, IsLoaded};
-ghost use Rattle.run_unit.specs.Runs.{ImageRuns, call_on};
-ghost use Rattle.run_unit.specs.Volume.{IsDamageFound};
+ghost use Rattle.run_unit.specs.Runs.{ImageRuns, call_on, DamagedOnlyIfFound};
 
 use crate::ended::{Ended, Refusal};
 use crate::volume::{run_alone, run_on_volume};
@@ -35,12 +34,12 @@ pub fn run_image<S: Station>(
     ensures image { ForImage result image.now }
     // If they are refused, nothing was done; nor if memory runs out and the image has no files.
     ensures unbegun { IfUnbegun result (station.new ≡ station.old) }
-    ensures memory { (code : Code) → IsImageOf image.now code → code.files ≡ [] →
-        result ≡ Ended.Refused Refusal.Memory → station.new ≡ station.old }
-    // Whatever the volume holds: 82 tells that it can't be opened, and then nothing was shown or written, or that its roots and map
+    ensures memory { IfImageWithoutFiles image.now
+        (result ≡ Ended.Refused Refusal.Memory → station.new ≡ station.old) }
+    // Whatever the volume holds: 82 says that it can't be opened, and then nothing was shown or written, or that its roots and map
     // sectors are sound, and a file statement met damage.
-    ensures unwritten { S.is_honest station.old → result ≡ Ended.Refused Refusal.Damaged →
-        IsDamageFound (S.state station.old) (S.state station.new) }
+    ensures unwritten { DamagedOnlyIfFound S.Device (result ≡ Ended.Refused Refusal.Damaged)
+        station.old station.new }
     // What the image's code does by the machine's table is run, without files or over the volume that there is.
     ensures runs { S.is_honest station.old →
         ImageRuns image.now (call_on S.Device result day budget station.old station.new) }

@@ -4,7 +4,7 @@ ghost use Rattle.std.specs.Prelude.{◌≡◌, ◌≢◌, ◌≤◌, ◌↔◌, 
 ghost use Rattle.station.specs.Disk.{Disk, Sector};
 ghost use Rattle.records.specs.Files.{Files};
 ghost use Rattle.records.specs.declared.fault.StoreFault.{StoreFault};
-ghost use Rattle.records.specs.Calls.{Represents};
+ghost use Rattle.records.specs.Calls.{Represents, OnStoredFiles};
 ghost use Rattle.file_image.specs.Files.{entries_of};
 ghost use Rattle.source_tree.specs.Given.{given_over};
 ghost use Rattle.source_tree.specs.Meaning.{Run};
@@ -88,8 +88,8 @@ pub fn run_over<S: Station, T: Store + Drop>(
         (S.history station.old) (S.state station.old)
         result (S.history station.new) (S.state station.new) }
     // 82 isn't reported of files that the store stands for.
-    ensures sound { (files : Files) → Represents T.Keeps S.Device store station.old files →
-        result ≢ Ended.Refused Refusal.Damaged }
+    ensures sound { OnStoredFiles T.Keeps S.Device store station.old
+        (λ files. result ≢ Ended.Refused Refusal.Damaged) }
 {
     run_law();
     let mut connectors = match connect(alloc, code.code(), store) {

@@ -1,12 +1,11 @@
 //! Compiling and running in one call.
 
-ghost use Rattle.std.specs.Prelude.{◌≡◌, ◌↔◌, [], All, Ok, OnErr, IfOk, IfErr};
+ghost use Rattle.std.specs.Prelude.{◌≡◌, ◌↔◌, All, Ok, OnErr, IfOk, IfErr};
 ghost use Rattle.source_tree.specs.declared.program.Program.{Program};
 ghost use Rattle.machine.specs.Ends.{IsDigit};
-ghost use Rattle.run_unit.specs.Trees.{IsTreeOf};
+ghost use Rattle.run_unit.specs.Trees.{IsTreeOf, HasTree, IfTextWithoutFiles};
 ghost use Rattle.run_unit.specs.Ends.{IsEndOfImage, ForSource};
-ghost use Rattle.run_unit.specs.Runs.{TextRuns, call_on};
-ghost use Rattle.run_unit.specs.Volume.{IsDamageFound};
+ghost use Rattle.run_unit.specs.Runs.{DamagedOnlyIfFound, RunsUnlessRefused};
 ghost use Rattle.run_unit.specs.declared.fault.CompileError.TheVariants.{Memory};
 
 use crate::compiling::compile;
@@ -33,18 +32,18 @@ pub fn run_source<S: Station>(
     ensures untouched { OnErr result (station.new ≡ station.old) }
     // Its image is never refused, and if memory runs out and the program has no files, nothing was done.
     ensures own { IfOk result IsEndOfImage }
-    ensures memory { (tree : Program) → IsTreeOf source.now tree → tree.selects ≡ [] →
-        result ≡ Ok (Ended.Refused Refusal.Memory) → station.new ≡ station.old }
-    // 82 tells that the volume can't be opened, and then nothing was shown or written, or that its roots and map sectors are sound, and a
+    ensures memory { IfTextWithoutFiles source.now
+        (result ≡ Ok (Ended.Refused Refusal.Memory) → station.new ≡ station.old) }
+    // 82 says that the volume can't be opened, and then nothing was shown or written, or that its roots and map sectors are sound, and a
     // file statement met damage.
-    ensures unwritten { S.is_honest station.old → result ≡ Ok (Ended.Refused Refusal.Damaged) →
-        IsDamageFound (S.state station.old) (S.state station.new) }
+    ensures unwritten { DamagedOnlyIfFound S.Device
+        (result ≡ Ok (Ended.Refused Refusal.Damaged)) station.old station.new }
     // A source text is run only if it has a tree. One with a tree is refused for want of memory alone.
-    ensures accepted { IfOk result (λ _. (tree : Program) × IsTreeOf source.now tree) }
+    ensures accepted { IfOk result (λ _. HasTree source.now) }
     ensures only { (tree : Program) → IsTreeOf source.now tree → IfErr result (λ e. e ≡ Memory) }
     // What the source text's tree means is run, without files or over the volume that there is.
-    ensures runs { S.is_honest station.old → IfOk result (λ ended.
-        TextRuns source.now (call_on S.Device ended day budget station.old station.new)) }
+    ensures runs { RunsUnlessRefused S.Device source.now result day budget station.old
+        station.new }
 {
     compiled_bytes();
     let image = compile(alloc, source)?;

@@ -8,10 +8,11 @@ ghost use Rattle.source_tree.specs.Given.{given_on, given_over};
 ghost use Rattle.source_tree.specs.Meaning.{Run};
 ghost use Rattle.code_image.specs.Table.{Runs};
 ghost use Rattle.file_image.specs.Files.{entries_of};
-ghost use Rattle.machine.specs.Ends.{IsDigit, LacksForChange};
+ghost use Rattle.machine.specs.Ends.{IsDigit};
 ghost use Rattle.run_unit.specs.Alone.{RunsAlone};
 ghost use Rattle.run_unit.specs.Ends.{HasCause, IsRun};
-ghost use Rattle.run_unit.specs.Volume.{RunsOnVolume, RunsOnHalves, IsOfHalves, IsUnwritten, IsDamageFound, lacks_half, lacks_either};
+ghost use Rattle.run_unit.specs.Runs.{call_on, DamagedOnlyIfFound, RunsOverHeld};
+ghost use Rattle.run_unit.specs.Volume.{RunsOnHalves, IsOfHalves, IsUnwritten, lacks_half, lacks_either};
 
 use crate::ended::{Ended, Refusal};
 use crate::no_volume::NoVolume;
@@ -71,12 +72,8 @@ fn run_on_halves<S: Station>(
     ensures honest { S.is_honest station.old ↔ S.is_honest station.new }
     ensures cause { HasCause result (S.failures station.old) (S.failures station.new) }
     ensures run { IsRun result }
-    ensures volume { S.is_honest station.old →
-        (files : Files) → HoldsHalf (S.state station.old).disk.present files →
-        (run : Run) → Runs code (given_over files (S.state station.old) day budget) run →
-        RunsOnVolume HoldsHalf (LacksForChange lacks_half (entries_of code.tables code.files))
-        run (S.history station.old) (S.state station.old)
-        result (S.history station.new) (S.state station.new) }
+    ensures volume { S.is_honest station.old → RunsOverHeld HoldsHalf lacks_half code
+        (call_on S.Device result day budget station.old station.new) }
     ensures halves { S.is_honest station.old → (run : Files → Run) →
         ((files : Files)
         → Runs code (given_over files (S.state station.old) day budget) (run files)) →
@@ -109,12 +106,8 @@ pub(crate) fn run_on_volume<S: Station>(
     ensures honest { S.is_honest station.old ↔ S.is_honest station.new }
     ensures cause { HasCause result (S.failures station.old) (S.failures station.new) }
     ensures run { IsRun result }
-    ensures volume { S.is_honest station.old →
-        (files : Files) → HoldsFiles (S.state station.old).disk.present files →
-        (run : Run) → Runs code (given_over files (S.state station.old) day budget) run →
-        RunsOnVolume HoldsFiles (LacksForChange lacks_either
-        (entries_of code.tables code.files)) run (S.history station.old) (S.state station.old)
-        result (S.history station.new) (S.state station.new) }
+    ensures volume { S.is_honest station.old → RunsOverHeld HoldsFiles lacks_either code
+        (call_on S.Device result day budget station.old station.new) }
     ensures halves { S.is_honest station.old → IsOfHalves (S.state station.old).disk.present →
         (run : Files → Run) →
         ((files : Files)
@@ -125,8 +118,8 @@ pub(crate) fn run_on_volume<S: Station>(
     ensures sound { S.is_honest station.old →
         (files : Files) → HoldsFiles (S.state station.old).disk.present files →
         result ≢ Ended.Refused Refusal.Damaged }
-    ensures unwritten { S.is_honest station.old → result ≡ Ended.Refused Refusal.Damaged
-        → IsDamageFound (S.state station.old) (S.state station.new) }
+    ensures unwritten { DamagedOnlyIfFound S.Device (result ≡ Ended.Refused Refusal.Damaged)
+        station.old station.new }
 {
     match PagedStore::open(alloc, station, CACHED_PAGES) {
         Ok(store) => run_over(alloc, code, station, store, day, budget),

@@ -14,6 +14,7 @@ use Rattle.records.specs.declared.fault.StoreFault.TheVariants.{Device}
 use Rattle.records.specs.Files.{Files}
 use Rattle.records.specs.Faults.{number_of as fault_number}
 use Rattle.file_recovery.specs.Recovered.{HoldsFiles, HoldsNone, IsRecoveryRefusal, IsReadCause}
+use Rattle.unfinished_volume.specs.Inverted.{inverted_state}
 use Rattle.volume_copies.specs.Same.{AreSameFiles}
 use Rattle.volume_copies.specs.declared.copied.VolumeCopy.{VolumeCopy}
 use Rattle.volume_copies.specs.declared.copied.VolumeCopy.TheVariants.{Done, Different}
@@ -99,3 +100,24 @@ pub record KeepsDevice {D : Type 0} (d : Devices D) (blamed : Type 0) (old new :
 pub record IsOpened {D : Type 0} (d : Devices D) (old new : D) : Type 0 where
   pub moments : Through (d.history old) (d.history new) (d.state new) (IsOpening (d.state old))
   pub unwritten : (d.state new ≡ d.state old) ⊎ (d.state new ≡ state_after_sync (d.state old))
+
+-- What a copy from one device to another leaves, if the devices are honest.
+module _ {D : Type 0} (d : Devices D) {E : Type 0} (e : Devices E) where
+  -- at each moment a crash leaves of the new device what was possible before, no volume, or the same files
+  abbrev pub IsSafeWhileCopied : D → E → E → Type 0
+  IsSafeWhileCopied old new later = d.is_honest old → e.is_honest new
+      → Through (e.history new) (e.history later) (e.state later) (EachImage (IsWhileCopied (d.state old) (e.state new)))
+
+  -- a copy that is done holds the same files, whatever a crash leaves of it
+  abbrev pub DoneOnlyIfCopied : D → E → Result VolumeCopy CopyError → E → Type 0
+  DoneOnlyIfCopied old new copy later = d.is_honest old → e.is_honest new → copy ≡ Ok Done
+      → IsCopied (d.state old) (e.state later)
+
+module _ {E : Type 0} (e : Devices E) where
+  -- the new device is no volume if the copy was abandoned
+  abbrev pub LeavesNoneIfAbandoned : E → Result VolumeCopy CopyError → E → Type 0
+  LeavesNoneIfAbandoned new copy later = e.is_honest new → IsAbandoned copy → EachImage IsNoVolume (e.state later)
+
+  -- a copy that differs is a volume, except for its root
+  abbrev pub DifferentOnlyIfHidden : E → Result VolumeCopy CopyError → E → Type 0
+  DifferentOnlyIfHidden new copy later = e.is_honest new → copy ≡ Ok Different → IsVolume (inverted_state (e.state later))

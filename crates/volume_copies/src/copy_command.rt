@@ -1,12 +1,11 @@
 //! The command `copy`.
-ghost use Rattle.std.specs.Prelude.{◌≡◌, ◌≤◌, Ok, Err, IfErr};
+ghost use Rattle.std.specs.Prelude.{◌≡◌, ◌≤◌, Err, IfErr};
 ghost use Rattle.station.specs.Calls.{OnlyWrites};
-ghost use Rattle.station.specs.History.{Through, EachImage};
-ghost use Rattle.unfinished_volume.specs.Inverted.{inverted_state};
-ghost use Rattle.volume_copies.specs.Copied.{IsCopied, IsOpened, IsVolume, IsNoVolume, IsWhileCopied, IsAbandoned, IsCopyRefusal, KeepsDevice, LeavesNew};
+ghost use Rattle.volume_copies.specs.Copied.{IsOpened, IsCopyRefusal, KeepsDevice, LeavesNew};
+ghost use Rattle.volume_copies.specs.Copied.{IsSafeWhileCopied, DoneOnlyIfCopied, LeavesNoneIfAbandoned, DifferentOnlyIfHidden};
 ghost use Rattle.volume_copies.specs.Blamed.{blamed_on_new};
 
-use crate::copied::{Copied, VolumeCopy};
+use crate::copied::Copied;
 use crate::copy_error::CopyError;
 use crate::new_volume::copy_files;
 use crate::progress::Progress;
@@ -37,21 +36,16 @@ pub fn copy_volume<D: Device, E: Device, P: Progress>(
     // same files.
     ensures keeps { KeepsDevice E.Device
         (result.copy ≡ Err (CopyError.New StoreFault.Device)) new result.device }
-    ensures moments { D.is_honest old.old → E.is_honest new →
-        Through (E.history new) (E.history result.device) (E.state result.device)
-        (EachImage (IsWhileCopied (D.state old.old) (E.state new))) }
+    ensures moments { IsSafeWhileCopied D.Device E.Device old.old new result.device }
 
     // A copy that is done holds the same files, whatever a crash leaves of it. No other one leaves
     // a volume, unless the old volume was refused or the new device failed.
-    ensures copied { D.is_honest old.old → E.is_honest new → result.copy ≡ Ok VolumeCopy.Done
-        → IsCopied (D.state old.old) (E.state result.device) }
-    ensures none { E.is_honest new → IsAbandoned result.copy
-        → EachImage IsNoVolume (E.state result.device) }
+    ensures copied { DoneOnlyIfCopied D.Device E.Device old.old new result.copy result.device }
+    ensures none { LeavesNoneIfAbandoned E.Device new result.copy result.device }
 
-    // A copy that differs is a volume but for its root. A refusal of the old volume leaves the new
-    // device as it was.
-    ensures different { E.is_honest new → result.copy ≡ Ok VolumeCopy.Different
-        → IsVolume (inverted_state (E.state result.device)) }
+    // A copy that differs is a volume, except for its root. A refusal of the old volume leaves the
+    // new device as it was.
+    ensures different { DifferentOnlyIfHidden E.Device new result.copy result.device }
     ensures untouched { IfErr result.copy (λ error. LeavesNew error new result.device) }
 {
     match recover(alloc, old) {

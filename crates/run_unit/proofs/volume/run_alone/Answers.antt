@@ -1,10 +1,9 @@
 use Rattle.std.proofs.Common.{◌∙◌, [], refl, sym, subst, ap}
-use Rattle.source_tree.specs.Given.{RunInput, given_on}
+use Rattle.source_tree.specs.Given.{given_on}
 use Rattle.code_image.specs.declared.code.Code.{Code}
-use Rattle.code_image.specs.Table.{Runs}
 use Rattle.run_unit.specs.Alone.{RunsAlone}
 use Rattle.run_unit.specs.declared.ended.Ended.{Ended}
-use Rattle.run_unit.proofs.Moments.{runs_as, given_none, ran_alone}
+use Rattle.run_unit.proofs.Moments.{runs_alone_as, ran_alone}
 use Rattle.run_unit.proofs.volume.run_alone.Goals as goal
 
 pub returns-clause-alone : goal.returns-clause-alone
@@ -15,9 +14,8 @@ returns-clause-alone g c = λ honest run runs.
     let new = g.S.Device.state c.run.new.station in
     let none = c.run_law.ensures.quiet c.args.code (given_on s c.args.day c.args.budget) run c.requires.files runs in
     let own = c.run.ensures.fileless (ap (λ (code : Code). code.files) c.in-Ok-new.ensures.code ∙ c.requires.files) in
-    let has = runs_as c.in-Ok-new.machine c.args.code c.args.day [] s c.args.budget run c.in-Ok-new.ensures.code
-    c.in-Ok-new.ensures.day
-    (subst (λ (given : RunInput). Runs c.args.code given run) (given_none s c.args.day c.args.budget) runs) in
+    let has = runs_alone_as c.in-Ok-new.machine c.args.code c.args.day s c.args.budget run c.in-Ok-new.ensures.code
+    c.in-Ok-new.ensures.day runs in
     let there = c.in-Ok.ensures.stands s.disk [] refl in
     subst (λ (ended : Ended). RunsAlone run past s ended later new) (sym c.of.ensures)
     (ran_alone _ _ _ run s none past later new c.run.result own

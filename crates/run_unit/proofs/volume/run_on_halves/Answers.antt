@@ -8,26 +8,24 @@ use Rattle.file_image.specs.Files.{entries_of}
 use Rattle.code_image.specs.Table.{Runs}
 use Rattle.machine.specs.Ends.{LacksForChange}
 use Rattle.run_unit.specs.declared.ended.Ended.TheVariants.{Refused}
+use Rattle.run_unit.specs.Runs.{call_on}
 use Rattle.run_unit.specs.Volume.{Unopened, NotOpened, HeldFiles, lacks_half}
-use Rattle.run_unit.proofs.Opening.{read_cause, left_closed, given_after, ran_on}
+use Rattle.run_unit.proofs.Opening.{read_cause, left_closed, given_after, ran_on, ran_opened}
 use Rattle.run_unit.proofs.volume.run_on_halves.Goals as goal
 
 pub returns-in-Ok-clause-volume : goal.returns-in-Ok-clause-volume
 returns-in-Ok-clause-volume g c = λ honest files held run runs.
     let s = g.S.Device.state c.args.station.now in
     let mid = g.S.Device.state c.open.new.device in
-    let same = given_after files s mid c.args.day c.args.budget (c.in-Ok.ensures.state honest) in
     let own = c.one_list_of_files.ensures s.disk.present (files_of c.in-Ok.store.files.items) files
     (c.in-Ok.ensures.holds honest) held in
-    ran_on Holds (LacksForChange lacks_half (entries_of c.args.code.tables c.args.code.files))
-    run (g.S.Device.history c.args.station.now) (g.S.Device.history c.open.new.device)
-    (g.S.Device.history c.run_over.new.station)
-    s mid (g.S.Device.state c.run_over.new.station) c.run_over.result
-    (c.open.ensures.moments honest) (c.in-Ok.ensures.state honest)
+    ran_opened Holds (LacksForChange lacks_half (entries_of c.args.code.tables c.args.code.files)) c.args.code files run
+    (call_on g.S.Device c.run_over.result c.args.day c.args.budget c.args.station.now c.run_over.new.station)
+    (g.S.Device.history c.open.new.device) mid (c.open.ensures.moments honest) (c.in-Ok.ensures.state honest) runs
     (c.run_over.ensures.runs files (record {
       honest = c.open.ensures.only.honest.0 honest;
       there = subst (λ (l : Files). Represents c.in-Ok.store mid.disk l) own (c.in-Ok.ensures.stands honest);
-    }) run (subst (λ (given : RunInput). Runs c.args.code given run) same runs))
+    }) run)
 
 pub returns-in-Ok-clause-halves : goal.returns-in-Ok-clause-halves
 returns-in-Ok-clause-halves g c = λ honest run runs.

@@ -2,7 +2,6 @@ use Rattle.std.proofs.Common.{◌∙◌, ⊎_elim, List, sym, subst, ap, inl, in
 use Rattle.station.specs.Disk.{Sector}
 use Rattle.half_store.specs.Half.{Holds as HoldsHalf}
 use Rattle.volume_format.specs.Volume.{Holds as HoldsTrees}
-use Rattle.file_recovery.specs.Recovered.{HoldsFiles}
 use Rattle.file_recovery.proofs.Foreign.{half_foreign, half_is_foreign}
 use Rattle.file_recovery.proofs.TwoStores.{either_cause}
 use Rattle.half_store.specs.Opened.{IsReadCause}
@@ -11,35 +10,26 @@ use Rattle.file_image.specs.Files.{entries_of}
 use Rattle.code_image.specs.Table.{Runs}
 use Rattle.machine.specs.Ends.{LacksForChange}
 use Rattle.run_unit.specs.declared.ended.Ended.TheVariants.{Refused}
-use Rattle.run_unit.specs.Volume.{Unopened, NotOpened, lacks_half, lacks_either}
-use Rattle.run_unit.proofs.Moments.{lacking_under}
+use Rattle.run_unit.specs.Runs.{call_on}
+use Rattle.run_unit.specs.Volume.{Unopened, NotOpened}
 use Rattle.run_unit.proofs.Opening.{read_cause, left_closed, no_layout}
-use Rattle.run_unit.proofs.Opening.{given_after, given_later, present_after, unwritten_then, lacks_trees, ran_on}
-use Rattle.run_unit.proofs.Opening.{on_volume_then, on_halves_then, on_either}
+use Rattle.run_unit.proofs.Opening.{given_later, present_after, unwritten_then, lacks_trees, ran_opened, trees_too}
+use Rattle.run_unit.proofs.Opening.{halves_looked_at, on_halves_then}
 use Rattle.run_unit.proofs.volume.run_on_volume.Goals as goal
 
 pub returns-in-Ok-clause-volume : goal.returns-in-Ok-clause-volume
 returns-in-Ok-clause-volume g c = λ honest files held run runs.
     let s = g.S.Device.state c.args.station.now in
-    let mid = g.S.Device.state c.open.new.device in
-    let same = given_after files s mid c.args.day c.args.budget (c.in-Ok.ensures.state honest) in
+    let call = call_on g.S.Device c.run_over.result c.args.day c.args.budget
+    c.args.station.now c.run_over.new.station in
+    let entries = entries_of c.args.code.tables c.args.code.files in
     ⊎_elim
-    (λ trees.
-    on_either HoldsTrees HoldsFiles
-    (λ image files is. inl is) run (LacksForChange lacks_trees (entries_of c.args.code.tables c.args.code.files))
-    (LacksForChange lacks_either (entries_of c.args.code.tables c.args.code.files))
-    (λ fault old now. lacking_under lacks_trees lacks_either (λ fault image is_new name before after lacks. inl lacks)
-    (entries_of c.args.code.tables c.args.code.files) fault run old now) (g.S.Device.history c.args.station.now) s
-    c.run_over.result
-    (g.S.Device.history c.run_over.new.station) (g.S.Device.state c.run_over.new.station)
-    (ran_on HoldsTrees (LacksForChange lacks_trees (entries_of c.args.code.tables c.args.code.files))
-    run (g.S.Device.history c.args.station.now) (g.S.Device.history c.open.new.device)
-    (g.S.Device.history c.run_over.new.station)
-    s mid (g.S.Device.state c.run_over.new.station) c.run_over.result (c.open.ensures.moments honest)
-    (c.in-Ok.ensures.state honest)
+    (λ trees. trees_too entries run call
+    (ran_opened HoldsTrees (LacksForChange lacks_trees entries) c.args.code files run call
+    (g.S.Device.history c.open.new.device) (g.S.Device.state c.open.new.device) (c.open.ensures.moments honest)
+    (c.in-Ok.ensures.state honest) runs
     (c.run_over.ensures.runs files
-    (record { honest = c.open.ensures.honest.0 honest; there = c.in-Ok.ensures.stands honest files trees }) run
-    (subst (λ (given : RunInput). Runs c.args.code given run) same runs))))
+    (record { honest = c.open.ensures.honest.0 honest; there = c.in-Ok.ensures.stands honest files trees }) run)))
     (λ half. absurd (c.in-Ok.ensures.foreign honest (half_is_foreign s.disk.present files half)))
     held
 
@@ -61,27 +51,13 @@ returns-in-Ok-clause-sound g c = λ honest files held.
 
 pub returns-in-Layout-clause-volume : goal.returns-in-Layout-clause-volume
 returns-in-Layout-clause-volume g c = λ honest files held run runs.
-    let s = g.S.Device.state c.args.station.now in
-    let mid = g.S.Device.state c.open.new.device in
-    let as_was = c.in-Err.ensures.unwritten honest in
+    let call = call_on g.S.Device c.run_on_halves.result c.args.day c.args.budget
+    c.args.station.now c.run_on_halves.new.station in
     ⊎_elim
     (λ trees. absurd (no_layout (subst IsReadCause c.in-Layout.is (c.in-Err.ensures.opens honest files trees))))
-    (λ half.
-    on_either HoldsHalf HoldsFiles
-    (λ image files is. inr is) run (LacksForChange lacks_half (entries_of c.args.code.tables c.args.code.files))
-    (LacksForChange lacks_either (entries_of c.args.code.tables c.args.code.files))
-    (λ fault old now. lacking_under lacks_half lacks_either (λ fault image is_new name before after lacks. inr lacks)
-    (entries_of c.args.code.tables c.args.code.files) fault run old now) (g.S.Device.history c.args.station.now) s
-    c.run_on_halves.result
-    (g.S.Device.history c.run_on_halves.new.station) (g.S.Device.state c.run_on_halves.new.station)
-    (on_volume_then HoldsHalf (LacksForChange lacks_half (entries_of c.args.code.tables c.args.code.files))
-    run (g.S.Device.history c.args.station.now) (g.S.Device.history c.open.new.device)
-    (g.S.Device.history c.run_on_halves.new.station)
-    s mid (g.S.Device.state c.run_on_halves.new.station) c.run_on_halves.result (c.open.ensures.moments honest) as_was
-    (c.run_on_halves.ensures.volume (c.open.ensures.honest.0 honest) files
-    (subst (λ (image : List Sector). HoldsHalf image files) (sym (present_after s mid as_was)) half) run
-    (subst (λ (given : RunInput). Runs c.args.code given run) (given_later files s mid c.args.day c.args.budget as_was)
-    runs))))
+    (λ half. halves_looked_at c.args.code call (g.S.Device.history c.open.new.device)
+    (g.S.Device.state c.open.new.device) (c.open.ensures.moments honest) (c.in-Err.ensures.unwritten honest)
+    (c.run_on_halves.ensures.volume (c.open.ensures.honest.0 honest)) files half run runs)
     held
 
 pub returns-in-Layout-clause-halves : goal.returns-in-Layout-clause-halves
