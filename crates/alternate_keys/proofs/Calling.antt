@@ -6,7 +6,7 @@ use Rattle.station.specs.declared.device.Device.{Ghosts as Devices}
 use Rattle.station.proofs.Calls.{reads_then}
 use Rattle.pages.specs.Image.{Map, Volume}
 use Rattle.station.specs.Disk.{Disk}
-use Rattle.pages.specs.Pages.{map_now, sectors_of, Agrees, IsOpen, SameCommitted}
+use Rattle.pages.specs.Pages.{map_now, sectors_of, Agrees, SameCommitted}
 use Rattle.pages.specs.declared.page_map.PageMap.{PageMap}
 use Rattle.btree.specs.Calls.{pages_on}
 use Rattle.btree.specs.Entries.{Entry}
@@ -27,11 +27,10 @@ module _ {D : Type 0} (d : Devices D) where
     committed = looks.unchanged.committed;
     catalog = ap (λ (m : Map). m.catalog) (looks.unchanged.map []);
     agrees = looks.agrees;
-    is_open = looks.is_open;
   }
 
-  pub edits_nothing : (p : PageMap) (a : D) → IsOpen p → EditsPages d ⊥ p a p a
-  edits_nothing p a is = looks_edits ⊥ p p a a (looks_nowhere d p a is)
+  pub edits_nothing : (p : PageMap) (a : D) → EditsPages d ⊥ p a p a
+  edits_nothing p a = looks_edits ⊥ p p a a (looks_nowhere d p a)
 
   pub edits_blamed : (A B : Type 0) (p q : PageMap) (a b : D) → (B → A) → EditsPages d A p a q b → EditsPages d B p a q
       b
@@ -40,7 +39,6 @@ module _ {D : Type 0} (d : Devices D) where
     committed = edits.committed;
     catalog = edits.catalog;
     agrees = edits.agrees;
-    is_open = edits.is_open;
   }
 
   pub edits_then : (A B C : Type 0) (p q r : PageMap) (a b c : D) → (C → A ⊎ B) → EditsPages d A p a q b → EditsPages d
@@ -55,7 +53,6 @@ module _ {D : Type 0} (d : Devices D) where
     };
     catalog = second.catalog ∙ first.catalog;
     agrees = λ honest agrees. second.agrees (first.only.honest.0 honest) (first.agrees honest agrees);
-    is_open = second.is_open;
   }
 
   pub sectors_still : (A : Type 0) (p q : PageMap) (a b : D) → OnlyReads d A a b → SameCommitted p q
@@ -89,7 +86,7 @@ module _ {D : Type 0} (d : Devices D) where
   -- and where the root of the catalog may be another
   pub prepares_of : (A : Type 0) (p q : PageMap) (a b : D) → EditsPages d A p a q b → Prepares d A p a q b
   prepares_of A p q a b edits =
-      record { only = edits.only; committed = edits.committed; agrees = edits.agrees; is_open = edits.is_open }
+      record { only = edits.only; committed = edits.committed; agrees = edits.agrees }
 
   pub prepares_then : (A B C : Type 0) (p q r : PageMap) (a b c : D) → (C → B) → EditsPages d A p a q b
       → Prepares d B q b r c → Prepares d C p a r c
@@ -101,12 +98,11 @@ module _ {D : Type 0} (d : Devices D) where
       spent = second.committed.spent ∙ first.committed.spent;
     };
     agrees = λ honest agrees. second.agrees (first.only.honest.0 honest) (first.agrees honest agrees);
-    is_open = second.is_open;
   }
 
   pub prepares_set : (A B : Type 0) (p q r : PageMap) (a b : D) → (B → A) → EditsPages d A p a q b → SameCommitted q r
-      → ((disk : Disk) → Agrees q disk → Agrees r disk) → IsOpen r → Prepares d B p a r b
-  prepares_set A B p q r a b from edits same agrees is_open = record {
+      → ((disk : Disk) → Agrees q disk → Agrees r disk) → Prepares d B p a r b
+  prepares_set A B p q r a b from edits same agrees = record {
     only = reads_blamed d A B a b from edits.only;
     committed = record {
       volume = same.volume ∙ edits.committed.volume;
@@ -114,5 +110,4 @@ module _ {D : Type 0} (d : Devices D) where
       spent = same.spent ∙ edits.committed.spent;
     };
     agrees = λ honest was. agrees (d.state b).disk (edits.agrees honest was);
-    is_open = is_open;
   }

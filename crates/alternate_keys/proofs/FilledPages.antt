@@ -10,7 +10,7 @@ use Rattle.station.specs.Disk.{Disk, Sector}
 use Rattle.pages.specs.Changes.{list_after}
 use Rattle.pages.specs.Image.{NamesOnce, map_of, pages_in, page_at}
 use Rattle.pages.specs.Needed.{filled_count}
-use Rattle.pages.specs.Pages.{map_now, is_spent, committed_of, filled_of, Agrees, HasEachPage, IsOpen, SameCommitted}
+use Rattle.pages.specs.Pages.{map_now, is_spent, committed_of, filled_of, Agrees, HasEachPage, SameCommitted}
 use Rattle.pages.specs.Pages.{FewFree, MapBounds}
 use Rattle.pages.specs.Use.{free_count}
 use Rattle.pages.specs.Volumes.{volume_of}
@@ -65,23 +65,23 @@ all_filled pages (c ∷ changes) once within each =
     )
 
 -- Where no page number is left after a call, few sectors are free besides those that the pages with bytes take.
-free_filled : (p : PageMap) → FewFree → IsOpen p → is_spent p ≡ false → HasEachPage p
+free_filled : (p : PageMap) → FewFree → is_spent p ≡ false → HasEachPage p
     → free_count (committed_of p) < filled_of p
-free_filled p law ready unspent each =
+free_filled p law unspent each =
     let table = p.volume.table in
     let changes = p.changes.items in
     let long = length-map table (page_at []) in
-    let filled = all_filled (pages_in [] table) changes (ready unspent).once
+    let filled = all_filled (pages_in [] table) changes (p.ready unspent).once
     (All-weaker (λ (c : Change). (0 < c.page) × (c.page < length table))
     (IsWithin (pages_in [] table))
-    (λ c is. (is.0, omega (arith, is.1, long))) changes (ready unspent).pages)
+    (λ c is. (is.0, omega (arith, is.1, long))) changes (p.ready unspent).pages)
     (λ page high low. each [] page (high, omega (arith, low, long))) in
-    omega (arith, law p ready unspent each, filled, length-map changes page_in)
+    omega (arith, law p unspent each, filled, length-map changes page_in)
 
-pub room_filled : (old new : PageMap) (n : ℕ) → FewFree → IsOpen new → SameCommitted old new → is_spent old ≡ false
+pub room_filled : (old new : PageMap) (n : ℕ) → FewFree → SameCommitted old new → is_spent old ≡ false
     → HasEachPage new → filled_of new ≤ filled_of old + n → free_count (committed_of old) < filled_of old + n
-room_filled old new n law ready same unspent each few =
-    let free = free_filled new law ready (same.spent ∙ unspent) each in
+room_filled old new n law same unspent each few =
+    let free = free_filled new law (same.spent ∙ unspent) each in
     let still : free_count (committed_of new) ≡ free_count (committed_of old) =
     ap (λ (v : VolumeMap). free_count (volume_of v)) same.volume in
     omega (arith, free, still, few)

@@ -17,7 +17,7 @@ use Rattle.pages.specs.Image.{Map, Volume, Reads, map_of}
 use Rattle.pages.specs.Layout.{map_count, version_of}
 use Rattle.pages.specs.Pages.{map_now, catalog_of, mark_of, is_spent, committed_of, sectors_of, filled_of}
 use Rattle.pages.specs.Pages.{changed_pages_of}
-use Rattle.pages.specs.Pages.{generation_of, next_generation, Agrees, IsOpen, KeepsCommitted, SameCommitted}
+use Rattle.pages.specs.Pages.{generation_of, next_generation, Agrees, KeepsCommitted, SameCommitted}
 use Rattle.pages.specs.Use.{free_count}
 use Rattle.pages.specs.declared.error.PagesError.{PagesError}
 use Rattle.pages.specs.declared.error.PagesError.TheVariants as pages
@@ -57,14 +57,13 @@ not_second First never = refl
 not_second Second never = absurd (never refl)
 
 -- a call on pages alone
-pub edits_kept : {D : Type 0} (d : Devices D) (p q : PageMap) (a : D) → IsOpen p → KeepsCommitted p q
+pub edits_kept : {D : Type 0} (d : Devices D) (p q : PageMap) (a : D) → KeepsCommitted p q
     → EditsPages d ⊥ p a q a
-edits_kept d p q a is keeps = record {
+edits_kept d p q a keeps = record {
   only = reads_nothing d a;
   committed = keeps.committed;
   catalog = keeps.catalog;
   agrees = λ honest agrees. keeps.agrees (d.state a).disk agrees;
-  is_open = keeps.is_open is;
 }
 
 map_marked : (p q : PageMap) (image : List Sector) (root : ℕ) (after : List (Option Sector)) → SameCommitted p q

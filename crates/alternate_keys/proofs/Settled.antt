@@ -14,7 +14,7 @@ use Rattle.pages.specs.Image.{Map, map_of}
 use Rattle.pages.specs.Changes.{BeforeOrAfter}
 use Rattle.pages.specs.Commits.{IfUnchanged, IfAtRest, IsAsCommitted, LeavesOldOrNew, DoesNothing}
 use Rattle.pages.specs.Pages.{map_now, catalog_of, mark_of, committed_of, changed_pages_of, next_generation, HasChanges}
-use Rattle.pages.specs.Pages.{is_spent, Agrees, IsOpen, OpenBounds}
+use Rattle.pages.specs.Pages.{is_spent, Agrees, OpenBounds}
 use Rattle.pages.specs.declared.page_map.PageMap.{PageMap}
 use Rattle.records.specs.Files.{Files}
 use Rattle.records.specs.Stores.{Either}
@@ -104,11 +104,11 @@ rests_then p q old new before after agrees committed rested same still few small
 module _ {D : Type 0} (d : Devices D) where
   -- after a commit the store holds the files after it, whether something was changed or not
   pub commit_stands : (p q : PageMap) (a b : D) (before after : Files) → IsChanged d p a before after → OpenBounds
-      → IsOpen p → is_spent p ≡ false → Agrees q (d.state b).disk → IsAsCommitted q → changed_pages_of q ≡ []
+      → is_spent p ≡ false → Agrees q (d.state b).disk → IsAsCommitted q → changed_pages_of q ≡ []
       → (HasChanges p → map_now q (d.state b).disk.present ≡ next_generation (map_now p (d.state a).disk.present))
       → IfAtRest p (q ≡ p) → IfUnchanged p (DoesNothing d a b) → Represents q (d.state b).disk after
-  commit_stands p q a b before after changed bounds is_open unspent agrees committed rested advances rests nothing =
-      let bounded = bounds p (d.state a).disk.present is_open unspent in
+  commit_stands p q a b before after changed bounds unspent agrees committed rested advances rests nothing =
+      let bounded = bounds p (d.state a).disk.present unspent in
       ⊎_elim (λ changes. stands_then q (d.state b).disk (next_generation (map_now p (d.state a).disk.present)) after
       agrees committed rested (advances changes) changed.will)
       (λ none. rests_then p q (d.state a).disk (d.state b).disk before after agrees committed rested

@@ -2,7 +2,7 @@
 use Rattle.std.specs.Prelude.{◌≡◌, ◌<◌, ◌++◌, true, ℕ, zero, suc, List, [], ◌∷◌, length, slice_index_or}
 use Rattle.station.specs.Calls.{OnlyReads}
 use Rattle.station.specs.declared.device.Device.{Ghosts as Devices}
-use Rattle.pages.specs.Pages.{map_now, Agrees, IsOpen, SameCommitted}
+use Rattle.pages.specs.Pages.{map_now, Agrees, SameCommitted}
 use Rattle.pages.specs.declared.page_map.PageMap.{PageMap}
 use Rattle.btree.specs.Calls.{pages_on}
 use Rattle.btree.specs.Rooted.{RootedTree}
@@ -85,4 +85,3 @@ module _ {D : Type 0} (d : Devices D) where
     pub only : OnlyReads d blamed device device'
     pub committed : SameCommitted old new
     pub agrees : d.is_honest device → Agrees old (d.state device).disk → Agrees new (d.state device').disk
-    pub is_open : IsOpen new

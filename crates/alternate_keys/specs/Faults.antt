@@ -2,18 +2,9 @@
 use Rattle.std.specs.Prelude.{⊤}
 use Rattle.records.specs.declared.fault.StoreFault.{StoreFault}
 use Rattle.records.specs.declared.fault.StoreFault.TheVariants.{Device, Full, Damaged, Memory, Spent, Layout, Old}
+pub use Rattle.volume_format.specs.Faults.{IsReadFault}
 
--- a call that only reads is refused for each reason but want of room, another store's layout and an earlier mark
-abbrev pub IsReadFault : StoreFault → Type 0
-IsReadFault Device = ⊤
-IsReadFault Full = ⊥
-IsReadFault Damaged = ⊤
-IsReadFault Memory = ⊤
-IsReadFault Spent = ⊤
-IsReadFault Layout = ⊥
-IsReadFault Old = ⊥
-
--- one that changes pages is refused for each reason but another store's layout and an earlier mark
+-- a call that changes pages is refused for each reason but another store's layout and an earlier mark
 abbrev pub IsWriteFault : StoreFault → Type 0
 IsWriteFault Device = ⊤
 IsWriteFault Full = ⊤

@@ -1,7 +1,7 @@
 //! A change of a row of a file, in its trees, in the catalog, and on the disk.
 ghost use Rattle.std.specs.Prelude.{◌≡◌, ◌⊎◌, ◌≤◌, ◌<◌, ◌+◌, ◌*◌, true, false, Err, length, IfOk, OnOk, IfErr};
 ghost use Rattle.station.specs.Calls.{OnlyWrites};
-ghost use Rattle.pages.specs.Pages.{map_now, is_spent, committed_of, sectors_of, changed_pages_of, next_generation, IsOpen, IsUnchanged};
+ghost use Rattle.pages.specs.Pages.{map_now, is_spent, committed_of, sectors_of, changed_pages_of, next_generation, IsUnchanged};
 ghost use Rattle.pages.specs.Use.{free_count};
 ghost use Rattle.btree.specs.Results.{FewChanged};
 ghost use Rattle.chains.specs.Chain.{pages_for};
@@ -35,7 +35,6 @@ pub(crate) fn change_in<D: Device>(
     number: u64,
     bytes: &[u8],
 ) -> Result<Outcome, StoreFault>
-    requires open { IsOpen pages.old }
     requires unspent { is_spent pages.old ≡ false }
     requires sectors { sectors_of pages.old ≤ D.sectors device.old }
     requires asked { IsAsked verb (spec_of file.now) number bytes.now }
@@ -57,7 +56,6 @@ pub(crate) fn change_in<D: Device>(
     ensures unwritten { (result ≡ Err StoreFault.Full) ⊎ (result ≡ Err StoreFault.Old)
         → D.is_honest device.old → D.state device.new ≡ D.state device.old }
     ensures unspent { OnOk result (is_spent pages.new ≡ false) }
-    ensures open { IsOpen pages.new }
     ensures same_sectors { sectors_of pages.new ≡ sectors_of pages.old }
     ensures spent { result ≡ Err StoreFault.Spent → is_spent pages.old ≡ true }
     ensures cause { IfErr result IsWriteFault }
@@ -78,7 +76,6 @@ fn prepare<D: Device>(
     number: u64,
     bytes: &[u8],
 ) -> Result<Outcome, StoreFault>
-    requires open { IsOpen pages.old }
     requires unspent { is_spent pages.old ≡ false }
     requires sectors { sectors_of pages.old ≤ D.sectors device.old }
     requires asked { IsAsked verb (spec_of file.now) number bytes.now }

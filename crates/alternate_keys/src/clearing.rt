@@ -1,6 +1,6 @@
 //! The trees of a file give up their pages.
 ghost use Rattle.std.specs.Prelude.{◌≡◌, ◌≤◌, ◌++◌, true, Err, length, OnOk, IfErr};
-ghost use Rattle.pages.specs.Pages.{is_spent, sectors_of, filled_of, IsOpen};
+ghost use Rattle.pages.specs.Pages.{is_spent, sectors_of, filled_of};
 ghost use Rattle.btree.specs.Calls.{pages_on};
 ghost use Rattle.records.specs.Stores.{key_count};
 ghost use Rattle.volume_format.specs.Forest.{IsForest};
@@ -23,7 +23,6 @@ pub(crate) fn clear_trees<D: Device>(
     device: &mut D,
     value: &[u8],
 ) -> Result<(), StoreFault>
-    requires open { IsOpen pages.old }
     requires sectors { sectors_of pages.old ≤ D.sectors device.old }
     requires value { length value.now ≡ 83 }
     ensures edits { EditsPages D.Device (result ≡ Err StoreFault.Device) pages.old device.old
@@ -46,7 +45,6 @@ pub(crate) fn clear_among<D: Device>(
     pages: &mut PageMap,
     device: &mut D,
 ) -> Result<(), StoreFault>
-    requires open { IsOpen pages.old }
     requires sectors { sectors_of pages.old ≤ D.sectors device.old }
     ensures edits { EditsPages D.Device (result ≡ Err StoreFault.Device) pages.old device.old
         pages.new device.new }
@@ -71,7 +69,6 @@ fn clear_rows<D: Device>(
     device: &mut D,
     value: &[u8],
 ) -> Result<(), StoreFault>
-    requires open { IsOpen pages.old }
     requires sectors { sectors_of pages.old ≤ D.sectors device.old }
     requires value { length value.now ≡ 83 }
     ensures edits { EditsPages D.Device (result ≡ Err StoreFault.Device) pages.old device.old
@@ -100,7 +97,6 @@ fn clear_tree<D: Device>(
     value: &[u8],
     key: u8,
 ) -> Result<(), StoreFault>
-    requires open { IsOpen pages.old }
     requires sectors { sectors_of pages.old ≤ D.sectors device.old }
     requires value { length value.now ≡ 83 }
     requires key { key_count (KeyOfReference.Alternate key) ≤ 7 }
@@ -126,7 +122,6 @@ fn clear_alternates<D: Device>(
     device: &mut D,
     value: &[u8],
 ) -> Result<(), StoreFault>
-    requires open { IsOpen pages.old }
     requires sectors { sectors_of pages.old ≤ D.sectors device.old }
     requires value { length value.now ≡ 83 }
     ensures edits { EditsPages D.Device (result ≡ Err StoreFault.Device) pages.old device.old

@@ -1,7 +1,7 @@
 //! Changed pages are put on the disk.
 ghost use Rattle.std.specs.Prelude.{◌≡◌, ◌≤◌, Err, true, false, IfOk, OnOk, IfErr};
 ghost use Rattle.station.specs.Calls.{OnlyWrites};
-ghost use Rattle.pages.specs.Pages.{is_spent, mark_of, sectors_of, IsFull, IsOpen};
+ghost use Rattle.pages.specs.Pages.{is_spent, mark_of, sectors_of, IsFull};
 ghost use Rattle.records.specs.Files.{Files};
 ghost use Rattle.records.specs.Stores.{is_change};
 ghost use Rattle.alternate_keys.specs.Faults.{IsWriteFault};
@@ -15,7 +15,6 @@ use volume_format::to_fault;
 
 /// Puts the pages on the disk: each moment leaves the files before, or those after.
 pub(crate) fn commit_pages<D: Device>(pages: &mut PageMap, device: &mut D) -> Result<(), StoreFault>
-    requires open { IsOpen pages.old }
     requires unspent { is_spent pages.old ≡ false }
     requires sectors { sectors_of pages.old ≤ D.sectors device.old }
     ensures only { OnlyWrites D.Device (result ≡ Err StoreFault.Device) device.old device.new }
@@ -26,7 +25,6 @@ pub(crate) fn commit_pages<D: Device>(pages: &mut PageMap, device: &mut D) -> Re
     ensures full { result ≡ Err StoreFault.Full → IsFull pages.old }
     ensures mark { mark_of pages.new ≡ mark_of pages.old }
     ensures unspent { OnOk result (is_spent pages.new ≡ false) }
-    ensures open { IsOpen pages.new }
     ensures same_sectors { sectors_of pages.new ≡ sectors_of pages.old }
     ensures spent { result ≡ Err StoreFault.Spent → is_spent pages.old ≡ true }
     ensures cause { IfErr result IsWriteFault }
@@ -56,7 +54,6 @@ pub(crate) fn finish<D: Device>(
     device: &mut D,
     outcome: Outcome,
 ) -> Result<Outcome, StoreFault>
-    requires open { IsOpen pages.old }
     requires unspent { is_spent pages.old ≡ false }
     requires sectors { sectors_of pages.old ≤ D.sectors device.old }
     ensures only { OnlyWrites D.Device (result ≡ Err StoreFault.Device) device.old device.new }
@@ -71,7 +68,6 @@ pub(crate) fn finish<D: Device>(
     ensures unwritten { result ≡ Err StoreFault.Full → D.is_honest device.old
         → D.state device.new ≡ D.state device.old }
     ensures unspent { OnOk result (is_spent pages.new ≡ false) }
-    ensures open { IsOpen pages.new }
     ensures same_sectors { sectors_of pages.new ≡ sectors_of pages.old }
     ensures spent { result ≡ Err StoreFault.Spent → is_spent pages.old ≡ true }
     ensures cause { IfErr result IsWriteFault }

@@ -1,18 +1,15 @@
 //! Whether the catalog has room for one more file.
-ghost use Rattle.std.specs.Prelude.{◌≡◌, ◌≤◌, ◌<◌, true, false, length, Err, IfOk, IfErr, IfSome};
-ghost use Rattle.pages.specs.Pages.{is_spent, sectors_of, IsOpen};
-ghost use Rattle.btree.specs.Calls.{OnTree};
-ghost use Rattle.btree.specs.Entries.{HasLengths, entries_of, first_entry, first_entry_after};
+ghost use Rattle.std.specs.Prelude.{◌≡◌, ◌≤◌, ◌<◌, true, false, length, Err, IfOk, IfErr};
+ghost use Rattle.pages.specs.Pages.{is_spent, sectors_of};
 ghost use Rattle.volume_format.specs.Calls.{LooksAt};
 ghost use Rattle.alternate_keys.specs.Created.{OnFiles};
 ghost use Rattle.alternate_keys.specs.Faults.{IsReadFault};
 
-use btree::{Entry, Tree};
 use pages::PageMap;
 use records::StoreFault;
 use station::Device;
 use std::alloc::Global;
-use volume_format::{catalog_tree, to_fault};
+use volume_format::{catalog_tree, first_in, next_in};
 
 /// How many files a volume may have.
 pub(crate) const MOST_FILES: u8 = 255;
@@ -23,7 +20,6 @@ pub(crate) fn is_full<D: Device>(
     pages: &mut PageMap,
     device: &mut D,
 ) -> Result<bool, StoreFault>
-    requires open { IsOpen pages.old }
     requires sectors { sectors_of pages.old ≤ D.sectors device.old }
     ensures looks { LooksAt D.Device (result ≡ Err StoreFault.Device) pages.old device.old pages.new
         device.new }
@@ -45,56 +41,4 @@ pub(crate) fn is_full<D: Device>(
         }
     }
     Ok(true)
-}
-
-/// The first entry of a tree.
-pub(crate) fn first_in<D: Device>(
-    tree: &Tree,
-    pages: &mut PageMap,
-    device: &mut D,
-) -> Result<Option<Entry>, StoreFault>
-    requires open { IsOpen pages.old }
-    requires sectors { sectors_of pages.old ≤ D.sectors device.old }
-    requires short { tree.now.layout.key_length ≤ 128 }
-    ensures looks { LooksAt D.Device (result ≡ Err StoreFault.Device) pages.old device.old pages.new
-        device.new }
-    ensures entry { OnTree D.Device tree.now.layout tree.now.root pages.old device.old (λ levels.
-        IfOk result (λ entry. entry ≡ first_entry (entries_of tree.now.layout levels))) }
-    ensures damaged { OnTree D.Device tree.now.layout tree.now.root pages.old device.old
-        (λ levels. result ≡ Err StoreFault.Damaged → ⊥) }
-    ensures lengths { IfOk result (λ entry. IfSome entry (HasLengths tree.now.layout)) }
-    ensures spent { result ≡ Err StoreFault.Spent → is_spent pages.old ≡ true }
-    ensures cause { IfErr result IsReadFault }
-{
-    match tree.first(pages, device) {
-        Ok(entry) => Ok(entry),
-        Err(error) => Err(to_fault(error)),
-    }
-}
-
-/// The entry after one of a tree.
-pub(crate) fn next_in<D: Device>(
-    tree: &Tree,
-    pages: &mut PageMap,
-    device: &mut D,
-    entry: &Entry,
-) -> Result<Option<Entry>, StoreFault>
-    requires open { IsOpen pages.old }
-    requires sectors { sectors_of pages.old ≤ D.sectors device.old }
-    requires short { tree.now.layout.key_length ≤ 128 }
-    ensures looks { LooksAt D.Device (result ≡ Err StoreFault.Device) pages.old device.old pages.new
-        device.new }
-    ensures entry { OnTree D.Device tree.now.layout tree.now.root pages.old device.old
-        (λ levels. IfOk result
-        (λ next. next ≡ first_entry_after (entries_of tree.now.layout levels) entry.now.key)) }
-    ensures damaged { OnTree D.Device tree.now.layout tree.now.root pages.old device.old
-        (λ levels. result ≡ Err StoreFault.Damaged → ⊥) }
-    ensures lengths { IfOk result (λ entry. IfSome entry (HasLengths tree.now.layout)) }
-    ensures spent { result ≡ Err StoreFault.Spent → is_spent pages.old ≡ true }
-    ensures cause { IfErr result IsReadFault }
-{
-    match tree.next(pages, device, entry.key()) {
-        Ok(next) => Ok(next),
-        Err(error) => Err(to_fault(error)),
-    }
 }

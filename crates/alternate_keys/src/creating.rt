@@ -2,7 +2,7 @@
 ghost use Rattle.std.specs.Prelude.{◌≡◌, ◌⊎◌, ◌≤◌, ◌<◌, ◌+◌, true, false, [], Err, IsErr, None, length, map, replicate, OnOk, IfOk, IfErr, IsOkUnless};
 ghost use Rattle.std.specs.List.{flat_map};
 ghost use Rattle.station.specs.Calls.{OnlyWrites};
-ghost use Rattle.pages.specs.Pages.{map_now, is_spent, catalog_of, mark_of, committed_of, sectors_of, changed_pages_of, next_generation, IsFull, IsOpen};
+ghost use Rattle.pages.specs.Pages.{map_now, is_spent, catalog_of, mark_of, committed_of, sectors_of, changed_pages_of, next_generation, IsFull};
 ghost use Rattle.pages.specs.Layout.{version_of};
 ghost use Rattle.pages.specs.Use.{free_count};
 ghost use Rattle.btree.specs.Calls.{pages_on};
@@ -40,7 +40,6 @@ pub(crate) fn create_in<D: Device>(
     device: &mut D,
     file: &FileSpec,
 ) -> Result<(), StoreFault>
-    requires open { IsOpen pages.old }
     requires unspent { is_spent pages.old ≡ false }
     requires sectors { sectors_of pages.old ≤ D.sectors device.old }
     ensures only { OnlyWrites D.Device (result ≡ Err StoreFault.Device) device.old device.new }
@@ -53,7 +52,6 @@ pub(crate) fn create_in<D: Device>(
         → D.is_honest device.old → D.state device.new ≡ D.state device.old }
     ensures takes { mark_of pages.old ≡ 0 → is_long (spec_of file.now) ≡ true → IsErr result }
     ensures unspent { OnOk result (is_spent pages.new ≡ false) }
-    ensures open { IsOpen pages.new }
     ensures same_sectors { sectors_of pages.new ≡ sectors_of pages.old }
     ensures spent { result ≡ Err StoreFault.Spent → is_spent pages.old ≡ true }
     ensures cause { IfErr result IsCreateFault }
@@ -102,7 +100,6 @@ fn add_listing<D: Device>(
     name: &[u8],
     listing: &[u8],
 ) -> Result<(), StoreFault>
-    requires open { IsOpen pages.old }
     requires sectors { sectors_of pages.old ≤ D.sectors device.old }
     requires name { length name.now ≤ 30 }
     requires listing { length listing.now ≡ 83 }
@@ -151,7 +148,6 @@ fn prepare_file<D: Device>(
     device: &mut D,
     file: &FileSpec,
 ) -> Result<(), StoreFault>
-    requires open { IsOpen pages.old }
     requires unspent { is_spent pages.old ≡ false }
     requires sectors { sectors_of pages.old ≤ D.sectors device.old }
     ensures prepares { Prepares D.Device (result ≡ Err StoreFault.Device) pages.old device.old

@@ -1,7 +1,7 @@
 //! An entry or a row is added to one tree among others.
 ghost use Rattle.std.specs.Prelude.{◌≡◌, ◌≤◌, ◌<◌, ◌+◌, true, false, Ok, Err, None, IsSome, length, IfErr};
 ghost use Rattle.station.specs.Calls.{OnlyReads};
-ghost use Rattle.pages.specs.Pages.{is_spent, catalog_of, committed_of, sectors_of, changed_pages_of, Agrees, IsOpen, SameCommitted, IsUnchanged};
+ghost use Rattle.pages.specs.Pages.{is_spent, catalog_of, committed_of, sectors_of, changed_pages_of, Agrees, SameCommitted, IsUnchanged};
 ghost use Rattle.pages.specs.Use.{free_count};
 ghost use Rattle.btree.specs.Calls.{IfAgrees, pages_on};
 ghost use Rattle.btree.specs.Entries.{entry_with, with_new_entry};
@@ -28,7 +28,6 @@ pub(crate) fn insert_among<D: Device>(
     key: &[u8],
     value: &[u8],
 ) -> Result<bool, StoreFault>
-    requires open { IsOpen pages.old }
     requires sectors { sectors_of pages.old ≤ D.sectors device.old }
     requires key { length key.now ≡ tree.old.layout.key_length }
     requires value { length value.now ≡ tree.old.layout.value_length }
@@ -53,7 +52,6 @@ pub(crate) fn insert_among<D: Device>(
     ensures catalog { catalog_of pages.new ≡ catalog_of pages.old }
     ensures agrees { IfAgrees D.Device pages.old device.old
         (Agrees pages.new (D.state device.new).disk) }
-    ensures open { IsOpen pages.new }
     ensures spent { result ≡ Err StoreFault.Spent → is_spent pages.old ≡ true }
     ensures cause { IfErr result IsWriteFault }
 {
@@ -71,7 +69,6 @@ pub(crate) fn enter_row<D: Device>(
     key: &[u8],
     value: &[u8],
 ) -> Result<bool, StoreFault>
-    requires open { IsOpen pages.old }
     requires sectors { sectors_of pages.old ≤ D.sectors device.old }
     requires key { length key.now ≡ rows.old.tree.layout.key_length }
     requires value { length value.now ≡ value_length rows.old }

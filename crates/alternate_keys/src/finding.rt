@@ -1,7 +1,7 @@
 //! Whether a file is there.
 ghost use Rattle.std.specs.Prelude.{◌≡◌, ◌≤◌, Err, true, length, take, IfOk, IfErr};
 ghost use Rattle.station.specs.Calls.{OnlyReads};
-ghost use Rattle.pages.specs.Pages.{map_now, is_spent, sectors_of, Agrees, IsOpen, IsUnchanged};
+ghost use Rattle.pages.specs.Pages.{map_now, is_spent, sectors_of, Agrees, IsUnchanged};
 ghost use Rattle.btree.specs.Calls.{IfAgrees};
 ghost use Rattle.records.specs.Rows.{same_bytes};
 ghost use Rattle.records.specs.Files.{Files, file_at, presence};
@@ -24,13 +24,11 @@ pub(crate) fn find_in<D: Device>(
     device: &mut D,
     file: &FileSpec,
 ) -> Result<Presence, StoreFault>
-    requires open { IsOpen pages.old }
     requires sectors { sectors_of pages.old ≤ D.sectors device.old }
     ensures only { OnlyReads D.Device (result ≡ Err StoreFault.Device) device.old device.new }
     ensures unchanged { IsUnchanged pages.old pages.new }
     ensures agrees { IfAgrees D.Device pages.old device.old
         (Agrees pages.new (D.state device.new).disk) }
-    ensures open { IsOpen pages.new }
     ensures presence { IfAgrees D.Device pages.old device.old
         ((files : Files) → MapHolds (map_now pages.old (D.state device.old).disk.present) files →
         IfOk result

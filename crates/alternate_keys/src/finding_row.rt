@@ -1,7 +1,7 @@
 //! A row is found by its prime key or number.
 ghost use Rattle.std.specs.Prelude.{◌≡◌, ◌≤◌, ◌<◌, true, List, Err, false, length, IfOk, IfSome, IfErr, IsOkUnless};
 ghost use Rattle.std.specs.Option.{option_map};
-ghost use Rattle.pages.specs.Pages.{is_spent, sectors_of, IsOpen};
+ghost use Rattle.pages.specs.Pages.{is_spent, sectors_of};
 ghost use Rattle.btree.specs.Calls.{IfAgrees, pages_on};
 ghost use Rattle.records.specs.Changes.{row_at};
 ghost use Rattle.records.specs.Rows.{Row as FileRow};
@@ -36,7 +36,6 @@ pub(crate) fn find_row<D: Device>(
     number: u64,
     value: &[u8],
 ) -> Result<Option<Row>, StoreFault>
-    requires open { IsOpen pages.old }
     requires sectors { sectors_of pages.old ≤ D.sectors device.old }
     requires value { length value.now ≡ key_length (spec_of file.now) KeyOfReference.Prime }
     ensures looks { LooksAt D.Device (result ≡ Err StoreFault.Device) pages.old device.old pages.new

@@ -2,7 +2,7 @@
 ghost use Rattle.std.specs.Prelude.{◌≡◌, ◌≤◌, ◌<◌, ◌+◌, true, false, Err, Ok, Some, List, length, take, drop, IfOk, OnOk, OnErr, IfErr};
 ghost use Rattle.byteorder.specs.Endian.{big_number};
 ghost use Rattle.station.specs.Calls.{OnlyReads};
-ghost use Rattle.pages.specs.Pages.{is_spent, sectors_of, Agrees, IsOpen, IsUnchanged};
+ghost use Rattle.pages.specs.Pages.{is_spent, sectors_of, Agrees, IsUnchanged};
 ghost use Rattle.btree.specs.Calls.{OnPages, OnTree, OnNoTree, pages_on};
 ghost use Rattle.btree.specs.Places.{IsLeafPlace};
 ghost use Rattle.btree.specs.Results.{ReturnsDamaged};
@@ -41,7 +41,6 @@ pub(crate) fn read_prime_row<D: Device>(
     entry: &Entry,
     bytes: &mut [u8],
 ) -> Result<Found, PagesError>
-    requires open { IsOpen pages.old }
     requires sectors { sectors_of pages.old ≤ D.sectors device.old }
     ensures looks { LooksAt D.Device (result ≡ Err PagesError.Device) pages.old device.old pages.new
         device.new }
@@ -98,7 +97,6 @@ pub(crate) fn read_alternate_row<D: Device>(
     value_length: usize,
     bytes: &mut [u8],
 ) -> Result<Found, PagesError>
-    requires open { IsOpen pages.old }
     requires sectors { sectors_of pages.old ≤ D.sectors device.old }
     requires few { value_length < 65536 }
     requires short { under.now.layout.key_length ≤ 128 }
@@ -192,7 +190,6 @@ fn is_repeated<D: Device>(
     place: &mut LeafPlace,
     next: &mut Entry,
 ) -> Result<bool, PagesError>
-    requires open { IsOpen pages.old }
     requires sectors { sectors_of pages.old ≤ D.sectors device.old }
     requires long { value_length ≤ length key.now }
     requires few { under.now.layout.key_length ≤ 128 }
@@ -200,7 +197,6 @@ fn is_repeated<D: Device>(
     ensures unchanged { IsUnchanged pages.old pages.new }
     ensures agrees { D.is_honest device.old → Agrees pages.old (D.state device.old).disk
         → Agrees pages.new (D.state device.new).disk }
-    ensures open { IsOpen pages.new }
     ensures place { OnPages D.Device pages.old device.old
         (λ before. IsLeafPlace place.old before → IsLeafPlace place.new before) }
     ensures repeated { OnTree D.Device under.now.layout under.now.root pages.old device.old

@@ -1,6 +1,6 @@
 //! An entry or a row leaves a tree that stands among others, or a row gets another record.
 ghost use Rattle.std.specs.Prelude.{◌≡◌, ◌≤◌, ◌+◌, true, Err, IsSome, length, OnOk, IfErr};
-ghost use Rattle.pages.specs.Pages.{is_spent, sectors_of, IsOpen};
+ghost use Rattle.pages.specs.Pages.{is_spent, sectors_of};
 ghost use Rattle.btree.specs.Calls.{pages_on};
 ghost use Rattle.btree.specs.Entries.{entry_with, with_value, without_entry};
 ghost use Rattle.btree.specs.Results.{FewChanged};
@@ -25,7 +25,6 @@ pub(crate) fn remove_among<D: Device>(
     device: &mut D,
     key: &[u8],
 ) -> Result<(), StoreFault>
-    requires open { IsOpen pages.old }
     requires sectors { sectors_of pages.old ≤ D.sectors device.old }
     ensures edits { EditsPages D.Device (result ≡ Err StoreFault.Device) pages.old device.old
         pages.new device.new }
@@ -54,7 +53,6 @@ pub(crate) fn remove_row<D: Device>(
     device: &mut D,
     key: &[u8],
 ) -> Result<(), StoreFault>
-    requires open { IsOpen pages.old }
     requires sectors { sectors_of pages.old ≤ D.sectors device.old }
     ensures edits { EditsPages D.Device (result ≡ Err StoreFault.Device) pages.old device.old
         pages.new device.new }
@@ -85,7 +83,6 @@ pub(crate) fn replace_row<D: Device>(
     key: &[u8],
     value: &[u8],
 ) -> Result<(), StoreFault>
-    requires open { IsOpen pages.old }
     requires sectors { sectors_of pages.old ≤ D.sectors device.old }
     requires value { length value.now ≡ value_length rows.old }
     ensures edits { EditsPages D.Device (result ≡ Err StoreFault.Device) pages.old device.old

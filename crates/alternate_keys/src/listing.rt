@@ -1,7 +1,7 @@
 //! What the catalog says of a file.
 ghost use Rattle.std.specs.Prelude.{◌≡◌, ◌≤◌, Err, true, length, map, IsSome, IfOk, OnOk, IfErr, IfSome};
 ghost use Rattle.station.specs.Calls.{OnlyReads};
-ghost use Rattle.pages.specs.Pages.{map_now, is_spent, catalog_of, mark_of, sectors_of, Agrees, IsOpen, IsUnchanged};
+ghost use Rattle.pages.specs.Pages.{map_now, is_spent, catalog_of, mark_of, sectors_of, Agrees, IsUnchanged};
 ghost use Rattle.btree.specs.Calls.{IfAgrees, pages_on};
 ghost use Rattle.btree.specs.Entries.{entry_with, with_value};
 ghost use Rattle.btree.specs.Results.{FewChanged, FewFilled};
@@ -32,14 +32,12 @@ pub(crate) fn find_listing<D: Device>(
     device: &mut D,
     name: &[u8],
 ) -> Result<Option<Entry>, StoreFault>
-    requires open { IsOpen pages.old }
     requires sectors { sectors_of pages.old ≤ D.sectors device.old }
     requires name { is_name name.now ≡ true }
     ensures only { OnlyReads D.Device (result ≡ Err StoreFault.Device) device.old device.new }
     ensures unchanged { IsUnchanged pages.old pages.new }
     ensures agrees { IfAgrees D.Device pages.old device.old
         (Agrees pages.new (D.state device.new).disk) }
-    ensures open { IsOpen pages.new }
     ensures listed { IfAgrees D.Device pages.old device.old
         ((files : Files) → MapHolds (map_now pages.old (D.state device.old).disk.present) files →
         IfOk result (IsListed (map_now pages.old (D.state device.old).disk.present)
@@ -73,7 +71,6 @@ pub(crate) fn replace_listing<D: Device>(
     listing: &[u8],
     rows: u64,
 ) -> Result<(), StoreFault>
-    requires open { IsOpen pages.old }
     requires sectors { sectors_of pages.old ≤ D.sectors device.old }
     requires name { length name.now ≤ 30 }
     requires listing { length listing.now ≡ 83 }

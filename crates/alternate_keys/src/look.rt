@@ -1,7 +1,7 @@
 //! Entries of a file's trees.
 ghost use Rattle.std.specs.Prelude.{◌≡◌, ◌≤◌, ◌<◌, true, Ok, Err, List, length, take, IfOk, OnOk, OnErr, IfErr, IfSome};
 ghost use Rattle.station.specs.Calls.{OnlyReads};
-ghost use Rattle.pages.specs.Pages.{map_now, is_spent, sectors_of, Agrees, IsOpen, IsUnchanged};
+ghost use Rattle.pages.specs.Pages.{map_now, is_spent, sectors_of, Agrees, IsUnchanged};
 ghost use Rattle.btree.specs.Tree.{TreeNode, IsTreeOrEmpty};
 ghost use Rattle.btree.specs.Entries.{HasLengths, entries_of};
 ghost use Rattle.btree.specs.Reading.{IsReadRefusal};
@@ -24,14 +24,12 @@ pub(crate) fn look<D: Device>(
     aim: SearchStart,
     key: &[u8],
 ) -> Result<Option<Entry>, PagesError>
-    requires open { IsOpen pages.old }
     requires sectors { sectors_of pages.old ≤ D.sectors device.old }
     requires short { tree.now.layout.key_length ≤ 128 }
     ensures only { OnlyReads D.Device (result ≡ Err PagesError.Device) device.old device.new }
     ensures unchanged { IsUnchanged pages.old pages.new }
     ensures agrees { D.is_honest device.old → Agrees pages.old (D.state device.old).disk
         → Agrees pages.new (D.state device.new).disk }
-    ensures open { IsOpen pages.new }
     ensures entry { D.is_honest device.old → Agrees pages.old (D.state device.old).disk
         → (levels : List (List TreeNode)) →
         IsTreeOrEmpty tree.now.layout (map_now pages.old (D.state device.old).disk.present).pages
@@ -63,7 +61,6 @@ pub(crate) fn look_near<D: Device>(
     place: &mut LeafPlace,
     entry: &mut Entry,
 ) -> Result<bool, PagesError>
-    requires open { IsOpen pages.old }
     requires sectors { sectors_of pages.old ≤ D.sectors device.old }
     requires short { tree.now.layout.key_length ≤ 128 }
     ensures looks { LooksAt D.Device (result ≡ Err PagesError.Device) pages.old device.old pages.new

@@ -1,6 +1,6 @@
 //! The pairs of a row leave and come to the trees of the alternate keys.
 ghost use Rattle.std.specs.Prelude.{◌≡◌, ◌≤◌, ◌<◌, ◌+◌, ◌*◌, true, Err, None, IsSome, length, OnOk, IfOk, IfErr};
-ghost use Rattle.pages.specs.Pages.{is_spent, committed_of, sectors_of, changed_pages_of, IsOpen};
+ghost use Rattle.pages.specs.Pages.{is_spent, committed_of, sectors_of, changed_pages_of};
 ghost use Rattle.pages.specs.Use.{free_count};
 ghost use Rattle.btree.specs.Calls.{pages_on};
 ghost use Rattle.btree.specs.Entries.{entry_with, with_new_entry, without_entry};
@@ -37,7 +37,6 @@ pub(crate) fn move_pairs<D: Device>(
     listing: &[u8],
     row_move: RowMove<'_>,
 ) -> Result<Vec<u32>, StoreFault>
-    requires open { IsOpen pages.old }
     requires sectors { sectors_of pages.old ≤ D.sectors device.old }
     requires listing { length listing.now ≡ 83 }
     requires values { HasValues row_move.verb (spec_of file.now) row_move.old_value.now
@@ -85,7 +84,6 @@ fn take_pair<D: Device>(
     key: u8,
     old: &[u8],
 ) -> Result<(), StoreFault>
-    requires open { IsOpen pages.old }
     requires sectors { sectors_of pages.old ≤ D.sectors device.old }
     requires key { IsKey (spec_of file.now) (KeyOfReference.Alternate key) }
     requires old { length old.now ≡ file.now.record_length + 8 * length file.now.alternates.items }
@@ -125,7 +123,6 @@ fn give_pair<D: Device>(
     file: &FileSpec,
     pair: NewPair<'_>,
 ) -> Result<(), StoreFault>
-    requires open { IsOpen pages.old }
     requires sectors { sectors_of pages.old ≤ D.sectors device.old }
     requires key { IsKey (spec_of file.now) (KeyOfReference.Alternate pair.key) }
     requires layout { tree.old.layout
@@ -170,7 +167,6 @@ fn move_pair<D: Device>(
     key: u8,
     row_move: RowMove<'_>,
 ) -> Result<(), StoreFault>
-    requires open { IsOpen pages.old }
     requires sectors { sectors_of pages.old ≤ D.sectors device.old }
     requires key { IsKey (spec_of file.now) (KeyOfReference.Alternate key) }
     requires layout { tree.old.layout

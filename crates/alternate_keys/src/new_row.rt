@@ -1,6 +1,6 @@
 //! A new row comes to the tree of rows.
 ghost use Rattle.std.specs.Prelude.{◌≡◌, ◌≤◌, ◌<◌, ◌+◌, true, false, Ok, Err, None, IsSome, length, IfErr};
-ghost use Rattle.pages.specs.Pages.{is_spent, committed_of, sectors_of, changed_pages_of, IsOpen, IsUnchanged};
+ghost use Rattle.pages.specs.Pages.{is_spent, committed_of, sectors_of, changed_pages_of, IsUnchanged};
 ghost use Rattle.pages.specs.Use.{free_count};
 ghost use Rattle.btree.specs.Calls.{pages_on};
 ghost use Rattle.btree.specs.Entries.{entry_with, with_new_entry};
@@ -41,7 +41,6 @@ pub(crate) fn insert_row<D: Device>(
     file: &FileSpec,
     row: NewRow<'_>,
 ) -> Result<bool, StoreFault>
-    requires open { IsOpen pages.old }
     requires sectors { sectors_of pages.old ≤ D.sectors device.old }
     requires layout { prime.old.tree.layout
         ≡ layout_under (spec_of file.now) KeyOfReference.Prime }

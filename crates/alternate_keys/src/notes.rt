@@ -1,7 +1,7 @@
 //! What a store notes of its last search.
 ghost use Rattle.std.specs.Prelude.{◌≡◌, ◌≤◌, true, length, Err, IfOk, IfErr, OnOk, OnErr, []};
 ghost use Rattle.pages.specs.Image.{Map};
-ghost use Rattle.pages.specs.Pages.{map_now, is_spent, sectors_of, IsOpen};
+ghost use Rattle.pages.specs.Pages.{map_now, is_spent, sectors_of};
 ghost use Rattle.btree.specs.Calls.{IfAgrees};
 ghost use Rattle.records.specs.Spec.{is_name};
 ghost use Rattle.records.specs.Files.{Files, file_at};
@@ -63,7 +63,6 @@ impl SearchNotes {
         device: &mut D,
         name: &[u8],
     ) -> Result<bool, StoreFault>
-        requires open { IsOpen pages.old }
         requires sectors { sectors_of pages.old ≤ D.sectors device.old }
         requires name { is_name name.now ≡ true }
         ensures looks { LooksAt D.Device (result ≡ Err StoreFault.Device) pages.old device.old

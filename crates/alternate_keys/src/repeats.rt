@@ -2,7 +2,7 @@
 ghost use Rattle.std.specs.Prelude.{◌≡◌, ◌≤◌, ℕ, List, Err, true, length, IfOk, IfErr};
 ghost use Rattle.std.specs.List.{list_any};
 ghost use Rattle.station.specs.Calls.{OnlyReads};
-ghost use Rattle.pages.specs.Pages.{is_spent, sectors_of, Agrees, IsOpen, IsUnchanged};
+ghost use Rattle.pages.specs.Pages.{is_spent, sectors_of, Agrees, IsUnchanged};
 ghost use Rattle.btree.specs.Calls.{IfAgrees, pages_on};
 ghost use Rattle.records.specs.Spec.{Spec};
 ghost use Rattle.records.specs.Rows.{Row, part, place_of, same_bytes};
@@ -31,14 +31,12 @@ pub(crate) fn is_value_there<D: Device>(
     device: &mut D,
     value: &[u8],
 ) -> Result<bool, StoreFault>
-    requires open { IsOpen pages.old }
     requires sectors { sectors_of pages.old ≤ D.sectors device.old }
     requires short { tree.now.layout.key_length ≤ 128 }
     ensures only { OnlyReads D.Device (result ≡ Err StoreFault.Device) device.old device.new }
     ensures unchanged { IsUnchanged pages.old pages.new }
     ensures agrees { IfAgrees D.Device pages.old device.old
         (Agrees pages.new (D.state device.new).disk) }
-    ensures open { IsOpen pages.new }
     ensures there { IfAgrees D.Device pages.old device.old ((spec : Spec) (i : ℕ) (rows : List Row)
         → HasPairs spec (KeyOfReference.Alternate i) (pages_on D.Device pages.old device.old) rows
         tree.now →

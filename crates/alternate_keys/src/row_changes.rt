@@ -1,6 +1,6 @@
 //! A row comes to the trees of its file, gets another record there, or leaves them. The catalog doesn't say so yet.
 ghost use Rattle.std.specs.Prelude.{◌≡◌, ◌≤◌, ◌+◌, true, false, Err, length, IfOk, IfErr};
-ghost use Rattle.pages.specs.Pages.{is_spent, sectors_of, IsOpen, IsUnchanged};
+ghost use Rattle.pages.specs.Pages.{is_spent, sectors_of, IsUnchanged};
 ghost use Rattle.btree.specs.Calls.{pages_on};
 ghost use Rattle.records.specs.Changes.{insertion, replacement, removal};
 ghost use Rattle.records.specs.Stores.{spec_of, key_length, pair_of, IsNewNumber, is_change};
@@ -14,10 +14,10 @@ use crate::commit::is_done;
 use crate::file_tree::row_tree;
 use crate::finding_row::find_row;
 use crate::leave::{remove_row, replace_row};
+use crate::move_row::move_row;
 use crate::new_row::{NewRow, insert_row};
 use crate::old_row::{arrival_next, value_after};
 use crate::row_move::RowMove;
-use crate::row_moves::move_row;
 use crate::row_turn::RowTurn;
 use crate::row_verb::RowVerb;
 use crate::taken_row::look_at_new_row;
@@ -47,7 +47,6 @@ pub(crate) fn change_trees<D: Device>(
     listing: &[u8],
     change: RowChange<'_>,
 ) -> Result<RowTurn, StoreFault>
-    requires open { IsOpen pages.old }
     requires sectors { sectors_of pages.old ≤ D.sectors device.old }
     requires listing { length listing.now ≡ 83 }
     requires asked { IsAsked change.verb (spec_of file.now) change.number change.bytes.now }
@@ -96,7 +95,6 @@ fn insert_trees<D: Device>(
     number: u64,
     bytes: &[u8],
 ) -> Result<RowTurn, StoreFault>
-    requires open { IsOpen pages.old }
     requires sectors { sectors_of pages.old ≤ D.sectors device.old }
     requires listing { length listing.now ≡ 83 }
     requires number { IsNewNumber file.now.organization number }
@@ -165,7 +163,6 @@ fn replace_trees<D: Device>(
     number: u64,
     bytes: &[u8],
 ) -> Result<RowTurn, StoreFault>
-    requires open { IsOpen pages.old }
     requires sectors { sectors_of pages.old ≤ D.sectors device.old }
     requires listing { length listing.now ≡ 83 }
     requires bytes { length bytes.now ≡ file.now.record_length }
@@ -240,7 +237,6 @@ fn remove_trees<D: Device>(
     number: u64,
     key: &[u8],
 ) -> Result<RowTurn, StoreFault>
-    requires open { IsOpen pages.old }
     requires sectors { sectors_of pages.old ≤ D.sectors device.old }
     requires listing { length listing.now ≡ 83 }
     requires key { length key.now ≡ key_length (spec_of file.now) KeyOfReference.Prime }

@@ -2,7 +2,7 @@
 ghost use Rattle.std.specs.Prelude.{◌≡◌, ◌≤◌, ◌<◌, ◌+◌, ◌++◌, ◌↔◌, true, false, Err, ℕ, List, length, IfOk, IfErr, OnOk, OnErr, IsOkUnless};
 ghost use Rattle.std.specs.List.{All};
 ghost use Rattle.station.specs.Opening.{IsOpening};
-ghost use Rattle.pages.specs.Pages.{map_now, is_spent, mark_of, committed_of, sectors_of, filled_of, next_generation, IsOpen};
+ghost use Rattle.pages.specs.Pages.{map_now, is_spent, mark_of, committed_of, sectors_of, filled_of, next_generation};
 ghost use Rattle.pages.specs.Use.{free_count};
 ghost use Rattle.btree.specs.Builds.{IsLeafOf, rows_of_nodes};
 ghost use Rattle.btree.specs.Calls.{IfAgrees, pages_on};
@@ -22,7 +22,7 @@ ghost use Rattle.alternate_keys.specs.Placed.{HasTrees};
 
 use crate::clearing::clear_among;
 use crate::commit::commit_pages;
-use crate::counting::{MOST_FILES, first_in, next_in};
+use crate::counting::MOST_FILES;
 use crate::stored::stored_tree;
 use btree::{Entry, Tree};
 use btree_pages::{Kind, RowLayout, TreePage};
@@ -31,7 +31,7 @@ use records::{KeyOfReference, StoreFault};
 use station::Device;
 use std::alloc::Global;
 use std::mem;
-use volume_format::{catalog_tree, listing_part, spell_value, to_fault};
+use volume_format::{catalog_tree, first_in, listing_part, next_in, spell_value, to_fault};
 
 /// How many pages are kept in memory.
 const CACHE: usize = 64;
@@ -89,7 +89,6 @@ fn remake_catalog<D: Device>(
     pages: &mut PageMap,
     device: &mut D,
 ) -> Result<(), StoreFault>
-    requires open { IsOpen pages.old }
     requires unspent { is_spent pages.old ≡ false }
     requires sectors { sectors_of pages.old ≤ D.sectors device.old }
     requires mark { mark_of pages.old ≡ 0 }
@@ -129,7 +128,6 @@ fn counted_leaves<D: Device>(
     pages: &mut PageMap,
     device: &mut D,
 ) -> Result<Vec<TreePage>, StoreFault>
-    requires open { IsOpen pages.old }
     requires sectors { sectors_of pages.old ≤ D.sectors device.old }
     requires mark { mark_of pages.old ≡ 0 }
     ensures looks { LooksAt D.Device (result ≡ Err StoreFault.Device) pages.old device.old pages.new
@@ -212,7 +210,6 @@ fn counted_value<D: Device>(
     device: &mut D,
     entry: &Entry,
 ) -> Result<Vec<u8>, StoreFault>
-    requires open { IsOpen pages.old }
     requires sectors { sectors_of pages.old ≤ D.sectors device.old }
     requires long { length entry.now.value ≡ 83 }
     ensures looks { LooksAt D.Device (result ≡ Err StoreFault.Device) pages.old device.old pages.new

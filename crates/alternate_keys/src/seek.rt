@@ -1,6 +1,6 @@
 //! A row that is sought in the trees of its file.
 ghost use Rattle.std.specs.Prelude.{◌≡◌, ◌≤◌, Err, OnErr, IfErr};
-ghost use Rattle.pages.specs.Pages.{sectors_of, IsOpen};
+ghost use Rattle.pages.specs.Pages.{sectors_of};
 ghost use Rattle.btree.specs.Calls.{OnPages};
 ghost use Rattle.btree.specs.Results.{OnlyIfSpent};
 ghost use Rattle.btree.specs.Places.{IsLeafPlace};
@@ -39,7 +39,6 @@ pub(crate) fn seek_row<D: Device>(
     key_search: KeySearch<'_>,
     bytes: &mut [u8],
 ) -> Result<Option<Found>, PagesError>
-    requires open { IsOpen pages.old }
     requires sectors { sectors_of pages.old ≤ D.sectors device.old }
     requires key { IsKey (spec_of key_search.file.now) key_search.key }
     requires short { under.now.layout.key_length ≤ 128 }

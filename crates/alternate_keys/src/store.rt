@@ -16,7 +16,7 @@ pub struct PagedStore {
 
 impl Model for PagedStore {
     ghost use Rattle.std.specs.Prelude.{◌≡◌, false};
-    ghost use Rattle.pages.specs.Pages.{IsOpen, is_spent};
+    ghost use Rattle.pages.specs.Pages.{is_spent};
     ghost use Rattle.std.specs.Coded.{codes};
     ghost use Rattle.pages.specs.contracts.page_map.PageMap as page_map;
     ghost use Rattle.btree.specs.contracts.place.LeafPlace as leaf_place;
@@ -33,6 +33,5 @@ impl Model for PagedStore {
       notes = noted_search store.notes;
     } };
 
-    ghost invariant = { λ store. IsOpen store.pages
-        × (store.spent ≡ false → is_spent store.pages ≡ false) };
+    ghost invariant = { λ store. store.spent ≡ false → is_spent store.pages ≡ false };
 }

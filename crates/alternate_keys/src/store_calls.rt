@@ -7,9 +7,11 @@ ghost use Rattle.alternate_keys.specs.Stands.{IsStoreOf, Lacks};
 use crate::creating::create_in;
 use crate::finding::find_in;
 use crate::row_verb::RowVerb;
-use crate::seeking::{KeyStart, seek_in};
+use crate::seeking::seek_in;
 use crate::store::PagedStore;
-use records::{FileSpec, Found, Keeps, KeyOfReference, Outcome, Presence, Side, Store, StoreFault};
+use records::{
+    FileSpec, Found, Keeps, KeyBound, KeyOfReference, Outcome, Presence, Store, StoreFault,
+};
 use station::Device;
 
 impl Keeps for PagedStore {
@@ -40,22 +42,19 @@ impl Store for PagedStore {
         device: &mut D,
         file: &FileSpec,
         key: KeyOfReference,
-        side: Side,
-        value: &[u8],
-        number: u64,
+        bound: KeyBound<'_>,
         bytes: &mut [u8],
     ) -> Result<Option<Found>, StoreFault> {
         if self.spent {
             return Err(StoreFault::Spent);
         }
-        let key_start = KeyStart { key, side, value };
         seek_in(
             &mut self.notes,
             &mut self.pages,
             device,
             file,
-            key_start,
-            number,
+            key,
+            bound,
             bytes,
         )
     }

@@ -1,6 +1,6 @@
 //! Whether a new row may come, looked at before a page is changed.
 ghost use Rattle.std.specs.Prelude.{◌≡◌, ◌≤◌, ◌<◌, ◌+◌, true, false, List, [], Err, length, map, filter, is_some, if◌then◌else◌, IfOk, IfErr};
-ghost use Rattle.pages.specs.Pages.{is_spent, committed_of, sectors_of, changed_pages_of, IsOpen};
+ghost use Rattle.pages.specs.Pages.{is_spent, committed_of, sectors_of, changed_pages_of};
 ghost use Rattle.pages.specs.Use.{free_count};
 ghost use Rattle.btree.specs.Calls.{IfAgrees, pages_on};
 ghost use Rattle.btree.specs.Entries.{entry_with};
@@ -44,7 +44,6 @@ pub(crate) fn look_at_new_row<D: Device>(
     number: u64,
     bytes: &[u8],
 ) -> Result<Outcome, StoreFault>
-    requires open { IsOpen pages.old }
     requires sectors { sectors_of pages.old ≤ D.sectors device.old }
     requires listing { length listing.now ≡ 83 }
     requires number { IsNewNumber file.now.organization number }
@@ -93,7 +92,6 @@ pub(crate) fn look_at_new_row<D: Device>(
 
 /// Whether a new entry may find no page for it.
 fn is_scarce(pages: &PageMap, file: &FileSpec) -> bool
-    requires { IsOpen pages.now }
     ensures { is_spent pages.now ≡ false
         → free_count (committed_of pages.now) < length (changed_pages_of pages.now)
         + (42 + pages_for (chained_bytes (spec_of file.now)))
@@ -125,7 +123,6 @@ fn is_row_there<D: Device>(
     number: u64,
     bytes: &[u8],
 ) -> Result<bool, StoreFault>
-    requires open { IsOpen pages.old }
     requires sectors { sectors_of pages.old ≤ D.sectors device.old }
     requires bytes { length bytes.now ≡ file.now.record_length }
     ensures looks { LooksAt D.Device (result ≡ Err StoreFault.Device) pages.old device.old pages.new

@@ -1,6 +1,6 @@
 //! Which values of a new record are there already.
 ghost use Rattle.std.specs.Prelude.{◌≡◌, ◌≤◌, ◌&&◌, ◌||◌, not, true, List, Err, length, take, filter, if◌then◌else◌, slice_index_or, IfOk, IfErr};
-ghost use Rattle.pages.specs.Pages.{is_spent, sectors_of, IsOpen};
+ghost use Rattle.pages.specs.Pages.{is_spent, sectors_of};
 ghost use Rattle.btree.specs.Calls.{IfAgrees, pages_on};
 ghost use Rattle.records.specs.Rows.{Row, no_key};
 ghost use Rattle.records.specs.Changes.{repeats, is_taken, is_duplicate, done_outcome};
@@ -39,7 +39,6 @@ pub(crate) fn is_repeated<D: Device>(
     listing: &[u8],
     new_record: NewRecord<'_>,
 ) -> Result<bool, StoreFault>
-    requires open { IsOpen pages.old }
     requires sectors { sectors_of pages.old ≤ D.sectors device.old }
     requires key { IsKey (spec_of file.now) (KeyOfReference.Alternate key) }
     requires listing { length listing.now ≡ 83 }
@@ -86,7 +85,6 @@ pub(crate) fn find_duplicate_key<D: Device>(
     listing: &[u8],
     new_record: NewRecord<'_>,
 ) -> Result<Outcome, StoreFault>
-    requires open { IsOpen pages.old }
     requires sectors { sectors_of pages.old ≤ D.sectors device.old }
     requires listing { length listing.now ≡ 83 }
     requires values { HasValues new_record.verb (spec_of file.now) new_record.old_value.now

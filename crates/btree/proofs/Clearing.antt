@@ -38,7 +38,6 @@ keeps_still p = record {
   committed = record { volume = refl; mark = refl; spent = refl };
   catalog = refl;
   agrees = λ disk agrees. agrees;
-  is_open = λ ready. ready;
 }
 
 pub keeps_on : (one two three : PageMap) → KeepsCommitted one two → KeepsCommitted two three → KeepsCommitted one three
@@ -50,7 +49,6 @@ keeps_on one two three first second = record {
   };
   catalog = second.catalog ∙ first.catalog;
   agrees = λ disk agrees. second.agrees disk (first.agrees disk agrees);
-  is_open = λ ready. second.is_open (first.is_open ready);
 }
 
 -- No page leaves, one does, and some after others.

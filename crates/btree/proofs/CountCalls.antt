@@ -7,7 +7,7 @@ use Rattle.std.specs.List.{All}
 use Rattle.station.specs.Calls.{OnlyReads}
 use Rattle.station.specs.Disk.{Sector}
 use Rattle.station.specs.declared.device.Device.{Ghosts as Devices}
-use Rattle.pages.specs.Pages.{is_spent, page_count, Agrees, IsOpen, IsUnchanged}
+use Rattle.pages.specs.Pages.{is_spent, page_count, Agrees, IsUnchanged}
 use Rattle.pages.specs.declared.page_map.PageMap.{PageMap}
 use Rattle.pages.specs.declared.error.PagesError.{PagesError}
 use Rattle.pages.specs.declared.error.PagesError.TheVariants.{Damaged, Spent}
@@ -150,35 +150,35 @@ module _ {D : Type 0} (device : Devices D) where
   pub counted_by : (pages : PageMap) (a : D) (tree : RootedTree) (layout : RowLayout) (root count : ℕ)
       (start numbers : List ℕ) (result : Result ℕ PagesError) → record { layout = layout; root = root } ≡ tree
       → root ≢ 0 → start ≡ [] → numbers ≡ start ++ root ∷ [] → CountsPages pages → count ≡ page_count pages
-      → (IsOpen pages → is_spent pages ≡ false → count ≤ 921600) → IsOpen pages
+      → (is_spent pages ≡ false → count ≤ 921600)
       → (is_spent pages ≡ true → 0 < length numbers → 0 < 21 → result ≡ Err Spent)
       → OnPages device pages a
       (OfLevels layout numbers (λ levels. IfOk result (λ n. n ≡ length (rows_in_order levels))))
       → OnTree device tree.layout tree.root pages a
       (λ levels. IfOk result (λ n. n ≡ length (entries_of tree.layout levels)))
-  counted_by pages a tree layout root count start numbers result tree_is some none pushed counts count_is few ready told
+  counted_by pages a tree layout root count start numbers result tree_is some none pushed counts count_is few told
       counted = λ honest agreed levels holds.
       let here = rooted_tree tree layout root (pages_on device pages a) levels tree_is some holds in
       let are = root_number root start numbers none pushed in
       subst (λ (t : RootedTree). IfOk result (λ n. n ≡ length (entries_of t.layout levels))) tree_is
       (unless_spent result (is_spent pages) (λ n. n ≡ length (entries_of layout levels))
       (λ spent. told spent are.1 (omega arith)) (λ live. counted_tree layout (pages_on device pages a) root levels
-      numbers result here are.0 (small_map pages (device.state a).disk.present count counts count_is few ready live)
+      numbers result here are.0 (small_map pages (device.state a).disk.present count counts count_is few live)
       (counted honest agreed)))
 
   -- If there is a tree, its entries are counted.
   pub never_uncounted : (pages : PageMap) (a : D) (tree : RootedTree) (layout : RowLayout) (root count : ℕ)
       (start numbers : List ℕ) (result : Result ℕ PagesError) → record { layout = layout; root = root } ≡ tree
       → root ≢ 0 → start ≡ [] → numbers ≡ start ++ root ∷ [] → CountsPages pages → count ≡ page_count pages
-      → (IsOpen pages → is_spent pages ≡ false → count ≤ 921600) → IsOpen pages
+      → (is_spent pages ≡ false → count ≤ 921600)
       → (is_spent pages ≡ true → 0 < length numbers → 0 < 21 → result ≡ Err Spent) → result ≡ Err Damaged
       → OnPages device pages a (OfLevels layout numbers (λ levels. length levels ≤ 21 → ⊥))
       → OnPages device pages a
       (λ p. (levels : List (List TreeNode)) → IsTreeOrEmpty tree.layout p tree.root levels → ⊥)
-  never_uncounted pages a tree layout root count start numbers result tree_is some none pushed counts count_is few ready
-      told is never = λ honest agreed levels holds.
+  never_uncounted pages a tree layout root count start numbers result tree_is some none pushed counts count_is few told
+      is never = λ honest agreed levels holds.
       let here = rooted_tree tree layout root (pages_on device pages a) levels tree_is some holds in
       let are = root_number root start numbers none pushed in
       let live = damaged_unspent result (is_spent pages) (λ spent. told spent are.1 (omega arith)) is in
       never_damaged layout (pages_on device pages a) root levels numbers here are.0
-      (small_map pages (device.state a).disk.present count counts count_is few ready live) (never honest agreed)
+      (small_map pages (device.state a).disk.present count counts count_is few live) (never honest agreed)

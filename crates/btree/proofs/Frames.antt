@@ -1,13 +1,13 @@
 -- What stays, from call to call.
 use Rattle.std.proofs.Common.{◌≡◌, ◌<◌, ℕ, length, Bool, true, false, List, [], ◌∷◌, refl, sym, ap, subst, ◌∙◌, arith}
-use Rattle.std.proofs.Common.{inl, inr}
-use Rattle.std.specs.Prelude.{Option, Some, None, Ok, Err, slice_index_or}
+use Rattle.std.proofs.Common.{◌≢◌, inl, inr}
+use Rattle.std.specs.Prelude.{Option, Ok, Err}
 use Rattle.std.specs.List.{All}
 use Rattle.std.proofs.lemmas.List.Elements.{All-head}
 use Rattle.station.specs.Disk.{Sector}
 use Rattle.station.specs.State.{State}
 use Rattle.pages.specs.Image.{Map}
-use Rattle.pages.specs.Pages.{map_now, page_of, IsUnchanged}
+use Rattle.pages.specs.Pages.{map_now, IsUnchanged}
 use Rattle.pages.specs.declared.page_map.PageMap.{PageMap}
 use Rattle.btree_pages.specs.declared.row_layout.RowLayout.{RowLayout}
 use Rattle.btree.specs.Tree.{TreeNode, IsTree, IsTreeOrEmpty, pages_of}
@@ -38,14 +38,6 @@ pub same_pages : (old new : PageMap) (before after : State) → IsUnchanged old 
 same_pages old new before after unchanged same =
     ap (λ (state : State). (map_now new state.disk.present).pages) same
     ∙ ap (λ (map : Map). map.pages) (unchanged.map before.disk.present)
-
--- a page that is seen after a call that only reads is the page from before
-pub seen_before : (old new : PageMap) (before after : State) (page : ℕ) (bytes : Sector)
-    → IsUnchanged old new → after ≡ before → page_of (map_now new after.disk.present) page ≡ Some bytes
-    → slice_index_or (map_now old before.disk.present).pages page None ≡ Some bytes
-seen_before old new before after page bytes unchanged same seen =
-    sym (ap (λ (p : List (Option Sector)). slice_index_or p page None) (same_pages old new before after unchanged same))
-    ∙ seen
 
 -- the pages where nothing was done yet
 pub pages_yet : (one two three : PageMap) (before after : State) → IsUnchanged one two → three ≡ two → after ≡ before
@@ -81,6 +73,11 @@ holds_tree layout pages root levels (inr tree) some = tree.1
 pub tree_holds : (layout : RowLayout) (pages : List (Option Sector)) (root : ℕ) (levels : List (List TreeNode))
     → IsTree layout pages root levels → IsTreeOrEmpty layout pages root levels
 tree_holds layout pages root levels tree = inr (tree_rooted layout pages root levels tree, tree)
+
+-- a root that is not 0 in the view is not 0 in the tree
+pub root_there : (view : RootedTree) (layout : RowLayout) (root : ℕ) → record { layout = layout; root = root } ≡ view
+    → view.root ≢ 0 → root ≡ 0 → ⊥
+root_there view layout root is some none = some (sym (ap (λ (t : RootedTree). t.root) is) ∙ none)
 
 -- the tree of a root that isn't page 0
 pub rooted_tree : (view : RootedTree) (layout : RowLayout) (root : ℕ) (pages : List (Option Sector))

@@ -67,6 +67,7 @@ mod Changing
 mod Children
 mod ClearedLevels
 mod NamedTrees
+mod PageReads
 mod PlacedLeaves
 mod PutTwo
 mod SmallMaps

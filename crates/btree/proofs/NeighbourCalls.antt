@@ -2,7 +2,7 @@
 use Rattle.std.proofs.Common.{◌≡◌, ◌≢◌, ◌-◌, ◌++◌, ℕ, List, [], refl, sym, ◌∙◌, subst}
 use Rattle.std.specs.Prelude.{Option, Result, Some, Err, slice_index_or}
 use Rattle.station.specs.Disk.{Sector}
-use Rattle.pages.specs.Pages.{page_count, IsOpen, IsUnchanged}
+use Rattle.pages.specs.Pages.{page_count, IsUnchanged}
 use Rattle.pages.specs.declared.page_map.PageMap.{PageMap}
 use Rattle.pages.specs.declared.error.PagesError.{PagesError}
 use Rattle.pages.specs.declared.error.PagesError.TheVariants.{Spent}
@@ -24,12 +24,12 @@ use Rattle.btree.proofs.ReadMaps.{live_unless, small_map, pages_same}
 
 -- The page above is in a map on which a call was not refused as spent.
 pub above_at : {T : Type 0} (result : Result T PagesError) (pages : PageMap) (image : List Sector) (layout : RowLayout)
-    (node : Node) → CountsPages pages → FewNumbers pages → IsOpen pages → ExactlyIfSpent pages result
+    (node : Node) → CountsPages pages → FewNumbers pages → ExactlyIfSpent pages result
     → result ≢ Err Spent → node.layout ≡ layout → node.kind ≡ Inner → IsNode node
     → Above (pages_of_map pages image) layout node
-above_at result pages image layout node counts few ready exactly unspent layout_is inner is_node =
+above_at result pages image layout node counts few exactly unspent layout_is inner is_node =
     record {
-      few = small_map pages image (page_count pages) counts refl few ready (live_unless result pages exactly unspent);
+      few = small_map pages image (page_count pages) counts refl few (live_unless result pages exactly unspent);
       layout_is = layout_is;
       inner = inner;
       is_node = is_node;

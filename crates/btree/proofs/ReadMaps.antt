@@ -6,7 +6,7 @@ use Rattle.station.specs.Disk.{Sector}
 use Rattle.station.specs.State.{State}
 use Rattle.station.specs.declared.device.Device.{Ghosts as Devices}
 use Rattle.pages.specs.Image.{Map}
-use Rattle.pages.specs.Pages.{is_spent, map_now, page_count, Agrees, IsOpen, IsUnchanged}
+use Rattle.pages.specs.Pages.{is_spent, map_now, page_count, Agrees, IsUnchanged}
 use Rattle.pages.specs.declared.page_map.PageMap.{PageMap}
 use Rattle.pages.specs.declared.error.PagesError.{PagesError}
 use Rattle.pages.specs.declared.error.PagesError.TheVariants.{Spent}
@@ -26,12 +26,12 @@ pub live_after : {T : Type 0} {x : T} (pages : PageMap)
     → ((◌≡◌ {A = Result T PagesError} (Ok x) (Err Spent)) ↔ (is_spent pages ≡ true)) → is_spent pages ≡ false
 live_after pages exactly = live_unless (Ok _) pages exactly (λ is. never_ok is)
 
--- An open map that is not spent has few page numbers.
+-- A map that is not spent has few page numbers.
 pub small_map : (pages : PageMap) (image : List Sector) (number : ℕ) → CountsPages pages → number ≡ page_count pages
-    → (IsOpen pages → is_spent pages ≡ false → number ≤ 921600) → IsOpen pages → is_spent pages ≡ false
+    → (is_spent pages ≡ false → number ≤ 921600) → is_spent pages ≡ false
     → length (pages_of_map pages image) ≤ 2 ^ 20
-small_map pages image number counts is few ready live =
-    few_pages (pages_of_map pages image) (page_count pages) number (counts image) is (few ready live)
+small_map pages image number counts is few live =
+    few_pages (pages_of_map pages image) (page_count pages) number (counts image) is (few live)
 
 -- A call that only reads changes no page of the map.
 pub pages_same : (old new : PageMap) (image : List Sector) → IsUnchanged old new

@@ -3,7 +3,7 @@ use Rattle.std.proofs.Common.{◌≡◌, ◌<◌, ◌≤◌, ◌+◌, false, tru
 use Rattle.std.specs.Prelude.{◌↔◌, Result}
 use Rattle.pages.specs.Use.{free_count}
 use Rattle.pages.specs.Volumes.{volume_of}
-use Rattle.pages.specs.Pages.{is_spent, committed_of, changed_pages_of, HasEachPage, IsOpen, SameCommitted, FewFree}
+use Rattle.pages.specs.Pages.{is_spent, committed_of, changed_pages_of, HasEachPage, SameCommitted, FewFree}
 use Rattle.pages.specs.declared.volume.VolumeMap.{VolumeMap}
 use Rattle.pages.specs.declared.page_map.PageMap.{PageMap}
 use Rattle.pages.specs.declared.error.PagesError.{PagesError}
@@ -21,12 +21,12 @@ each_used old new result is full same spent =
     subst HasEachPage (sym (same is)) ((full unspent).0 is)
 
 -- where each page number is used after a call, few sectors are free
-pub few_left : (old new : PageMap) (n : ℕ) → FewFree → IsOpen new → SameCommitted old new
+pub few_left : (old new : PageMap) (n : ℕ) → FewFree → SameCommitted old new
     → is_spent old ≡ false → HasEachPage new → length (changed_pages_of new) ≤ length (changed_pages_of old) + n
     → free_count (committed_of old) < length (changed_pages_of old) + n
-few_left old new n law ready same unspent each few =
+few_left old new n law same unspent each few =
     let free : free_count (committed_of new) < length (changed_pages_of new) =
-    law new ready (same.spent ∙ unspent) each in
+    law new (same.spent ∙ unspent) each in
     let still : free_count (committed_of new) ≡ free_count (committed_of old) =
     ap (λ (v : VolumeMap). free_count (volume_of v)) same.volume in
     omega (arith, free, still, few)

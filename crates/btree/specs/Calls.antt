@@ -1,10 +1,10 @@
 -- What the calls on a device and a map of pages are asked for, said once.
-use Rattle.std.specs.Prelude.{◌≡◌, ◌≤◌, ℕ, List, Option, Result, Err, IfOk}
+use Rattle.std.specs.Prelude.{◌≡◌, ℕ, List, Option, Result, Err, IfOk}
 use Rattle.station.specs.Calls.{OnlyReads}
 use Rattle.station.specs.Disk.{Sector}
 use Rattle.station.specs.declared.device.Device.{Ghosts as Devices}
 use Rattle.pages.specs.declared.page_map.PageMap.{PageMap}
-use Rattle.pages.specs.Pages.{map_now, sectors_of, catalog_of, Agrees, IsOpen, SameCommitted}
+use Rattle.pages.specs.Pages.{map_now, catalog_of, Agrees, SameCommitted}
 use Rattle.btree_pages.specs.declared.row_layout.RowLayout.{RowLayout}
 use Rattle.pages.specs.declared.error.PagesError.{PagesError}
 use Rattle.pages.specs.declared.error.PagesError.TheVariants.{Device}
@@ -26,10 +26,6 @@ module _ {D : Type 0} (device : Devices D) where
   abbrev pub KeepsAgreement : PageMap → D → PageMap → D → Type 0
   KeepsAgreement old before new after = IfAgrees old before (Agrees new (device.state after).disk)
 
-  -- the device has each sector of the map of pages
-  abbrev pub FitsDevice : PageMap → D → Type 0
-  FitsDevice pages now = sectors_of pages ≤ device.sectors now
-
   -- the device is only read by a call with this result, and it failed if `Device` is returned
   abbrev pub OnlyReadsFor : {T : Type 0} → D → D → Result T PagesError → Type 0
   OnlyReadsFor before after result = OnlyReads device (result ≡ Err Device) before after
@@ -40,7 +36,6 @@ module _ {D : Type 0} (device : Devices D) where
     pub committed : SameCommitted old new
     pub catalog : catalog_of new ≡ catalog_of old
     pub agrees : device.is_honest before → Agrees old (device.state before).disk → Agrees new (device.state after).disk
-    pub is_open : IsOpen new
 
   -- The device failed if `Device` is returned.
   abbrev pub EditsPagesFor : {T : Type 0} → PageMap → D → PageMap → D → Result T PagesError → Type 0

@@ -2,7 +2,7 @@
 use Rattle.std.specs.Prelude.{false, ◌≡◌, ◌≢◌, ◌<◌, ◌≤◌, ◌+◌, ◌++◌, ℕ, List, [], ◌∷◌, length, take, drop, map, slice_index_or, Option, Some, None, IsSome, IfSome}
 use Rattle.station.specs.Disk.{Sector}
 use Rattle.pages.specs.declared.page_map.PageMap.{PageMap}
-use Rattle.pages.specs.Pages.{map_now, is_spent, page_count, IsOpen}
+use Rattle.pages.specs.Pages.{map_now, is_spent, page_count}
 use Rattle.btree_pages.specs.declared.row_layout.RowLayout.{RowLayout}
 use Rattle.btree_pages.specs.declared.row_layout.Kind.TheVariants.{Inner}
 use Rattle.btree_pages.specs.Node.{Node}
@@ -26,7 +26,7 @@ abbrev pub CountsPages : PageMap → Type 0
 CountsPages pages = (image : List Sector) → length (pages_of_map pages image) ≡ page_count pages
 
 abbrev pub FewNumbers : PageMap → Type 0
-FewNumbers pages = IsOpen pages → is_spent pages ≡ false → page_count pages ≤ 921600
+FewNumbers pages = is_spent pages ≡ false → page_count pages ≤ 921600
 
 -- a page is in the map
 abbrev pub IsIn : List (Option Sector) → ℕ → Type 0

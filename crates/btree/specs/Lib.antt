@@ -23,3 +23,4 @@ pub mod Steps
 pub mod Sought
 pub mod Builds
 pub mod Places
+pub mod PageReads

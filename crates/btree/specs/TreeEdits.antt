@@ -9,7 +9,7 @@ use Rattle.btree.specs.Rooted.{RootedTree}
 use Rattle.btree.specs.Moves.{Moves}
 use Rattle.btree.specs.Changes.{Becomes, Inserts}
 use Rattle.btree.specs.Removals.{Removes}
-use Rattle.btree.specs.Results.{FewChanged, FewFilled, FullOnlyIfFewFree}
+use Rattle.btree.specs.Results.{FewChanged, FewFilled, FullIfUsed, FullOnlyIfFewFree}
 use Rattle.btree.specs.Calls.{OnTree, OnTreeChange, IfTree}
 
 module _ {D : Type 0} (device : Devices D) where
@@ -51,13 +51,18 @@ module _ {D : Type 0} (device : Devices D) where
   abbrev pub FillsFewOnTree : ℕ → RootedTree → PageMap → D → PageMap → Type 0
   FillsFewOnTree most tree old now new = IfTree device tree old now (FewFilled most old new)
 
-  pub record EditsFewOnTree (most : ℕ) (tree : RootedTree) (old : PageMap) (now : D) (new : PageMap) : Type 0 where
-    pub changed_pages : ChangesFewOnTree most tree old now new
-    pub filled : FillsFewOnTree most tree old now new
-
   -- `Full` is returned only if fewer sectors are free than pages were changed, plus so many
   abbrev pub FullOnlyIfFewFreeOnTree : {T : Type 0} → ℕ → RootedTree → PageMap → D → Result T PagesError → Type 0
   FullOnlyIfFewFreeOnTree most tree old now result = IfTree device tree old now (FullOnlyIfFewFree most old result)
+
+  -- Whatever is returned, at most so many pages are taken. `Full` is returned only if each page number is used, and so
+  -- few sectors are free.
+  pub record TakesFewPages (most : ℕ) (tree : RootedTree) (old : PageMap) (now : D) (new : PageMap)
+      (result : Result Bool PagesError) : Type 0 where
+    pub changed_pages : ChangesFewOnTree most tree old now new
+    pub filled : FillsFewOnTree most tree old now new
+    pub full : FullIfUsed new result
+    pub room : FullOnlyIfFewFreeOnTree most tree old now result
 
   -- `Ok` is returned only if at most so many pages more are changed; and only if at most so many more have bytes
   abbrev pub OkOnlyIfFewChanged : {T : Type 0} → ℕ → RootedTree → PageMap → D → PageMap → Result T PagesError → Type 0

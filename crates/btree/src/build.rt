@@ -1,7 +1,7 @@
 //! A tree is built of its leaves.
 ghost use Rattle.std.specs.Prelude.{◌≡◌, ◌≤◌, ◌+◌, length, IfOk, IfErr};
 ghost use Rattle.std.specs.List.{All};
-ghost use Rattle.pages.specs.Pages.{IsOpen, KeepsCommitted};
+ghost use Rattle.pages.specs.Pages.{KeepsCommitted};
 ghost use Rattle.btree_pages.specs.RowLayouts.{IsRowLayout, capacity};
 ghost use Rattle.btree.specs.Builds.{IsLeafOf, OkOnlyIfBuilt};
 ghost use Rattle.btree.specs.Refusals.{IsWriteRefusal};
@@ -22,7 +22,6 @@ impl Tree {
         pages: &mut PageMap,
         leaves: &[TreePage],
     ) -> Result<Tree, PagesError>
-        requires open { IsOpen pages.old }
         requires layout { IsRowLayout layout }
         requires leaves { All (IsLeafOf layout) leaves.now }
         requires few { length leaves.now ≤ capacity layout Kind.Inner }

@@ -2,7 +2,8 @@
 ghost use Rattle.std.specs.Prelude.{◌≡◌, ◌≤◌, ◌<◌, ◌++◌, Err, true, List, [], length, map, IfOk, IfErr, OnOk};
 ghost use Rattle.std.specs.List.{All};
 ghost use Rattle.station.specs.Disk.{Sector};
-ghost use Rattle.pages.specs.Pages.{is_spent, page_count, IsOpen, SameCommitted, KeepsCommitted, IsUnchanged};
+ghost use Rattle.pages.specs.Pages.{is_spent, page_count, SameCommitted, KeepsCommitted, IsUnchanged};
+ghost use Rattle.pages.specs.Devices.{FitsDevice};
 ghost use Rattle.btree_pages.specs.RowLayouts.{IsRowLayout};
 ghost use Rattle.btree_pages.specs.Keys.{child_of};
 ghost use Rattle.btree.specs.Tree.{TreeNode, rows_of, pages_of, IsOnPage};
@@ -11,7 +12,7 @@ ghost use Rattle.btree.specs.Moves.{Moves, numbers_of};
 ghost use Rattle.btree.specs.Changes.{pages_of_map};
 ghost use Rattle.btree.specs.Clears.{HasPages, IsDown, levels_below};
 ghost use Rattle.btree.specs.Refusals.{IsRestRefusal, ErrOnlyIfChangeRefusal};
-ghost use Rattle.btree.specs.Calls.{OnPages, OnChange, FitsDevice, OnlyReadsFor, EditsPagesFor, KeepsAgreement, DamagedOnlyIfNoTree};
+ghost use Rattle.btree.specs.Calls.{OnPages, OnChange, OnlyReadsFor, EditsPagesFor, KeepsAgreement, DamagedOnlyIfNoTree};
 ghost use Rattle.btree.specs.Results.{OnlyIfSpent, ExactlyIfSpent, OnlyIfSpentAt, ErrOnlyIfSame, OkOnlyIfEmpty, SameLayout, SameCatalog, FillsNoMore};
 ghost use Rattle.btree.specs.TreeEdits.{OkOnlyIfCleared};
 
@@ -33,7 +34,6 @@ impl Tree {
         pages: &mut PageMap,
         device: &mut D,
     ) -> Result<(), PagesError>
-        requires open { IsOpen pages.old }
         requires sectors { FitsDevice D.Device pages.old device.old }
         ensures edits { EditsPagesFor D.Device pages.old device.old pages.new device.new result }
 
@@ -65,7 +65,6 @@ impl Tree {
 
 /// Takes these pages out of the map. `Damaged` means that one of the numbers is no page's.
 fn release_pages(pages: &mut PageMap, numbers: &[u32]) -> Result<(), PagesError>
-    requires { IsOpen pages.old }
     ensures released { OnOk result ((image : List Sector)
         → Moves (pages_of_map pages.old image) numbers.now (pages_of_map pages.new image) []) }
     ensures damaged { result ≡ Err PagesError.Damaged → (image : List Sector) →
@@ -110,13 +109,11 @@ fn children_of<D: Device>(
     layout: RowLayout,
     numbers: &[u32],
 ) -> Result<Vec<u32>, PagesError>
-    requires open { IsOpen pages.old }
     requires sectors { FitsDevice D.Device pages.old device.old }
     requires layout { IsRowLayout layout }
     ensures only { OnlyReadsFor D.Device device.old device.new result }
     ensures unchanged { IsUnchanged pages.old pages.new }
     ensures agrees { KeepsAgreement D.Device pages.old device.old pages.new device.new }
-    ensures open { IsOpen pages.new }
     ensures children { OnPages D.Device pages.old device.old
         (λ before. (level : List TreeNode)
         → All (IsOnPage layout before Kind.Inner) level → numbers_of level ≡ numbers.now
@@ -153,14 +150,12 @@ pub(crate) fn below<D: Device>(
     layout: RowLayout,
     numbers: &[u32],
 ) -> Result<Vec<u32>, PagesError>
-    requires open { IsOpen pages.old }
     requires sectors { FitsDevice D.Device pages.old device.old }
     requires layout { IsRowLayout layout }
     requires some { 0 < length numbers.now }
     ensures only { OnlyReadsFor D.Device device.old device.new result }
     ensures unchanged { IsUnchanged pages.old pages.new }
     ensures agrees { KeepsAgreement D.Device pages.old device.old pages.new device.new }
-    ensures open { IsOpen pages.new }
     ensures below { OnPages D.Device pages.old device.old
         (λ before. (levels : List (List TreeNode))
         → IsSmall before → IsDown layout before numbers.now levels
@@ -188,7 +183,6 @@ fn clear_levels<D: Device>(
     numbers: Vec<u32>,
     depth: usize,
 ) -> Result<(), PagesError>
-    requires open { IsOpen pages.old }
     requires sectors { FitsDevice D.Device pages.old device.old }
     requires layout { IsRowLayout layout }
     ensures only { OnlyReadsFor D.Device device.old device.new result }
@@ -202,7 +196,6 @@ fn clear_levels<D: Device>(
     ensures committed { SameCommitted pages.old pages.new }
     ensures catalog { SameCatalog pages.old pages.new }
     ensures agrees { KeepsAgreement D.Device pages.old device.old pages.new device.new }
-    ensures open { IsOpen pages.new }
     ensures spent { OnlyIfSpent pages.old result }
     ensures told { is_spent pages.old ≡ true → 0 < length numbers.items → 0 < depth
         → result ≡ Err PagesError.Spent }

@@ -1,7 +1,8 @@
 //! How many entries a tree has.
 ghost use Rattle.std.specs.Prelude.{◌≡◌, ◌≤◌, ◌<◌, ◌+◌, Err, true, List, length, IfOk, IfErr};
 ghost use Rattle.std.specs.List.{All};
-ghost use Rattle.pages.specs.Pages.{is_spent, page_count, IsOpen, IsUnchanged};
+ghost use Rattle.pages.specs.Pages.{is_spent, page_count, IsUnchanged};
+ghost use Rattle.pages.specs.Devices.{FitsDevice};
 ghost use Rattle.btree_pages.specs.RowLayouts.{IsRowLayout};
 ghost use Rattle.btree.specs.Tree.{TreeNode, rows_of, rows_in_order, IsOnPage};
 ghost use Rattle.btree.specs.Laws.{IsSmall};
@@ -9,7 +10,7 @@ ghost use Rattle.btree.specs.Entries.{entries_of};
 ghost use Rattle.btree.specs.Moves.{numbers_of};
 ghost use Rattle.btree.specs.Clears.{IsDown};
 ghost use Rattle.btree.specs.Refusals.{ErrOnlyIfChangeRefusal};
-ghost use Rattle.btree.specs.Calls.{OnPages, OnTree, FitsDevice, OnlyReadsFor, KeepsAgreement, DamagedOnlyIfNoTree};
+ghost use Rattle.btree.specs.Calls.{OnPages, OnTree, OnlyReadsFor, KeepsAgreement, DamagedOnlyIfNoTree};
 ghost use Rattle.btree.specs.Results.{OnlyIfSpent, OnlyIfSpentAt};
 
 use crate::clear::below;
@@ -25,12 +26,10 @@ impl Tree {
     /// How many entries there are. Each page of the tree is read once. `Damaged` says that the pages under the root are no tree. The
     /// page numbers of two levels are kept in memory, no more of each than the volume has.
     pub fn count<D: Device>(&self, pages: &mut PageMap, device: &mut D) -> Result<u64, PagesError>
-        requires open { IsOpen pages.old }
         requires sectors { FitsDevice D.Device pages.old device.old }
         ensures only { OnlyReadsFor D.Device device.old device.new result }
         ensures unchanged { IsUnchanged pages.old pages.new }
         ensures agrees { KeepsAgreement D.Device pages.old device.old pages.new device.new }
-        ensures open { IsOpen pages.new }
         ensures count { OnTree D.Device self.now.layout self.now.root pages.old device.old
             (λ levels. IfOk result
             (λ count. count ≡ length (entries_of self.now.layout levels))) }
@@ -57,14 +56,12 @@ fn count_rows<D: Device>(
     layout: RowLayout,
     numbers: &[u32],
 ) -> Result<u64, PagesError>
-    requires open { IsOpen pages.old }
     requires sectors { FitsDevice D.Device pages.old device.old }
     requires layout { IsRowLayout layout }
     requires few { length numbers.now ≤ page_count pages.old + 1 }
     ensures only { OnlyReadsFor D.Device device.old device.new result }
     ensures unchanged { IsUnchanged pages.old pages.new }
     ensures agrees { KeepsAgreement D.Device pages.old device.old pages.new device.new }
-    ensures open { IsOpen pages.new }
     ensures count { OnPages D.Device pages.old device.old
         (λ before. (level : List TreeNode)
         → All (IsOnPage layout before Kind.Leaf) level → numbers_of level ≡ numbers.now
@@ -97,14 +94,12 @@ fn count_levels<D: Device>(
     numbers: Vec<u32>,
     depth: usize,
 ) -> Result<u64, PagesError>
-    requires open { IsOpen pages.old }
     requires sectors { FitsDevice D.Device pages.old device.old }
     requires layout { IsRowLayout layout }
     requires few { length numbers.items ≤ page_count pages.old + 1 }
     ensures only { OnlyReadsFor D.Device device.old device.new result }
     ensures unchanged { IsUnchanged pages.old pages.new }
     ensures agrees { KeepsAgreement D.Device pages.old device.old pages.new device.new }
-    ensures open { IsOpen pages.new }
     ensures count { OnPages D.Device pages.old device.old
         (λ before. (levels : List (List TreeNode)) → IsSmall before
         → IsDown layout before numbers.items levels

@@ -1,6 +1,6 @@
 //! An entry comes to a leaf in memory that has room, where no page above the leaf has to be told.
 ghost use Rattle.std.specs.Prelude.{◌≡◌, Ok, true, false, length, IfErr};
-ghost use Rattle.pages.specs.Pages.{IsOpen, KeepsCommitted};
+ghost use Rattle.pages.specs.Pages.{KeepsCommitted};
 ghost use Rattle.btree_pages.specs.RowLayouts.{IsRowLayout};
 ghost use Rattle.btree.specs.Refusals.{IsPutRefusal};
 ghost use Rattle.btree.specs.Results.{OnlyIfSpent, FewChanged, FewFilled};
@@ -19,7 +19,6 @@ pub(crate) fn enter_leaf(
     key: &[u8],
     value: &[u8],
 ) -> Result<bool, PagesError>
-    requires open { IsOpen pages.old }
     requires layout { IsRowLayout layout }
     requires key { length key.now ≡ layout.key_length }
     requires value { length value.now ≡ layout.value_length }

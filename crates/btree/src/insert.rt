@@ -1,16 +1,17 @@
 //! A new entry.
 ghost use Rattle.std.specs.Prelude.{◌≡◌, ◌≢◌, Ok, None, length, IfOk};
-ghost use Rattle.pages.specs.Pages.{IsOpen, SameCommitted, IsUnchanged};
+ghost use Rattle.pages.specs.Pages.{SameCommitted, IsUnchanged};
+ghost use Rattle.pages.specs.Devices.{FitsDevice};
 ghost use Rattle.btree_pages.specs.RowLayouts.{IsRowLayout};
 ghost use Rattle.btree.specs.Changes.{Inserts};
 ghost use Rattle.btree.specs.Refusals.{ErrOnlyIfInsertRefusal};
-ghost use Rattle.btree.specs.Calls.{OnNoTree, OnTree, OnTreeChange, FitsDevice, OnlyReadsFor, EditsPagesFor, KeepsAgreement, DamagedOnlyIfNoTree};
+ghost use Rattle.btree.specs.Calls.{OnNoTree, OnTree, OnTreeChange, OnlyReadsFor, EditsPagesFor, KeepsAgreement, DamagedOnlyIfNoTree};
 ghost use Rattle.btree.specs.Results.{ReturnsDamaged, ExactlyIfSpent, FullIfUsed, FewChanged, FewFilled, FalseOnlyIfSame, ErrOnlyIfSame, SameLayout, SameCatalog};
-ghost use Rattle.btree.specs.TreeEdits.{FalseOnlyIfPresent, TrueOnlyIfInserted, EditsFewOnTree, FullOnlyIfFewFreeOnTree};
+ghost use Rattle.btree.specs.TreeEdits.{FalseOnlyIfPresent, TrueOnlyIfInserted, TakesFewPages};
 
 use crate::descend::{descend, follow};
 use crate::enter_leaf::enter_leaf;
-use crate::insert_into_leaf::insert_into_leaf;
+use crate::insert_into_leaf::{NewRow, insert_into_leaf};
 use crate::put_new::first_leaf;
 use crate::tree::Tree;
 use btree_pages::RowLayout;
@@ -37,7 +38,6 @@ impl Tree {
         key: &[u8],
         value: &[u8],
     ) -> Result<bool, PagesError>
-        requires open { IsOpen pages.old }
         requires sectors { FitsDevice D.Device pages.old device.old }
         requires key { length key.now ≡ self.old.layout.key_length }
         requires value { length value.now ≡ self.old.layout.value_length }
@@ -52,12 +52,11 @@ impl Tree {
         ensures layout { SameLayout self.old self.new }
         ensures refused { ErrOnlyIfSame self.old self.new result }
 
-        // At most so many pages are changed, whatever the answer.
-        ensures few { EditsFewOnTree D.Device 42 self.old pages.old device.old pages.new }
+        // At most so many pages are changed, whatever the answer. `Full` means that each page number is used, and so that few sectors were
+        // free.
+        ensures few { TakesFewPages D.Device 42 self.old pages.old device.old pages.new result }
 
-        // `Full` means that each page number is used, and so that few sectors were free. `Spent` comes exactly where the map is spent.
-        ensures full { FullIfUsed pages.new result }
-        ensures room { FullOnlyIfFewFreeOnTree D.Device 42 self.old pages.old device.old result }
+        // `Spent` comes exactly where the map is spent.
         ensures spent { ExactlyIfSpent pages.old result }
         ensures cause { ErrOnlyIfInsertRefusal result }
     {
@@ -89,7 +88,6 @@ fn insert_slowly<D: Device>(
     key: &[u8],
     value: &[u8],
 ) -> Result<Option<u32>, PagesError>
-    requires open { IsOpen pages.old }
     requires sectors { FitsDevice D.Device pages.old device.old }
     requires root { root ≢ 0 }
     requires layout { IsRowLayout layout }
@@ -116,7 +114,8 @@ fn insert_slowly<D: Device>(
         Ok(_) => return Ok(None),
         Err(place) => place,
     };
-    let entered = insert_into_leaf(pages, device, layout, root, descent, place, key, value)?;
+    let row = NewRow { key, value };
+    let entered = insert_into_leaf(pages, device, layout, root, descent, place, row)?;
     Ok(Some(entered))
 }
 
@@ -131,7 +130,6 @@ fn insert_entry<D: Device>(
     key: &[u8],
     value: &[u8],
 ) -> Result<Option<u32>, PagesError>
-    requires open { IsOpen pages.old }
     requires sectors { FitsDevice D.Device pages.old device.old }
     requires layout { IsRowLayout layout }
     requires key { length key.now ≡ layout.key_length }
@@ -149,7 +147,6 @@ fn insert_entry<D: Device>(
     ensures committed { SameCommitted pages.old pages.new }
     ensures catalog { SameCatalog pages.old pages.new }
     ensures agrees { KeepsAgreement D.Device pages.old device.old pages.new device.new }
-    ensures open { IsOpen pages.new }
     ensures full { FullIfUsed pages.new result }
     ensures spent { ExactlyIfSpent pages.old result }
     ensures cause { ErrOnlyIfInsertRefusal result }

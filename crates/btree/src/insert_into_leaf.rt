@@ -1,13 +1,14 @@
 //! A new row comes into a tree.
 ghost use Rattle.std.specs.Prelude.{◌≡◌, ◌≤◌, ◌<◌, ◌+◌, ◌*◌, Err, List, length, IfOk, IfErr, IfSome};
 ghost use Rattle.station.specs.Disk.{Sector};
-ghost use Rattle.pages.specs.Pages.{IsOpen, SameCommitted, changed_pages_of, filled_of, KeepsCommitted};
+ghost use Rattle.pages.specs.Pages.{SameCommitted, changed_pages_of, filled_of, KeepsCommitted};
+ghost use Rattle.pages.specs.Devices.{FitsDevice};
 ghost use Rattle.btree_pages.specs.RowLayouts.{IsRowLayout};
 ghost use Rattle.btree.specs.Tree.{TreeNode, IsTree};
 ghost use Rattle.btree.specs.Path.{EndsAt};
 ghost use Rattle.btree.specs.Changes.{pages_of_map, HasKeys, IsRootAfter, InsertsIntoLeaf};
 ghost use Rattle.btree.specs.Refusals.{IsWriteRefusal, IsInsertRefusal};
-ghost use Rattle.btree.specs.Calls.{OnPages, OnChange, FitsDevice, OnlyReadsFor, KeepsAgreement};
+ghost use Rattle.btree.specs.Calls.{OnPages, OnChange, OnlyReadsFor, KeepsAgreement};
 ghost use Rattle.btree.specs.Results.{OnlyIfSpent, FullIfUsed, FewChanged, FewFilled, SameCatalog};
 
 use crate::descend::Descent;
@@ -20,6 +21,13 @@ use btree_pages::{Kind, RowLayout};
 use pages::{PageMap, PagesError};
 use station::Device;
 
+/// A new row of a leaf: its key and its value.
+#[derive(Clone, Copy)]
+pub(crate) struct NewRow<'a> {
+    pub(crate) key: &'a [u8],
+    pub(crate) value: &'a [u8],
+}
+
 /// The page of the root, after what is told of the one there was.
 pub(crate) fn root_after_split(
     pages: &mut PageMap,
@@ -27,7 +35,6 @@ pub(crate) fn root_after_split(
     root: u32,
     told: Option<SplitResult>,
 ) -> Result<u32, PagesError>
-    requires open { IsOpen pages.old }
     requires layout { IsRowLayout layout }
     requires keys { IfSome told (HasKeys layout) }
     ensures settles { IfOk result (λ new. (image : List Sector) → IsRootAfter layout root told
@@ -61,24 +68,24 @@ pub(crate) fn insert_into_leaf<D: Device>(
     root: u32,
     descent: Descent,
     place: usize,
-    key: &[u8],
-    value: &[u8],
+    row: NewRow<'_>,
 ) -> Result<u32, PagesError>
-    requires open { IsOpen pages.old }
     requires sectors { FitsDevice D.Device pages.old device.old }
     requires layout { IsRowLayout layout }
     requires leaf { (descent.leaf.layout ≡ layout) × (descent.leaf.kind ≡ Kind.Leaf) }
     requires place { place ≤ length descent.leaf.rows }
-    requires key { length key.now ≡ layout.key_length }
-    requires value { length value.now ≡ layout.value_length }
+    requires key { length row.key.now ≡ layout.key_length }
+    requires value { length row.value.now ≡ layout.value_length }
     ensures only { OnlyReadsFor D.Device device.old device.new result }
     ensures entered { OnChange D.Device pages.old pages.new device.old
         (λ before after.
         IfOk result (λ new. InsertsIntoLeaf layout root before after descent.path.items
-        descent.page descent.leaf.rows descent.right place key.now value.now new)) }
+        descent.page descent.leaf.rows descent.right place row.entry.key.now row.entry.value.now
+        new)) }
     ensures damaged { OnPages D.Device pages.old device.old
         (λ before. result ≡ Err PagesError.Damaged → (levels : List (List TreeNode))
-        → IsTree layout before root levels → EndsAt layout key.now levels descent.path.items
+        → IsTree layout before root levels
+        → EndsAt layout row.entry.key.now levels descent.path.items
         descent.page descent.leaf.rows descent.right → ⊥) }
     ensures some { 0 < root → IfOk result (λ new. 0 < new) }
     ensures changed_pages { length (changed_pages_of pages.new)
@@ -87,7 +94,6 @@ pub(crate) fn insert_into_leaf<D: Device>(
     ensures committed { SameCommitted pages.old pages.new }
     ensures catalog { SameCatalog pages.old pages.new }
     ensures agrees { KeepsAgreement D.Device pages.old device.old pages.new device.new }
-    ensures open { IsOpen pages.new }
     ensures cause { IfErr result IsInsertRefusal }
     ensures full { FullIfUsed pages.new result }
     ensures spent { OnlyIfSpent pages.old result }
@@ -98,7 +104,7 @@ pub(crate) fn insert_into_leaf<D: Device>(
     if pages.page_count() <= descent.page as usize {
         return Err(PagesError::Damaged);
     }
-    let put = put_row(pages, descent.page, descent.leaf, place, key, value)?;
+    let put = put_row(pages, descent.page, descent.leaf, place, row.key, row.value)?;
     let split = match told(put, place) {
         Some(split) => split,
         None => return Ok(root),

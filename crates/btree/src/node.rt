@@ -1,11 +1,13 @@
 //! A page of a tree is read.
 ghost use Rattle.std.specs.Prelude.{◌≡◌, Err, Some, IfOk, IfErr, OnErr};
-ghost use Rattle.pages.specs.Pages.{IsOpen, IsUnchanged};
+ghost use Rattle.pages.specs.Pages.{IsUnchanged};
+ghost use Rattle.pages.specs.Devices.{FitsDevice};
 ghost use Rattle.btree_pages.specs.RowLayouts.{IsRowLayout};
 ghost use Rattle.btree_pages.specs.Node.{IsNode, node_in};
 ghost use Rattle.btree.specs.Tree.{node_at, fewest};
 ghost use Rattle.btree.specs.Reading.{IsReadRefusal, SpellsNoNode, NoneStands, HasShape};
-ghost use Rattle.btree.specs.Calls.{OnPages, FitsDevice, OnlyReadsFor, KeepsAgreement};
+ghost use Rattle.btree.specs.Calls.{OnPages, OnlyReadsFor, KeepsAgreement};
+ghost use Rattle.btree.specs.PageReads.{AnswersFromPage};
 ghost use Rattle.btree.specs.Results.{ReturnsDamaged, ExactlyIfSpent};
 
 use btree_pages::{Kind, NodeView, RowLayout, TreePage};
@@ -38,13 +40,11 @@ pub fn read_node<D: Device>(
     layout: RowLayout,
     page: u32,
 ) -> Result<TreePage, PagesError>
-    requires open { IsOpen pages.old }
     requires sectors { FitsDevice D.Device pages.old device.old }
     requires layout { IsRowLayout layout }
     ensures only { OnlyReadsFor D.Device device.old device.new result }
     ensures unchanged { IsUnchanged pages.old pages.new }
     ensures agrees { KeepsAgreement D.Device pages.old device.old pages.new device.new }
-    ensures open { IsOpen pages.new }
     ensures node { OnPages D.Device pages.old device.old
         (λ before. IfOk result (λ node. node_at layout before page ≡ Some node)) }
     ensures shape { IfOk result (HasShape layout) }
@@ -91,29 +91,21 @@ fn node_loaded<D: Device>(
     pages: &mut PageMap,
     device: &mut D,
     layout: RowLayout,
-    page: u32,
+    unloaded: u32,
 ) -> Result<TreePage, PagesError>
-    requires open { IsOpen pages.old }
     requires sectors { FitsDevice D.Device pages.old device.old }
     requires layout { IsRowLayout layout }
-    ensures only { OnlyReadsFor D.Device device.old device.new result }
-    ensures unchanged { IsUnchanged pages.old pages.new }
-    ensures agrees { KeepsAgreement D.Device pages.old device.old pages.new device.new }
-    ensures open { IsOpen pages.new }
-    ensures node { OnPages D.Device pages.old device.old
-        (λ before. IfOk result (λ node. node_at layout before page ≡ Some node)) }
+    ensures reads { AnswersFromPage D.Device layout unloaded
+        (λ before node. node_at layout before unloaded ≡ Some node) IsReadRefusal
+        pages.old device.old pages.new device.new result }
     ensures shape { IfOk result (HasShape layout) }
     ensures is_node { IfOk result IsNode }
-    ensures damaged { OnPages D.Device pages.old device.old
-        (NoneStands layout page (ReturnsDamaged result)) }
-    ensures spent { ExactlyIfSpent pages.old result }
-    ensures cause { IfErr result IsReadRefusal }
 {
-    pages.load(device, page)?;
-    if let Some(bytes) = pages.view(page) {
+    pages.load(device, unloaded)?;
+    if let Some(bytes) = pages.view(unloaded) {
         return copy_node(bytes, layout);
     }
-    match pages.read(device, page)? {
+    match pages.read(device, unloaded)? {
         Some(bytes) => copy_node(&bytes, layout),
         None => Err(PagesError::Damaged),
     }

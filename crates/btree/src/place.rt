@@ -1,11 +1,12 @@
 //! The leaf where a search ended, in which the next search in order begins.
 ghost use Rattle.std.specs.Prelude.{◌≡◌, ◌≢◌, ◌<◌, ◌↔◌, List, Option, Ok, true, false, IfErr};
 ghost use Rattle.station.specs.Disk.{Disk, Sector};
-ghost use Rattle.pages.specs.Pages.{Agrees, IsOpen, IsUnchanged, KeepsCommitted, is_spent, map_now};
+ghost use Rattle.pages.specs.Pages.{Agrees, IsUnchanged, KeepsCommitted, is_spent, map_now};
+ghost use Rattle.pages.specs.Devices.{FitsDevice};
 ghost use Rattle.btree_pages.specs.RowLayouts.{IsRowLayout};
 ghost use Rattle.btree.specs.Entries.{HasLengths};
 ghost use Rattle.btree.specs.Reading.{IsSearchRefusal};
-ghost use Rattle.btree.specs.Calls.{FitsDevice, OnlyReadsFor, KeepsAgreement};
+ghost use Rattle.btree.specs.Calls.{OnlyReadsFor, KeepsAgreement};
 ghost use Rattle.btree.specs.Results.{ExactlyIfSpentAt};
 ghost use Rattle.btree.specs.Places.{IsLeafPlace, SpellsLeaf, IsNextIn, IsNextOf, AnswersNear, DamagedOnlyIfNoTreeNear, KeepsLeafPlace};
 
@@ -65,12 +66,10 @@ impl Tree {
         place: &mut LeafPlace,
         entry: &mut Entry,
     ) -> Result<bool, PagesError>
-        requires open { IsOpen pages.old }
         requires sectors { FitsDevice D.Device pages.old device.old }
         ensures only { OnlyReadsFor D.Device device.old device.new result }
         ensures unchanged { IsUnchanged pages.old pages.new }
         ensures agrees { KeepsAgreement D.Device pages.old device.old pages.new device.new }
-        ensures open { IsOpen pages.new }
 
         // If the noted leaf is one of its own tree, the answer is that of `next`, and the leaf that is noted then is one of this tree.
         ensures entry { AnswersNear D.Device self.now pages.old device.old place.old key.now
@@ -125,7 +124,6 @@ fn look_near(
     key: &[u8],
     entry: &mut Entry,
 ) -> bool
-    requires open { IsOpen pages.old }
     requires layout { IsRowLayout layout }
     ensures unchanged { IsUnchanged pages.old pages.new }
     ensures keeps { KeepsCommitted pages.old pages.new }

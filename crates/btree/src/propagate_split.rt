@@ -1,10 +1,11 @@
 //! A change goes up from a leaf, along the way that led down to it.
 ghost use Rattle.std.specs.Prelude.{◌≡◌, ◌*◌, Err, Some, length, IfOk, IfErr, IfSome};
-ghost use Rattle.pages.specs.Pages.{IsOpen, SameCommitted, KeepsCommitted};
+ghost use Rattle.pages.specs.Pages.{SameCommitted, KeepsCommitted};
+ghost use Rattle.pages.specs.Devices.{FitsDevice};
 ghost use Rattle.btree_pages.specs.RowLayouts.{IsRowLayout};
 ghost use Rattle.btree.specs.Changes.{HasKeys, PropagatesBy, NeverPropagates};
 ghost use Rattle.btree.specs.Refusals.{IsParentRefusal, IsInsertRefusal};
-ghost use Rattle.btree.specs.Calls.{OnPages, OnChange, FitsDevice, OnlyReadsFor, KeepsAgreement};
+ghost use Rattle.btree.specs.Calls.{OnPages, OnChange, OnlyReadsFor, KeepsAgreement};
 ghost use Rattle.btree.specs.Results.{ReturnsDamaged, OnlyIfSpent, FullIfUsed, FewChanged, FewFilled, SameCatalog};
 ghost use Rattle.btree.specs.Puts.{PutsParent, NeverLeads};
 
@@ -25,7 +26,6 @@ pub(crate) fn propagate_split<D: Device>(
     path: &[PathStep],
     split: SplitResult,
 ) -> Result<Option<SplitResult>, PagesError>
-    requires open { IsOpen pages.old }
     requires sectors { FitsDevice D.Device pages.old device.old }
     requires layout { IsRowLayout layout }
     requires keys { HasKeys layout split }
@@ -41,7 +41,6 @@ pub(crate) fn propagate_split<D: Device>(
     ensures committed { SameCommitted pages.old pages.new }
     ensures catalog { SameCatalog pages.old pages.new }
     ensures agrees { KeepsAgreement D.Device pages.old device.old pages.new device.new }
-    ensures open { IsOpen pages.new }
     ensures cause { IfErr result IsInsertRefusal }
     ensures full { FullIfUsed pages.new result }
     ensures spent { OnlyIfSpent pages.old result }
@@ -66,7 +65,6 @@ fn update_parent_at(
     node: TreePage,
     split: &SplitResult,
 ) -> Result<Option<SplitResult>, PagesError>
-    requires open { IsOpen pages.old }
     requires keys { HasKeys node.layout split.now }
     ensures pages { IfOk result
         (PutsParent pages.old pages.new step.page node step.place split.now) }

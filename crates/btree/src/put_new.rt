@@ -1,6 +1,6 @@
 //! A new page of a tree.
 ghost use Rattle.std.specs.Prelude.{◌≡◌, ◌<◌, ◌+◌, ◌++◌, [], ◌∷◌, length, IfOk, IfErr};
-ghost use Rattle.pages.specs.Pages.{IsOpen, KeepsCommitted};
+ghost use Rattle.pages.specs.Pages.{KeepsCommitted};
 ghost use Rattle.btree_pages.specs.RowLayouts.{IsRowLayout};
 ghost use Rattle.btree.specs.Refusals.{IsWriteRefusal};
 ghost use Rattle.btree.specs.Results.{ExactlyIfSpent, FullIfUsed, FewChanged, FewFilled};
@@ -18,7 +18,6 @@ pub(crate) fn first_leaf(
     key: &[u8],
     value: &[u8],
 ) -> Result<u32, PagesError>
-    requires open { IsOpen pages.old }
     requires layout { IsRowLayout layout }
     requires key { length key.now ≡ layout.key_length }
     requires value { length value.now ≡ layout.value_length }
@@ -46,7 +45,6 @@ pub(crate) fn new_root(
     split: &SplitResult,
     right: &Right,
 ) -> Result<u32, PagesError>
-    requires open { IsOpen pages.old }
     requires layout { IsRowLayout layout }
     requires left_layout { split.now.left.layout ≡ layout }
     requires left_some { 0 < length split.now.left.rows }
@@ -71,7 +69,6 @@ pub(crate) fn new_root(
 
 /// Puts a node on a page that wasn't in the map.
 pub(crate) fn put_new(pages: &mut PageMap, node: &TreePage) -> Result<u32, PagesError>
-    requires open { IsOpen pages.old }
     ensures some { IfOk result (λ page. 0 < page) }
     ensures pages { IfOk result (PutsNew pages.old pages.new node.now) }
     ensures changed_pages { FewChanged 1 pages.old pages.new }

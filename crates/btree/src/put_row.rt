@@ -1,7 +1,7 @@
 //! A row comes into a page.
 ghost use Rattle.std.specs.Prelude.{◌≡◌, ◌≤◌, ◌<◌, ◌+◌, ◌++◌, length, IfOk, IfErr};
 ghost use Rattle.std.specs.List.{insert};
-ghost use Rattle.pages.specs.Pages.{IsOpen, IsPage, KeepsCommitted};
+ghost use Rattle.pages.specs.Pages.{IsPage, KeepsCommitted};
 ghost use Rattle.btree_pages.specs.RowLayouts.{rest_length, capacity};
 ghost use Rattle.btree.specs.Changes.{CanTake, IsSplit};
 ghost use Rattle.btree.specs.Refusals.{IsPutRefusal, IsWriteRefusal};
@@ -22,7 +22,6 @@ pub(crate) fn put_row(
     key: &[u8],
     rest: &[u8],
 ) -> Result<SplitResult, PagesError>
-    requires open { IsOpen pages.old }
     requires page { IsPage pages.old page }
     requires place { place ≤ length node.rows }
     requires key { length key.now ≡ node.layout.key_length }
@@ -53,7 +52,6 @@ fn put_in_one(
     key: &[u8],
     rest: &[u8],
 ) -> Result<SplitResult, PagesError>
-    requires open { IsOpen pages.old }
     requires page { IsPage pages.old page }
     requires room { length node.rows < capacity node.layout node.kind }
     requires place { place ≤ length node.rows }
@@ -86,7 +84,6 @@ fn put_in_two(
     key: &[u8],
     rest: &[u8],
 ) -> Result<SplitResult, PagesError>
-    requires open { IsOpen pages.old }
     requires page { IsPage pages.old page }
     requires full { capacity node.layout node.kind ≤ length node.rows }
     requires place { place ≤ length node.rows }

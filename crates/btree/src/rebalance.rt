@@ -1,7 +1,8 @@
 //! A page that too few rows are left for is joined with a neighbour, or takes rows of it.
 ghost use Rattle.std.specs.Prelude.{◌≡◌, ◌≢◌, ◌≤◌, ◌<◌, ◌+◌, ◌++◌, Err, Some, [], length, map, take, drop, slice_index_or, IfSome, IfOk, IfErr, OnOk};
 ghost use Rattle.byteorder.specs.Endian.{big_bytes};
-ghost use Rattle.pages.specs.Pages.{IsOpen, IsPage, SameCommitted, KeepsCommitted, IsUnchanged};
+ghost use Rattle.pages.specs.Pages.{IsPage, SameCommitted, KeepsCommitted, IsUnchanged};
+ghost use Rattle.pages.specs.Devices.{FitsDevice};
 ghost use Rattle.btree_pages.specs.RowLayouts.{IsRowLayout, capacity};
 ghost use Rattle.btree_pages.specs.Keys.{rest_of};
 ghost use Rattle.btree.specs.Tree.{TreeNode, node_at, row_of, fewest};
@@ -12,7 +13,7 @@ ghost use Rattle.btree.specs.Propagates.{run_of};
 ghost use Rattle.btree.specs.Changes.{CanStand, HasKeys};
 ghost use Rattle.btree.specs.Outcomes.{FitsAbove, IsJoined, IsPair, RebalancesNeighbours};
 ghost use Rattle.btree.specs.Refusals.{IsPutRefusal, IsRestRefusal};
-ghost use Rattle.btree.specs.Calls.{OnPages, OnChange, FitsDevice, OnlyReadsFor, KeepsAgreement};
+ghost use Rattle.btree.specs.Calls.{OnPages, OnChange, OnlyReadsFor, KeepsAgreement};
 ghost use Rattle.btree.specs.Results.{ReturnsDamaged, OnlyIfSpent, ExactlyIfSpent, FewChanged, FewFilled, LeavesFewChanged, LeavesFewFilled, SameCatalog};
 ghost use Rattle.btree.specs.Puts.{PutsTogether, JoinsPair, NeverTwo, HasBothRows};
 
@@ -35,7 +36,6 @@ pub(crate) fn rebalance_at<D: Device>(
     node: TreePage,
     lone: Child,
 ) -> Result<RemovalOutcome, PagesError>
-    requires open { IsOpen pages.old }
     requires sectors { FitsDevice D.Device pages.old device.old }
     requires layout { IsRowLayout layout }
     requires node { node.layout ≡ layout }
@@ -57,7 +57,6 @@ pub(crate) fn rebalance_at<D: Device>(
     ensures committed { SameCommitted pages.old pages.new }
     ensures catalog { SameCatalog pages.old pages.new }
     ensures agrees { KeepsAgreement D.Device pages.old device.old pages.new device.new }
-    ensures open { IsOpen pages.new }
     ensures spent { OnlyIfSpent pages.old result }
     ensures cause { result ≢ Err PagesError.Full × result ≢ Err PagesError.ForeignMark }
 {
@@ -104,7 +103,6 @@ fn share_rows(left: &mut TreePage, right: &mut TreePage)
 /// Puts the rows of two neighbours on the left one's page, if they fit, and gives up the right one's. Else they share them. `Damaged`
 /// tells that one of the two pages is none.
 fn rebalance(pages: &mut PageMap, left: Child, right: Child) -> Result<SplitResult, PagesError>
-    requires open { IsOpen pages.old }
     requires like { SameNode left.node right.node }
     requires many { 2 ≤ length left.node.rows + length right.node.rows }
     ensures rows { IfOk result (HasBothRows left.node.rows right.node.rows) }
@@ -135,7 +133,6 @@ fn rebalance(pages: &mut PageMap, left: Child, right: Child) -> Result<SplitResu
 
 /// Their rows fit on one page.
 fn merge(pages: &mut PageMap, left: Child, right: Child) -> Result<SplitResult, PagesError>
-    requires open { IsOpen pages.old }
     requires left_page { IsPage pages.old left.page }
     requires right_page { IsPage pages.old right.page }
     requires like { SameNode left.node right.node }
@@ -168,7 +165,6 @@ fn merge(pages: &mut PageMap, left: Child, right: Child) -> Result<SplitResult, 
 
 /// They have too many rows for one page.
 fn redistribute(pages: &mut PageMap, left: Child, right: Child) -> Result<SplitResult, PagesError>
-    requires open { IsOpen pages.old }
     requires left_page { IsPage pages.old left.page }
     requires right_page { IsPage pages.old right.page }
     requires like { SameNode left.node right.node }
@@ -238,7 +234,6 @@ fn rebalance_pair(
     left: Child,
     right: Child,
 ) -> Result<RemovalOutcome, PagesError>
-    requires open { IsOpen pages.old }
     requires page { IsPage pages.old page }
     requires inner { node.kind ≡ Kind.Inner }
     requires place { place + 1 < length node.rows }
@@ -269,14 +264,12 @@ fn neighbour<D: Device>(
     kind: Kind,
     page: u32,
 ) -> Result<Child, PagesError>
-    requires open { IsOpen pages.old }
     requires sectors { FitsDevice D.Device pages.old device.old }
     requires layout { IsRowLayout layout }
     ensures only { OnlyReadsFor D.Device device.old device.new result }
     ensures unchanged { IsUnchanged pages.old pages.new }
     ensures agrees { KeepsAgreement D.Device pages.old device.old pages.new device.new }
     ensures catalog { SameCatalog pages.old pages.new }
-    ensures open { IsOpen pages.new }
     ensures node { OnPages D.Device pages.old device.old
         (λ before. IfOk result (λ child. node_at layout before page ≡ Some child.node)) }
     ensures shape { IfOk result (λ child. (child.page ≡ page) × (child.node.layout ≡ layout)

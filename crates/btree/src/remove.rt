@@ -1,14 +1,15 @@
 //! An entry leaves a tree.
 ghost use Rattle.std.specs.Prelude.{◌≡◌, ◌<◌, Err, Ok, None, List, length, IfOk, IfErr, OnOk};
 ghost use Rattle.station.specs.Disk.{Sector};
-ghost use Rattle.pages.specs.Pages.{IsOpen, SameCommitted, KeepsCommitted, IsUnchanged};
+ghost use Rattle.pages.specs.Pages.{SameCommitted, KeepsCommitted, IsUnchanged};
+ghost use Rattle.pages.specs.Devices.{FitsDevice};
 ghost use Rattle.btree_pages.specs.RowLayouts.{IsRowLayout};
 ghost use Rattle.btree.specs.Changes.{pages_of_map};
 ghost use Rattle.btree.specs.Outcomes.{spare};
 ghost use Rattle.btree.specs.Shrinks.{HasCollapsed, HasStayed, IsShrunkRoot, NeverIsShrunkRoot, Collapses};
 ghost use Rattle.btree.specs.Removals.{Removes};
 ghost use Rattle.btree.specs.Refusals.{IsRestRefusal, ErrOnlyIfChangeRefusal};
-ghost use Rattle.btree.specs.Calls.{OnNoTree, OnTree, OnTreeChange, FitsDevice, OnlyReadsFor, EditsPagesFor, KeepsAgreement, DamagedOnlyIfNoTree};
+ghost use Rattle.btree.specs.Calls.{OnNoTree, OnTree, OnTreeChange, OnlyReadsFor, EditsPagesFor, KeepsAgreement, DamagedOnlyIfNoTree};
 ghost use Rattle.btree.specs.Results.{ReturnsDamaged, OnlyIfSpent, ExactlyIfSpentAt, FewChanged, FewFilled, FalseOnlyIfSame, ErrOnlyIfSame, SameLayout, SameCatalog};
 ghost use Rattle.btree.specs.Puts.{NeverIn};
 ghost use Rattle.btree.specs.TreeEdits.{FalseOnlyIfAbsent, TrueOnlyIfRemoved, OkOnlyIfEditsFew};
@@ -32,7 +33,6 @@ impl Tree {
         device: &mut D,
         key: &[u8],
     ) -> Result<bool, PagesError>
-        requires open { IsOpen pages.old }
         requires sectors { FitsDevice D.Device pages.old device.old }
         ensures edits { EditsPagesFor D.Device pages.old device.old pages.new device.new result }
 
@@ -68,7 +68,6 @@ impl Tree {
 
 /// An inner page with one row gives way to the child that it names.
 fn collapse_root(pages: &mut PageMap, lone: Child) -> Result<u32, PagesError>
-    requires open { IsOpen pages.old }
     requires lone { (lone.node.kind ≡ Kind.Inner) × (length lone.node.rows ≡ 1) }
     ensures gives { IfOk result (λ new. (image : List Sector)
         → HasCollapsed (pages_of_map pages.old image) (pages_of_map pages.new image) lone new) }
@@ -88,7 +87,6 @@ fn collapse_root(pages: &mut PageMap, lone: Child) -> Result<u32, PagesError>
 
 /// A leaf that is the root stays, however few rows it has.
 fn keep_leaf(pages: &mut PageMap, lone: Child) -> Result<u32, PagesError>
-    requires open { IsOpen pages.old }
     requires lone { (lone.node.kind ≡ Kind.Leaf) × (0 < length lone.node.rows) }
     ensures stays { IfOk result (λ new. (image : List Sector)
         → HasStayed (pages_of_map pages.old image) (pages_of_map pages.new image) lone new) }
@@ -115,7 +113,6 @@ fn root_after_removal(
     root: u32,
     outcome: RemovalOutcome,
 ) -> Result<u32, PagesError>
-    requires open { IsOpen pages.old }
     requires one { Collapses outcome }
     ensures settles { IfOk result (λ new. (image : List Sector) (layout : RowLayout) → IsShrunkRoot
         layout root outcome (pages_of_map pages.old image) (pages_of_map pages.new image) new) }
@@ -148,7 +145,6 @@ fn remove_entry<D: Device>(
     root: u32,
     key: &[u8],
 ) -> Result<Option<u32>, PagesError>
-    requires open { IsOpen pages.old }
     requires sectors { FitsDevice D.Device pages.old device.old }
     requires layout { IsRowLayout layout }
     ensures only { OnlyReadsFor D.Device device.old device.new result }
@@ -163,7 +159,6 @@ fn remove_entry<D: Device>(
     ensures committed { SameCommitted pages.old pages.new }
     ensures catalog { SameCatalog pages.old pages.new }
     ensures agrees { KeepsAgreement D.Device pages.old device.old pages.new device.new }
-    ensures open { IsOpen pages.new }
     ensures spent { ExactlyIfSpentAt root pages.old result }
     ensures cause { ErrOnlyIfChangeRefusal result }
 {

@@ -1,9 +1,10 @@
 //! Another value for an entry.
 ghost use Rattle.std.specs.Prelude.{◌≡◌, ◌<◌, length, IfErr, OnOk};
-ghost use Rattle.pages.specs.Pages.{IsOpen, SameCommitted, KeepsCommitted};
+ghost use Rattle.pages.specs.Pages.{SameCommitted, KeepsCommitted};
+ghost use Rattle.pages.specs.Devices.{FitsDevice};
 ghost use Rattle.btree_pages.specs.RowLayouts.{rest_length};
 ghost use Rattle.btree.specs.Refusals.{IsRestRefusal, ErrOnlyIfChangeRefusal};
-ghost use Rattle.btree.specs.Calls.{FitsDevice, OnlyReadsFor, EditsPagesFor, KeepsAgreement, DamagedOnlyIfNoTree};
+ghost use Rattle.btree.specs.Calls.{OnlyReadsFor, EditsPagesFor, KeepsAgreement, DamagedOnlyIfNoTree};
 ghost use Rattle.btree.specs.Results.{ReturnsDamaged, OnlyIfSpent, ExactlyIfSpentAt, FewChanged, FewFilled, FalseOnlyIfUnchanged, SameCatalog};
 ghost use Rattle.btree.specs.Puts.{PutsRest, NeverIn};
 ghost use Rattle.btree.specs.TreeEdits.{FalseOnlyIfAbsent, TrueOnlyIfReplaced};
@@ -26,7 +27,6 @@ impl Tree {
         key: &[u8],
         value: &[u8],
     ) -> Result<bool, PagesError>
-        requires open { IsOpen pages.old }
         requires sectors { FitsDevice D.Device pages.old device.old }
         requires value { length value.now ≡ self.old.layout.value_length }
         ensures edits { EditsPagesFor D.Device pages.old device.old pages.new device.new result }
@@ -66,7 +66,6 @@ impl Tree {
         key: &[u8],
         value: &[u8],
     ) -> Result<bool, PagesError>
-        requires open { IsOpen pages.old }
         requires sectors { FitsDevice D.Device pages.old device.old }
         requires value { length value.now ≡ self.old.layout.value_length }
         ensures only { OnlyReadsFor D.Device device.old device.new result }
@@ -83,7 +82,6 @@ impl Tree {
         ensures committed { SameCommitted pages.old pages.new }
         ensures catalog { SameCatalog pages.old pages.new }
         ensures agrees { KeepsAgreement D.Device pages.old device.old pages.new device.new }
-        ensures open { IsOpen pages.new }
         ensures spent { ExactlyIfSpentAt self.old.root pages.old result }
         ensures cause { ErrOnlyIfChangeRefusal result }
     {
@@ -111,7 +109,6 @@ fn put_rest(
     place: usize,
     rest: &[u8],
 ) -> Result<(), PagesError>
-    requires open { IsOpen pages.old }
     requires place { place < length node.rows }
     requires rest { length rest.now ≡ rest_length node.layout node.kind }
     ensures pages { OnOk result (PutsRest pages.old pages.new page node place rest.now) }

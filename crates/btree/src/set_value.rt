@@ -1,6 +1,6 @@
 //! An entry of a leaf in memory gets another value.
 ghost use Rattle.std.specs.Prelude.{◌≡◌, Ok, true, false, length, IfErr};
-ghost use Rattle.pages.specs.Pages.{IsOpen, KeepsCommitted};
+ghost use Rattle.pages.specs.Pages.{KeepsCommitted};
 ghost use Rattle.btree_pages.specs.RowLayouts.{IsRowLayout};
 ghost use Rattle.btree.specs.Refusals.{IsPutRefusal};
 ghost use Rattle.btree.specs.Results.{OnlyIfSpent, FewChanged, FewFilled};
@@ -19,7 +19,6 @@ pub(crate) fn set_value_in(
     key: &[u8],
     value: &[u8],
 ) -> Result<bool, PagesError>
-    requires open { IsOpen pages.old }
     requires layout { IsRowLayout layout }
     requires value { length value.now ≡ layout.value_length }
     ensures same { result ≡ Ok false → pages.new ≡ pages.old }

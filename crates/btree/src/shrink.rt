@@ -1,11 +1,12 @@
 //! A removal goes up from a leaf, along the way that led down to it.
 ghost use Rattle.std.specs.Prelude.{◌≡◌, ◌≤◌, ◌+◌, ◌*◌, Err, length, IfOk, IfErr};
-ghost use Rattle.pages.specs.Pages.{IsOpen, SameCommitted, changed_pages_of, filled_of};
+ghost use Rattle.pages.specs.Pages.{SameCommitted, changed_pages_of, filled_of};
+ghost use Rattle.pages.specs.Devices.{FitsDevice};
 ghost use Rattle.btree_pages.specs.RowLayouts.{IsRowLayout};
 ghost use Rattle.btree.specs.Outcomes.{FitsAbove, spare};
 ghost use Rattle.btree.specs.Shrinks.{ShrinksBy, NeverShrinks, ShrinksOn, NeverShrinksOn};
 ghost use Rattle.btree.specs.Refusals.{ErrOnlyIfChangeRefusal};
-ghost use Rattle.btree.specs.Calls.{OnPages, OnChange, FitsDevice, OnlyReadsFor, KeepsAgreement};
+ghost use Rattle.btree.specs.Calls.{OnPages, OnChange, OnlyReadsFor, KeepsAgreement};
 ghost use Rattle.btree.specs.Results.{OnlyIfSpent, SameCatalog};
 
 use crate::node::read_node;
@@ -26,7 +27,6 @@ pub(crate) fn shrink<D: Device>(
     path: &[PathStep],
     outcome: RemovalOutcome,
 ) -> Result<RemovalOutcome, PagesError>
-    requires open { IsOpen pages.old }
     requires sectors { FitsDevice D.Device pages.old device.old }
     requires layout { IsRowLayout layout }
     requires fits { FitsAbove layout outcome }
@@ -43,7 +43,6 @@ pub(crate) fn shrink<D: Device>(
     ensures committed { SameCommitted pages.old pages.new }
     ensures catalog { SameCatalog pages.old pages.new }
     ensures agrees { KeepsAgreement D.Device pages.old device.old pages.new device.new }
-    ensures open { IsOpen pages.new }
     ensures spent { OnlyIfSpent pages.old result }
     ensures cause { ErrOnlyIfChangeRefusal result }
 {
@@ -65,7 +64,6 @@ fn shrink_at<D: Device>(
     step: PathStep,
     below: RemovalOutcome,
 ) -> Result<RemovalOutcome, PagesError>
-    requires open { IsOpen pages.old }
     requires sectors { FitsDevice D.Device pages.old device.old }
     requires layout { IsRowLayout layout }
     requires fits { FitsAbove layout below }
@@ -82,7 +80,6 @@ fn shrink_at<D: Device>(
     ensures committed { SameCommitted pages.old pages.new }
     ensures catalog { SameCatalog pages.old pages.new }
     ensures agrees { KeepsAgreement D.Device pages.old device.old pages.new device.new }
-    ensures open { IsOpen pages.new }
     ensures spent { OnlyIfSpent pages.old result }
     ensures cause { ErrOnlyIfChangeRefusal result }
 {

@@ -1,6 +1,6 @@
 //! A page is written with fewer rows, or given up.
 ghost use Rattle.std.specs.Prelude.{◌≡◌, ◌<◌, ◌↔◌, Err, length, IfOk, IfErr, IsTrue, false};
-ghost use Rattle.pages.specs.Pages.{IsOpen, IsPage, page_count, KeepsCommitted};
+ghost use Rattle.pages.specs.Pages.{IsPage, page_count, KeepsCommitted};
 ghost use Rattle.btree.specs.Changes.{CountsPages, FewNumbers};
 ghost use Rattle.btree.specs.Outcomes.{FitsAbove};
 ghost use Rattle.btree.specs.Fills.{HasTooFewRows};
@@ -20,7 +20,6 @@ pub(crate) fn write_back(
     node: TreePage,
     keeps_least: bool,
 ) -> Result<RemovalOutcome, PagesError>
-    requires open { IsOpen pages.old }
     requires page { IsPage pages.old page }
     ensures pages { IfOk result (PutsBack pages.old pages.new page node keeps_least) }
     ensures fits { IfOk result (FitsAbove node.layout) }
@@ -53,7 +52,6 @@ pub(crate) fn take_out(
     mut leaf: TreePage,
     place: usize,
 ) -> Result<RemovalOutcome, PagesError>
-    requires open { IsOpen pages.old }
     requires page { IsPage pages.old page }
     requires leaf { leaf.kind ≡ Kind.Leaf }
     requires place { place < length leaf.rows }
@@ -76,7 +74,6 @@ pub(crate) fn lose_at(
     step: PathStep,
     mut node: TreePage,
 ) -> Result<RemovalOutcome, PagesError>
-    requires open { IsOpen pages.old }
     ensures pages { IfOk result
         (LosesRow Kind.Inner pages.old pages.new step.page node step.place) }
     ensures fits { IfOk result (FitsAbove node.layout) }
@@ -102,7 +99,6 @@ pub(crate) fn rename_at(
     mut node: TreePage,
     child: &Child,
 ) -> Result<RemovalOutcome, PagesError>
-    requires open { IsOpen pages.old }
     requires layout { child.now.node.layout ≡ node.layout }
     requires some { 0 < length child.now.node.rows }
     ensures pages { IfOk result (RenamesRow pages.old pages.new step node child.now) }

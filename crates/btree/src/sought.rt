@@ -1,14 +1,16 @@
 //! What a search finds: the entry in the leaf where a key belongs, read where the pages stand.
 ghost use Rattle.std.specs.Prelude.{◌≡◌, Err, List, drop, IfOk, IfErr, IfSome, OnErr, true};
-ghost use Rattle.pages.specs.Pages.{IsOpen, IsUnchanged};
+ghost use Rattle.pages.specs.Pages.{IsUnchanged};
+ghost use Rattle.pages.specs.Devices.{FitsDevice};
 ghost use Rattle.btree_pages.specs.RowLayouts.{IsRowLayout};
 ghost use Rattle.btree_pages.specs.Keys.{Ascend, keys_of};
 ghost use Rattle.btree.specs.Tree.{TreeNode, IsTree};
 ghost use Rattle.btree.specs.Entries.{HasLengths, entries_of_rows, entries_of, first_entry};
-ghost use Rattle.btree.specs.Reading.{IsReadRefusal, SpellsNoNode, NoneStands, NoneOfKind, NoTree};
+ghost use Rattle.btree.specs.Reading.{IsReadRefusal, SpellsNoNode, NoneOfKind, NoTree};
 ghost use Rattle.btree.specs.Places.{HasLeaf};
 ghost use Rattle.btree.specs.Sought.{sought_in, AnswersAt, LooksIn, LooksAt, FindsEntry};
-ghost use Rattle.btree.specs.Calls.{OnPages, FitsDevice, OnlyReadsFor, KeepsAgreement};
+ghost use Rattle.btree.specs.Calls.{OnPages, OnlyReadsFor, KeepsAgreement};
+ghost use Rattle.btree.specs.PageReads.{AnswersFromPage};
 ghost use Rattle.btree.specs.Results.{ReturnsDamaged, ExactlyIfSpent};
 
 use crate::child::child_place;
@@ -103,31 +105,23 @@ fn look_loaded<D: Device>(
     pages: &mut PageMap,
     device: &mut D,
     layout: RowLayout,
-    page: u32,
+    unloaded: u32,
     key: &[u8],
     sought: Sought,
     entry: &mut Entry,
 ) -> Result<Look, PagesError>
-    requires open { IsOpen pages.old }
     requires sectors { FitsDevice D.Device pages.old device.old }
     requires layout { IsRowLayout layout }
-    ensures only { OnlyReadsFor D.Device device.old device.new result }
-    ensures unchanged { IsUnchanged pages.old pages.new }
-    ensures agrees { KeepsAgreement D.Device pages.old device.old pages.new device.new }
-    ensures open { IsOpen pages.new }
-    ensures look { OnPages D.Device pages.old device.old
-        (λ before. IfOk result (LooksAt layout before page key.now sought entry.new)) }
+    ensures reads { AnswersFromPage D.Device layout unloaded
+        (λ before. LooksAt layout before unloaded key.now sought entry.new) IsReadRefusal
+        pages.old device.old pages.new device.new result }
     ensures lengths { IfOk result (λ look. look ≡ Look.Here → HasLengths layout entry.new) }
-    ensures damaged { OnPages D.Device pages.old device.old
-        (NoneStands layout page (ReturnsDamaged result)) }
-    ensures spent { ExactlyIfSpent pages.old result }
-    ensures cause { IfErr result IsReadRefusal }
 {
-    pages.load(device, page)?;
-    if let Some(bytes) = pages.view(page) {
+    pages.load(device, unloaded)?;
+    if let Some(bytes) = pages.view(unloaded) {
         return look_in(bytes, layout, key, sought, entry);
     }
-    match pages.read(device, page)? {
+    match pages.read(device, unloaded)? {
         Some(bytes) => look_in(&bytes, layout, key, sought, entry),
         None => Err(PagesError::Damaged),
     }
@@ -143,20 +137,12 @@ fn look_at<D: Device>(
     sought: Sought,
     entry: &mut Entry,
 ) -> Result<Look, PagesError>
-    requires open { IsOpen pages.old }
     requires sectors { FitsDevice D.Device pages.old device.old }
     requires layout { IsRowLayout layout }
-    ensures only { OnlyReadsFor D.Device device.old device.new result }
-    ensures unchanged { IsUnchanged pages.old pages.new }
-    ensures agrees { KeepsAgreement D.Device pages.old device.old pages.new device.new }
-    ensures open { IsOpen pages.new }
-    ensures look { OnPages D.Device pages.old device.old
-        (λ before. IfOk result (LooksAt layout before page key.now sought entry.new)) }
+    ensures reads { AnswersFromPage D.Device layout page
+        (λ before. LooksAt layout before page key.now sought entry.new) IsReadRefusal
+        pages.old device.old pages.new device.new result }
     ensures lengths { IfOk result (λ look. look ≡ Look.Here → HasLengths layout entry.new) }
-    ensures damaged { OnPages D.Device pages.old device.old
-        (NoneStands layout page (ReturnsDamaged result)) }
-    ensures spent { ExactlyIfSpent pages.old result }
-    ensures cause { IfErr result IsReadRefusal }
 {
     pages.note_use(page);
     if let Some(bytes) = pages.view(page) {
@@ -174,13 +160,11 @@ pub(crate) fn entry_at<D: Device>(
     key: &[u8],
     sought: Sought,
 ) -> Result<Option<Entry>, PagesError>
-    requires open { IsOpen pages.old }
     requires sectors { FitsDevice D.Device pages.old device.old }
     requires layout { IsRowLayout layout }
     ensures only { OnlyReadsFor D.Device device.old device.new result }
     ensures unchanged { IsUnchanged pages.old pages.new }
     ensures agrees { KeepsAgreement D.Device pages.old device.old pages.new device.new }
-    ensures open { IsOpen pages.new }
     ensures entry { OnPages D.Device pages.old device.old
         (λ before. IfOk result (AnswersAt layout before page key.now sought)) }
     ensures lengths { IfOk result (λ entry. IfSome entry (HasLengths layout)) }
@@ -208,13 +192,11 @@ pub(crate) fn search<D: Device>(
     sought: Sought,
     entry: &mut Entry,
 ) -> Result<SearchEnd, PagesError>
-    requires open { IsOpen pages.old }
     requires sectors { FitsDevice D.Device pages.old device.old }
     requires layout { IsRowLayout layout }
     ensures only { OnlyReadsFor D.Device device.old device.new result }
     ensures unchanged { IsUnchanged pages.old pages.new }
     ensures agrees { KeepsAgreement D.Device pages.old device.old pages.new device.new }
-    ensures open { IsOpen pages.new }
     ensures finds { OnPages D.Device pages.old device.old
         (λ before. (levels : List (List TreeNode)) → IsTree layout before root levels
         → IfOk result (λ end. FindsEntry (entries_of layout levels) key.now sought entry.new

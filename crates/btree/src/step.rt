@@ -1,11 +1,10 @@
 //! One step of a key's way down a tree.
-ghost use Rattle.std.specs.Prelude.{◌≡◌, ◌⊎◌, ◌<◌, Err, IfOk, IfErr, OnErr};
-ghost use Rattle.pages.specs.Pages.{IsOpen, IsUnchanged};
+ghost use Rattle.std.specs.Prelude.{◌≡◌, ◌⊎◌, ◌<◌, Err, IfOk, OnErr};
+ghost use Rattle.pages.specs.Devices.{FitsDevice};
 ghost use Rattle.btree_pages.specs.RowLayouts.{IsRowLayout};
-ghost use Rattle.btree.specs.Reading.{IsSearchRefusal, SpellsNoNode, NoneStands};
+ghost use Rattle.btree.specs.Reading.{IsSearchRefusal, SpellsNoNode};
 ghost use Rattle.btree.specs.Steps.{StepsIn, StepsAt};
-ghost use Rattle.btree.specs.Calls.{OnPages, FitsDevice, OnlyReadsFor, KeepsAgreement};
-ghost use Rattle.btree.specs.Results.{ReturnsDamaged, ExactlyIfSpent};
+ghost use Rattle.btree.specs.PageReads.{AnswersFromPage};
 
 use crate::child::{Child, child_place, note_right};
 use crate::key::Key;
@@ -26,19 +25,11 @@ pub(crate) fn step_at<D: Device>(
     key: &[u8],
     right: &mut Option<Key>,
 ) -> Result<Option<Child>, PagesError>
-    requires open { IsOpen pages.old }
     requires sectors { FitsDevice D.Device pages.old device.old }
     requires layout { IsRowLayout layout }
-    ensures only { OnlyReadsFor D.Device device.old device.new result }
-    ensures unchanged { IsUnchanged pages.old pages.new }
-    ensures agrees { KeepsAgreement D.Device pages.old device.old pages.new device.new }
-    ensures open { IsOpen pages.new }
-    ensures step { OnPages D.Device pages.old device.old (λ before.
-        IfOk result (λ child. StepsAt layout before page key.now right.old right.new child)) }
-    ensures damaged { OnPages D.Device pages.old device.old
-        (NoneStands layout page (ReturnsDamaged result)) }
-    ensures spent { ExactlyIfSpent pages.old result }
-    ensures cause { IfErr result (IsSearchRefusal layout) }
+    ensures reads { AnswersFromPage D.Device layout page
+        (λ before. StepsAt layout before page key.now right.old right.new) (IsSearchRefusal layout)
+        pages.old device.old pages.new device.new result }
 {
     pages.note_use(page);
     if let Some(bytes) = pages.view(page) {
@@ -81,29 +72,21 @@ fn step_loaded<D: Device>(
     pages: &mut PageMap,
     device: &mut D,
     layout: RowLayout,
-    page: u32,
+    unloaded: u32,
     key: &[u8],
     right: &mut Option<Key>,
 ) -> Result<Option<Child>, PagesError>
-    requires open { IsOpen pages.old }
     requires sectors { FitsDevice D.Device pages.old device.old }
     requires layout { IsRowLayout layout }
-    ensures only { OnlyReadsFor D.Device device.old device.new result }
-    ensures unchanged { IsUnchanged pages.old pages.new }
-    ensures agrees { KeepsAgreement D.Device pages.old device.old pages.new device.new }
-    ensures open { IsOpen pages.new }
-    ensures step { OnPages D.Device pages.old device.old (λ before.
-        IfOk result (λ child. StepsAt layout before page key.now right.old right.new child)) }
-    ensures damaged { OnPages D.Device pages.old device.old
-        (NoneStands layout page (ReturnsDamaged result)) }
-    ensures spent { ExactlyIfSpent pages.old result }
-    ensures cause { IfErr result (IsSearchRefusal layout) }
+    ensures reads { AnswersFromPage D.Device layout unloaded
+        (λ before. StepsAt layout before unloaded key.now right.old right.new)
+        (IsSearchRefusal layout) pages.old device.old pages.new device.new result }
 {
-    pages.load(device, page)?;
-    if let Some(bytes) = pages.view(page) {
+    pages.load(device, unloaded)?;
+    if let Some(bytes) = pages.view(unloaded) {
         return step_in(alloc, bytes, layout, key, right);
     }
-    match pages.read(device, page)? {
+    match pages.read(device, unloaded)? {
         Some(bytes) => step_in(alloc, &bytes, layout, key, right),
         None => Err(PagesError::Damaged),
     }

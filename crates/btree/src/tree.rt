@@ -1,14 +1,15 @@
 //! A tree, and what is read of it.
-ghost use Rattle.std.specs.Prelude.{◌≡◌, ◌++◌, ◌⊎◌, Err, ℕ, List, IfOk, IfErr, IfSome};
-ghost use Rattle.pages.specs.Pages.{IsOpen, IsUnchanged};
+ghost use Rattle.std.specs.Prelude.{◌≡◌, ◌≢◌, ◌++◌, ◌⊎◌, Err, ℕ, List, IfOk, IfErr, IfSome};
+ghost use Rattle.pages.specs.Pages.{IsUnchanged};
+ghost use Rattle.pages.specs.Devices.{FitsDevice};
 ghost use Rattle.btree_pages.specs.RowLayouts.{IsRowLayout};
 ghost use Rattle.btree.specs.Tree.{TreeNode, IsTree, rows_in_order};
 ghost use Rattle.btree.specs.Path.{first_key};
 ghost use Rattle.btree.specs.Entries.{HasLengths, entry_with, first_from, first_entry_after, first_entry, entries_of_rows};
 ghost use Rattle.btree.specs.Reading.{IsSearchRefusal};
 ghost use Rattle.btree.specs.Sought.{sought_in};
-ghost use Rattle.btree.specs.Calls.{OnPages, AnswersEntry, FitsDevice, OnlyReadsFor, KeepsAgreement, DamagedOnlyIfNoTree, AnswersKey};
-ghost use Rattle.btree.specs.Results.{OnlyIfSpent, ExactlyIfSpentAt};
+ghost use Rattle.btree.specs.Calls.{OnPages, AnswersEntry, OnlyReadsFor, KeepsAgreement, DamagedOnlyIfNoTree, AnswersKey};
+ghost use Rattle.btree.specs.Results.{OnlyIfSpent, ExactlyIfSpent, ExactlyIfSpentAt};
 
 use crate::descend::follow;
 use crate::entry::Entry;
@@ -80,12 +81,10 @@ impl Tree {
         device: &mut D,
         key: &[u8],
     ) -> Result<Option<Entry>, PagesError>
-        requires open { IsOpen pages.old }
         requires sectors { FitsDevice D.Device pages.old device.old }
         ensures only { OnlyReadsFor D.Device device.old device.new result }
         ensures unchanged { IsUnchanged pages.old pages.new }
         ensures agrees { KeepsAgreement D.Device pages.old device.old pages.new device.new }
-        ensures open { IsOpen pages.new }
         ensures entry { AnswersKey D.Device self.now pages.old device.old entry_with
             key.now result }
         ensures damaged { DamagedOnlyIfNoTree D.Device self.now pages.old device.old result }
@@ -119,12 +118,10 @@ impl Tree {
         device: &mut D,
         key: &[u8],
     ) -> Result<Option<Entry>, PagesError>
-        requires open { IsOpen pages.old }
         requires sectors { FitsDevice D.Device pages.old device.old }
         ensures only { OnlyReadsFor D.Device device.old device.new result }
         ensures unchanged { IsUnchanged pages.old pages.new }
         ensures agrees { KeepsAgreement D.Device pages.old device.old pages.new device.new }
-        ensures open { IsOpen pages.new }
         ensures entry { AnswersKey D.Device self.now pages.old device.old first_from
             key.now result }
         ensures damaged { DamagedOnlyIfNoTree D.Device self.now pages.old device.old result }
@@ -142,12 +139,10 @@ impl Tree {
         device: &mut D,
         key: &[u8],
     ) -> Result<Option<Entry>, PagesError>
-        requires open { IsOpen pages.old }
         requires sectors { FitsDevice D.Device pages.old device.old }
         ensures only { OnlyReadsFor D.Device device.old device.new result }
         ensures unchanged { IsUnchanged pages.old pages.new }
         ensures agrees { KeepsAgreement D.Device pages.old device.old pages.new device.new }
-        ensures open { IsOpen pages.new }
         ensures entry { AnswersKey D.Device self.now pages.old device.old first_entry_after
             key.now result }
         ensures damaged { DamagedOnlyIfNoTree D.Device self.now pages.old device.old result }
@@ -164,12 +159,10 @@ impl Tree {
         pages: &mut PageMap,
         device: &mut D,
     ) -> Result<Option<Entry>, PagesError>
-        requires open { IsOpen pages.old }
         requires sectors { FitsDevice D.Device pages.old device.old }
         ensures only { OnlyReadsFor D.Device device.old device.new result }
         ensures unchanged { IsUnchanged pages.old pages.new }
         ensures agrees { KeepsAgreement D.Device pages.old device.old pages.new device.new }
-        ensures open { IsOpen pages.new }
         ensures entry { AnswersEntry D.Device self.now pages.old device.old first_entry result }
         ensures damaged { DamagedOnlyIfNoTree D.Device self.now pages.old device.old result }
         ensures spent { ExactlyIfSpentAt self.now.root pages.old result }
@@ -187,13 +180,11 @@ impl Tree {
         key: &[u8],
         sought: Sought,
     ) -> Result<Option<Entry>, PagesError>
-        requires open { IsOpen pages.old }
         requires sectors { FitsDevice D.Device pages.old device.old }
         requires sought { (sought ≡ Sought.From) ⊎ (sought ≡ Sought.After) }
         ensures only { OnlyReadsFor D.Device device.old device.new result }
         ensures unchanged { IsUnchanged pages.old pages.new }
         ensures agrees { KeepsAgreement D.Device pages.old device.old pages.new device.new }
-        ensures open { IsOpen pages.new }
         ensures entry { AnswersKey D.Device self.now pages.old device.old (sought_in sought) key.now
             result }
         ensures damaged { DamagedOnlyIfNoTree D.Device self.now pages.old device.old result }
@@ -213,7 +204,7 @@ impl Tree {
         self.search_right(pages, device, key, sought)
     }
 
-    /// The same, by a way that keeps what stands to the right of its leaf. Refusals are those of `get`.
+    /// The same in a tree that has a root, by a way that keeps what is to the right of its leaf. Refusals are those of `get`.
     #[cold]
     #[inline(never)]
     pub(crate) fn search_right<D: Device>(
@@ -223,23 +214,19 @@ impl Tree {
         key: &[u8],
         sought: Sought,
     ) -> Result<Option<Entry>, PagesError>
-        requires open { IsOpen pages.old }
+        requires root { self.now.root ≢ 0 }
         requires sectors { FitsDevice D.Device pages.old device.old }
         requires sought { (sought ≡ Sought.From) ⊎ (sought ≡ Sought.After) }
         ensures only { OnlyReadsFor D.Device device.old device.new result }
         ensures unchanged { IsUnchanged pages.old pages.new }
         ensures agrees { KeepsAgreement D.Device pages.old device.old pages.new device.new }
-        ensures open { IsOpen pages.new }
         ensures entry { AnswersKey D.Device self.now pages.old device.old (sought_in sought) key.now
             result }
         ensures damaged { DamagedOnlyIfNoTree D.Device self.now pages.old device.old result }
-        ensures spent { ExactlyIfSpentAt self.now.root pages.old result }
+        ensures spent { ExactlyIfSpent pages.old result }
         ensures lengths { IfOk result (λ entry. IfSome entry (HasLengths self.now.layout)) }
         ensures cause { IfErr result (IsSearchRefusal self.now.layout) }
     {
-        if self.root == 0 {
-            return Ok(None);
-        }
         let way = follow(self.alloc, pages, device, self.layout, self.root, key)?;
         match entry_at(pages, device, self.layout, way.page, key, sought)? {
             Some(found) => Ok(Some(found)),
@@ -256,12 +243,10 @@ impl Tree {
         device: &mut D,
         right: Option<Key>,
     ) -> Result<Option<Entry>, PagesError>
-        requires open { IsOpen pages.old }
         requires sectors { FitsDevice D.Device pages.old device.old }
         ensures only { OnlyReadsFor D.Device device.old device.new result }
         ensures unchanged { IsUnchanged pages.old pages.new }
         ensures agrees { KeepsAgreement D.Device pages.old device.old pages.new device.new }
-        ensures open { IsOpen pages.new }
         ensures entry { OnPages D.Device pages.old device.old
             (λ before. (levels : List (List TreeNode)) → IsTree self.now.layout before self.now.root
             levels → (passed after : List (List ℕ)) → rows_in_order levels ≡ passed ++ after

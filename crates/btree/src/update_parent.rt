@@ -1,6 +1,6 @@
 //! A page learns what became of one of its children.
 ghost use Rattle.std.specs.Prelude.{◌≡◌, ◌<◌, ◌+◌, ◌⊎◌, None, length, IfOk, IfErr, IfSome, IsSome, MatchOption};
-ghost use Rattle.pages.specs.Pages.{IsOpen, IsPage, KeepsCommitted};
+ghost use Rattle.pages.specs.Pages.{IsPage, KeepsCommitted};
 ghost use Rattle.btree.specs.Tree.{row_of};
 ghost use Rattle.btree.specs.Propagates.{node_with};
 ghost use Rattle.btree.specs.Changes.{CanStand, IsSplit, HasKeys};
@@ -31,7 +31,6 @@ pub(crate) fn put_back(
     page: u32,
     node: TreePage,
 ) -> Result<SplitResult, PagesError>
-    requires open { IsOpen pages.old }
     requires page { IsPage pages.old page }
     ensures is { IfOk result
         (λ split. (split.page ≡ page) × (split.left ≡ node) × (split.right ≡ None)) }
@@ -59,7 +58,6 @@ fn put_beside(
     place: usize,
     right: &Right,
 ) -> Result<SplitResult, PagesError>
-    requires open { IsOpen pages.old }
     requires page { IsPage pages.old page }
     requires inner { node.kind ≡ Kind.Inner }
     requires place { place < length node.rows }
@@ -92,7 +90,6 @@ pub(crate) fn update_parent(
     place: usize,
     split: &SplitResult,
 ) -> Result<Option<SplitResult>, PagesError>
-    requires open { IsOpen pages.old }
     requires page { IsPage pages.old page }
     requires inner { node.kind ≡ Kind.Inner }
     requires place { place < length node.rows }

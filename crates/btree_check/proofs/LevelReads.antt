@@ -8,7 +8,7 @@ use Rattle.station.specs.Disk.{Sector}
 use Rattle.station.specs.Calls.{OnlyReads}
 use Rattle.station.specs.declared.device.Device.{Ghosts as Devices}
 use Rattle.station.proofs.Calls.{reads_then, reads_nothing}
-use Rattle.pages.specs.Pages.{Agrees, IsOpen, IsUnchanged}
+use Rattle.pages.specs.Pages.{Agrees, IsUnchanged}
 use Rattle.pages.specs.declared.page_map.PageMap.{PageMap}
 use Rattle.btree_pages.specs.declared.row_layout.RowLayout.{RowLayout}
 use Rattle.btree_pages.specs.declared.row_layout.Kind.{Kind}
@@ -44,15 +44,13 @@ module _ {D : Type 0} (device : Devices D) where
     pub only : OnlyReads device ⊥ before after
     pub unchanged : IsUnchanged old new
     pub agrees : device.is_honest before → Agrees old (device.state before).disk → Agrees new (device.state after).disk
-    pub is_open : IsOpen new
     pub marks : Marks seen numbers marked
 
-  pub reads_none : (p : PageMap) (now : D) (seen : List Bool) → IsOpen p → ReadsPages p p now now seen seen []
-  reads_none p now seen is_open = record {
+  pub reads_none : (p : PageMap) (now : D) (seen : List Bool) → ReadsPages p p now now seen seen []
+  reads_none p now seen = record {
     only = reads_nothing device now;
     unchanged = unchanged_still p;
     agrees = λ h a. a;
-    is_open = is_open;
     marks = marks_none seen;
   }
 
@@ -61,15 +59,14 @@ module _ {D : Type 0} (device : Devices D) where
       → ReadsPages one two first mid seen marks (separator_pages (take place separators))
       → OnlyReads device blamed mid last → IsUnchanged two three
       → (device.is_honest mid → Agrees two (device.state mid).disk → Agrees three (device.state last).disk)
-      → IsOpen three → place < length separators → separator ≡ slice_index_or separators place separator
+      → place < length separators → separator ≡ slice_index_or separators place separator
       → Marks marks (separator.page ∷ []) later
       → ReadsPages one three first last seen later (separator_pages (take (place + 1) separators))
   reads_next one two three first mid last seen marks later separators place separator blamed reads only unchanged agrees
-      is_open low is marked = record {
+      low is marked = record {
         only = reads_then device ⊥ blamed ⊥ first mid last (λ e. absurd e) reads.only only;
         unchanged = unchanged_on one two three reads.unchanged unchanged;
         agrees = λ h a. agrees (reads.only.honest.0 h) (reads.agrees h a);
-        is_open = is_open;
         marks = marks_next separators place separator seen marks later low is reads.marks marked;
       }
 
@@ -119,7 +116,7 @@ module _ {D : Type 0} (device : Devices D) where
     pub inner_read : (three : PageMap) (last : D) (later : List Bool) (other : RowLayout) (rows : List (List ℕ))
         (lower next : List Separator) (blamed : Type 0) → OnlyReads device blamed mid last → IsUnchanged two three
         → (device.is_honest mid → Agrees two (device.state mid).disk → Agrees three (device.state last).disk)
-        → IsOpen three → Marks marks (separator.page ∷ []) later
+        → Marks marks (separator.page ∷ []) later
         → OnPages device two mid (λ pages. HasSeparator layout pages Inner separator rows) → other ≡ layout
         → 2 ≤ length rows → next ≡ lower ++ map (separator_in other) rows
         → map separator_row (map (separator_in other) rows) ≡ rows → place ≤ length lower
@@ -127,10 +124,10 @@ module _ {D : Type 0} (device : Devices D) where
         → ReadsPages one three first last seen later (separator_pages (take (place + 1) separators))
         × (place + 1 ≤ length next)
         × OnPages device one first (λ pages. FindsInner layout pages (take (place + 1) separators) next)
-    inner_read three last later other rows lower next blamed only unchanged agrees is_open marked has layout_is some
+    inner_read three last later other rows lower next blamed only unchanged agrees marked has layout_is some
         added back more finds = (
           reads_next one two three first mid last seen marks later separators place separator blamed reads only
-              unchanged agrees is_open low is marked,
+              unchanged agrees low is marked,
           omega (arith, some, more, count_listed other rows lower next added),
           inner_next other rows lower next has layout_is added back finds,
         )

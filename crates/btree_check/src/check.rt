@@ -1,7 +1,7 @@
 //! The walk that tells whether the pages under a root are a tree.
 ghost use Rattle.std.specs.Prelude.{true, false, ◌≡◌, ◌≤◌, ◌<◌, ◌+◌, Err, [], ◌∷◌, length, IfOk, IfErr, OnOk, MatchOption, IfSome};
 ghost use Rattle.station.specs.Calls.{OnlyReads};
-ghost use Rattle.pages.specs.Pages.{sectors_of, Agrees, IsOpen, IsUnchanged};
+ghost use Rattle.pages.specs.Pages.{sectors_of, Agrees, IsUnchanged};
 ghost use Rattle.btree_pages.specs.RowLayouts.{IsRowLayout};
 ghost use Rattle.btree_pages.specs.Keys.{keys_of, Ascend};
 ghost use Rattle.btree.specs.Reading.{IsReadRefusal, HasKindShape};
@@ -30,13 +30,11 @@ pub fn check_tree<D: Device>(
     device: &mut D,
     seen: &mut [bool],
 ) -> Result<(), PagesError>
-    requires open { IsOpen pages.old }
     requires sectors { sectors_of pages.old ≤ D.sectors device.old }
     ensures only { OnlyReads D.Device (result ≡ Err PagesError.Device) device.old device.new }
     ensures unchanged { IsUnchanged pages.old pages.new }
     ensures agrees { IfAgrees D.Device pages.old device.old
         (Agrees pages.new (D.state device.new).disk) }
-    ensures open { IsOpen pages.new }
 
     // There is a tree, and no page of it was marked.
     ensures holds { OnPages D.Device pages.old device.old
@@ -89,14 +87,12 @@ fn check_node<D: Device>(
     separator: &Separator,
     seen: &mut [bool],
 ) -> Result<TreePage, PagesError>
-    requires open { IsOpen pages.old }
     requires sectors { sectors_of pages.old ≤ D.sectors device.old }
     requires layout { IsRowLayout layout }
     ensures only { OnlyReads D.Device (result ≡ Err PagesError.Device) device.old device.new }
     ensures unchanged { IsUnchanged pages.old pages.new }
     ensures agrees { IfAgrees D.Device pages.old device.old
         (Agrees pages.new (D.state device.new).disk) }
-    ensures open { IsOpen pages.new }
     ensures node { OnPages D.Device pages.old device.old
         (λ before. IfOk result (λ node. HasSeparator layout before kind separator.now node.rows)) }
     ensures shape { IfOk result (HasKindShape layout kind) }
@@ -130,14 +126,12 @@ fn check_inner<D: Device>(
     separators: &[Separator],
     seen: &mut [bool],
 ) -> Result<Vec<Separator>, PagesError>
-    requires open { IsOpen pages.old }
     requires sectors { sectors_of pages.old ≤ D.sectors device.old }
     requires layout { IsRowLayout layout }
     ensures only { OnlyReads D.Device (result ≡ Err PagesError.Device) device.old device.new }
     ensures unchanged { IsUnchanged pages.old pages.new }
     ensures agrees { IfAgrees D.Device pages.old device.old
         (Agrees pages.new (D.state device.new).disk) }
-    ensures open { IsOpen pages.new }
     ensures level { OnPages D.Device pages.old device.old
         (λ before. IfOk result (λ lower. FindsInner layout before separators.now lower.items)) }
     ensures marks { OnOk result (Marks seen.old (separator_pages separators.now) seen.new) }
@@ -191,14 +185,12 @@ fn check_leaves<D: Device>(
     separators: &[Separator],
     seen: &mut [bool],
 ) -> Result<(), PagesError>
-    requires open { IsOpen pages.old }
     requires sectors { sectors_of pages.old ≤ D.sectors device.old }
     requires layout { IsRowLayout layout }
     ensures only { OnlyReads D.Device (result ≡ Err PagesError.Device) device.old device.new }
     ensures unchanged { IsUnchanged pages.old pages.new }
     ensures agrees { IfAgrees D.Device pages.old device.old
         (Agrees pages.new (D.state device.new).disk) }
-    ensures open { IsOpen pages.new }
     ensures level { OnPages D.Device pages.old device.old
         (λ before. OnOk result (FindsLeaves layout before separators.now)) }
     ensures marks { OnOk result (Marks seen.old (separator_pages separators.now) seen.new) }
@@ -225,7 +217,6 @@ fn check_level<D: Device>(
     separators: &[Separator],
     seen: &mut [bool],
 ) -> Result<Option<Vec<Separator>>, PagesError>
-    requires open { IsOpen pages.old }
     requires sectors { sectors_of pages.old ≤ D.sectors device.old }
     requires layout { IsRowLayout layout }
     requires some { 0 < length separators.now }
@@ -233,7 +224,6 @@ fn check_level<D: Device>(
     ensures unchanged { IsUnchanged pages.old pages.new }
     ensures agrees { IfAgrees D.Device pages.old device.old
         (Agrees pages.new (D.state device.new).disk) }
-    ensures open { IsOpen pages.new }
     ensures level { OnPages D.Device pages.old device.old
         (λ before. IfOk result (λ lower. MatchOption lower (FindsLeaves layout before
         separators.now) (λ lower. FindsInner layout before separators.now lower.items))) }
@@ -267,7 +257,6 @@ fn check_levels<D: Device>(
     seen: &mut [bool],
     depth: usize,
 ) -> Result<(), PagesError>
-    requires open { IsOpen pages.old }
     requires sectors { sectors_of pages.old ≤ D.sectors device.old }
     requires layout { IsRowLayout layout }
     requires some { 0 < length separators.items }
@@ -275,7 +264,6 @@ fn check_levels<D: Device>(
     ensures unchanged { IsUnchanged pages.old pages.new }
     ensures agrees { IfAgrees D.Device pages.old device.old
         (Agrees pages.new (D.state device.new).disk) }
-    ensures open { IsOpen pages.new }
     ensures finds { OnPages D.Device pages.old device.old
         (λ before. OnOk result (FindsLevels layout before separators.items seen.old seen.new)) }
     ensures damaged { OnPages D.Device pages.old device.old

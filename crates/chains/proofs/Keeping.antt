@@ -9,7 +9,7 @@ use Rattle.station.specs.Calls.{OnlyReads}
 use Rattle.station.specs.declared.device.Device.{Ghosts as Devices}
 use Rattle.station.proofs.Calls.{reads_then, reads_nothing}
 use Rattle.pages.specs.Changes.{ChangesPage}
-use Rattle.pages.specs.Pages.{catalog_of, changed_pages_of, is_spent, Agrees, IsOpen, SameCommitted, KeepsCommitted}
+use Rattle.pages.specs.Pages.{catalog_of, changed_pages_of, is_spent, Agrees, SameCommitted, KeepsCommitted}
 use Rattle.pages.specs.declared.page_map.PageMap.{PageMap}
 use Rattle.btree.specs.Changes.{pages_of_map}
 use Rattle.btree.proofs.Frames.{false_unless}
@@ -29,17 +29,15 @@ module _ {D : Type 0} (device : Devices D) where
     pub committed : SameCommitted old new
     pub catalog : catalog_of new ≡ catalog_of old
     pub agrees : device.is_honest before → Agrees old (device.state before).disk → Agrees new (device.state after).disk
-    pub is_open : IsOpen new
     pub changed_pages : length (changed_pages_of new) ≤ length (changed_pages_of old) + place
     pub unspent : 0 < place → is_spent old ≡ false
 
-  pub keeps_nothing : (p : PageMap) (now : D) → IsOpen p → KeepsMap p p now now 0
-  keeps_nothing p now is_open = record {
+  pub keeps_nothing : (p : PageMap) (now : D) → KeepsMap p p now now 0
+  keeps_nothing p now = record {
     only = reads_nothing device now;
     committed = record { volume = refl; mark = refl; spent = refl };
     catalog = refl;
     agrees = λ honest agrees. agrees;
-    is_open = is_open;
     changed_pages = omega arith;
     unspent = λ some. absurd (omega (arith, some));
   }
@@ -54,7 +52,6 @@ module _ {D : Type 0} (device : Devices D) where
     catalog = later.catalog ∙ keeps.catalog;
     agrees = λ h a. later.agrees (device.state last).disk
         (still_agrees two _ _ (only.state (keeps.only.honest.0 h)) (keeps.agrees h a));
-    is_open = later.is_open keeps.is_open;
     changed_pages = changed_more (changed_pages_of one) (changed_pages_of two) page (changed_pages_of three) place
         keeps.changed_pages changes;
     unspent = λ some. false_unless (is_spent one) (λ was. unspent (keeps.committed.spent ∙ was));

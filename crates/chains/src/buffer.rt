@@ -1,7 +1,7 @@
 //! Memory for the pages of a record while it is read.
 ghost use Rattle.std.specs.Prelude.{◌≡◌, ◌≢◌, ◌≤◌, ◌⊎◌, true, Err, length, take, max, OnOk, OnErr, IfErr};
 ghost use Rattle.station.specs.Calls.{OnlyReads};
-ghost use Rattle.pages.specs.Pages.{is_spent, sectors_of, IsOpen};
+ghost use Rattle.pages.specs.Pages.{is_spent, sectors_of};
 ghost use Rattle.btree.specs.Calls.{OnPages};
 ghost use Rattle.btree.specs.Reading.{IsReadRefusal};
 ghost use Rattle.btree.specs.Results.{ReturnsDamaged, OnlyIfSpent, ExactlyIfSpentAt};
@@ -40,7 +40,6 @@ impl RecordBuffer {
         first: u32,
         into: &mut [u8],
     ) -> Result<(), PagesError>
-        requires open { IsOpen pages.now }
         requires sectors { sectors_of pages.now ≤ D.sectors device.old }
         ensures only { OnlyReads D.Device (result ≡ Err PagesError.Device) device.old device.new }
         ensures record { OnPages D.Device pages.now device.old
@@ -81,7 +80,6 @@ impl RecordBuffer {
         first: u32,
         count: usize,
     ) -> Result<(), PagesError>
-        requires open { IsOpen pages.now }
         requires sectors { sectors_of pages.now ≤ D.sectors device.old }
         requires room { count ≤ length self.old.pages.items }
         ensures only { OnlyReads D.Device (result ≡ Err PagesError.Device) device.old device.new }

@@ -2,7 +2,7 @@
 ghost use Rattle.std.specs.Prelude.{◌≡◌, length, IfOk, IfErr};
 ghost use Rattle.std.specs.Prelude.{List};
 ghost use Rattle.station.specs.Disk.{Sector};
-ghost use Rattle.pages.specs.Pages.{IsOpen, KeepsCommitted};
+ghost use Rattle.pages.specs.Pages.{KeepsCommitted};
 ghost use Rattle.btree.specs.Changes.{pages_of_map};
 ghost use Rattle.btree.specs.Refusals.{IsWriteRefusal};
 ghost use Rattle.btree.specs.Results.{ExactlyIfSpentAt, FullIfUsed, FewChanged, FewFilled};
@@ -16,7 +16,6 @@ use pages::{PageMap, PagesError};
 /// Puts a record on new pages, and returns the first page of its chain; the record without bytes has no pages, and first page 0. After a
 /// refusal the pages that aren't committed are given up with the map of pages. `Full` means that no page number is left.
 pub fn lay(pages: &mut PageMap, bytes: &[u8]) -> Result<u32, PagesError>
-    requires open { IsOpen pages.old }
     ensures laid { IfOk result (λ first. (image : List Sector)
         → Lays (pages_of_map pages.old image) bytes.now (pages_of_map pages.new image) first) }
 

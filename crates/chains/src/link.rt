@@ -2,7 +2,7 @@
 ghost use Rattle.std.specs.Prelude.{◌≡◌, ◌≤◌, ◌<◌, ◌+◌, Err, Some, suc, List, length, take, IfOk, IfErr, OnOk, OnErr};
 ghost use Rattle.station.specs.Disk.{Sector};
 ghost use Rattle.station.specs.Calls.{OnlyReads};
-ghost use Rattle.pages.specs.Pages.{sectors_of, IsOpen, IsPage, KeepsCommitted};
+ghost use Rattle.pages.specs.Pages.{sectors_of, IsPage, KeepsCommitted};
 ghost use Rattle.btree_pages.specs.Bytes.{put_at};
 ghost use Rattle.btree.specs.Calls.{OnPages};
 ghost use Rattle.btree.specs.Changes.{pages_of_map};
@@ -29,7 +29,6 @@ const PART_AT: usize = 16;
 
 /// The page after a page of a chain. It is read past the cache of pages, which stays. `Damaged` means that the page is none of a chain.
 pub fn next_page<D: Device>(pages: &PageMap, device: &mut D, page: u32) -> Result<u32, PagesError>
-    requires open { IsOpen pages.now }
     requires sectors { sectors_of pages.now ≤ D.sectors device.old }
     ensures only { OnlyReads D.Device (result ≡ Err PagesError.Device) device.old device.new }
     ensures link { OnPages D.Device pages.now device.old
@@ -44,7 +43,6 @@ pub fn next_page<D: Device>(pages: &PageMap, device: &mut D, page: u32) -> Resul
 
 /// Puts a part of a record on a page that wasn't in the map, in front of the page of the next part.
 pub(crate) fn put_link(pages: &mut PageMap, next: u32, part: &[u8]) -> Result<u32, PagesError>
-    requires open { IsOpen pages.old }
     requires part { length part.now ≤ 4080 }
     ensures pages { IfOk result (λ page. (image : List Sector)
         → PutsLink (pages_of_map pages.old image) next part.now (pages_of_map pages.new image)
@@ -91,7 +89,6 @@ pub(crate) fn page_after<D: Device>(
     page: u32,
     more: usize,
 ) -> Result<u32, PagesError>
-    requires open { IsOpen pages.now }
     requires sectors { sectors_of pages.now ≤ D.sectors device.old }
     ensures only { OnlyReads D.Device (result ≡ Err PagesError.Device) device.old device.new }
     ensures page { OnOk result (IsPage pages.now page) }
@@ -127,7 +124,6 @@ pub(crate) fn add_part<D: Device>(
     held: &mut [u8; 4096],
     bytes: &mut Vec<u8>,
 ) -> Result<u32, PagesError>
-    requires open { IsOpen pages.now }
     requires sectors { sectors_of pages.now ≤ D.sectors device.old }
     requires size { size ≤ 4080 }
     ensures only { OnlyReads D.Device (result ≡ Err PagesError.Device) device.old device.new }
@@ -161,7 +157,6 @@ pub(crate) fn read_link<D: Device>(
     page: u32,
     held: &mut [u8; 4096],
 ) -> Result<u32, PagesError>
-    requires open { IsOpen pages.now }
     requires sectors { sectors_of pages.now ≤ D.sectors device.old }
     ensures only { OnlyReads D.Device (result ≡ Err PagesError.Device) device.old device.new }
     ensures link { OnPages D.Device pages.now device.old

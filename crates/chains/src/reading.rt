@@ -1,7 +1,7 @@
 //! The record of a chain is read.
 ghost use Rattle.std.specs.Prelude.{◌≡◌, ◌≢◌, ◌≤◌, ◌⊎◌, true, Err, length, IfOk, IfErr};
 ghost use Rattle.station.specs.Calls.{OnlyReads};
-ghost use Rattle.pages.specs.Pages.{is_spent, sectors_of, IsOpen};
+ghost use Rattle.pages.specs.Pages.{is_spent, sectors_of};
 ghost use Rattle.btree.specs.Calls.{OnPages};
 ghost use Rattle.btree.specs.Results.{ReturnsDamaged, OnlyIfSpent};
 ghost use Rattle.chains.specs.Chain.{pages_for};
@@ -25,7 +25,6 @@ pub fn read_record<D: Device>(
     size: usize,
     more: usize,
 ) -> Result<Vec<u8>, PagesError>
-    requires open { IsOpen pages.now }
     requires sectors { sectors_of pages.now ≤ D.sectors device.old }
     ensures only { OnlyReads D.Device (result ≡ Err PagesError.Device) device.old device.new }
     ensures bytes { OnPages D.Device pages.now device.old

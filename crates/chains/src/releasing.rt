@@ -1,7 +1,7 @@
 //! A chain leaves the map.
 ghost use Rattle.std.specs.Prelude.{◌≡◌, ◌≤◌, Err, IfErr};
 ghost use Rattle.station.specs.Calls.{OnlyReads};
-ghost use Rattle.pages.specs.Pages.{sectors_of, filled_of, IsOpen, SameCommitted};
+ghost use Rattle.pages.specs.Pages.{sectors_of, filled_of, SameCommitted};
 ghost use Rattle.pages.specs.Commits.{KeepsAgreement};
 ghost use Rattle.btree.specs.Refusals.{IsChangeRefusal};
 ghost use Rattle.btree.specs.Results.{ReturnsDamaged, ExactlyIfSpentAt, FewChanged};
@@ -21,7 +21,6 @@ pub fn release<D: Device>(
     first: u32,
     size: usize,
 ) -> Result<(), PagesError>
-    requires open { IsOpen pages.old }
     requires sectors { sectors_of pages.old ≤ D.sectors device.old }
     ensures only { OnlyReads D.Device (result ≡ Err PagesError.Device) device.old device.new }
     ensures released { ReleasesChain D.Device first (pages_for size) pages.old pages.new device.old
@@ -33,7 +32,6 @@ pub fn release<D: Device>(
     ensures committed { SameCommitted pages.old pages.new }
     ensures catalog { KeepsCatalog pages.old pages.new }
     ensures agrees { KeepsAgreement D.Device pages.old pages.new device.old device.new }
-    ensures open { IsOpen pages.new }
     ensures spent { ExactlyIfSpentAt size pages.old result }
     ensures cause { IfErr result IsChangeRefusal }
 {

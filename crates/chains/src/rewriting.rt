@@ -1,7 +1,7 @@
 //! A chain gets another record.
 ghost use Rattle.std.specs.Prelude.{◌≡◌, ◌≤◌, Err, length, IfErr};
 ghost use Rattle.station.specs.Calls.{OnlyReads};
-ghost use Rattle.pages.specs.Pages.{sectors_of, IsOpen, SameCommitted};
+ghost use Rattle.pages.specs.Pages.{sectors_of, SameCommitted};
 ghost use Rattle.pages.specs.Commits.{KeepsAgreement};
 ghost use Rattle.btree.specs.Refusals.{IsChangeRefusal};
 ghost use Rattle.btree.specs.Results.{ReturnsDamaged, ExactlyIfSpentAt, FewChanged, FewFilled};
@@ -22,7 +22,6 @@ pub fn rewrite<D: Device>(
     first: u32,
     bytes: &[u8],
 ) -> Result<(), PagesError>
-    requires open { IsOpen pages.old }
     requires sectors { sectors_of pages.old ≤ D.sectors device.old }
     ensures only { OnlyReads D.Device (result ≡ Err PagesError.Device) device.old device.new }
     ensures rewritten { RewritesChain D.Device first bytes.now pages.old pages.new device.old
@@ -34,7 +33,6 @@ pub fn rewrite<D: Device>(
     ensures committed { SameCommitted pages.old pages.new }
     ensures catalog { KeepsCatalog pages.old pages.new }
     ensures agrees { KeepsAgreement D.Device pages.old pages.new device.old device.new }
-    ensures open { IsOpen pages.new }
     ensures spent { ExactlyIfSpentAt (length bytes.now) pages.old result }
     ensures cause { IfErr result IsChangeRefusal }
 {

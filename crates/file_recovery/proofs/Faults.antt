@@ -1,29 +1,39 @@
 -- Which refusal of the pages was told.
-use Rattle.std.proofs.Common.{◌≡◌, refl, subst}
+use Rattle.std.proofs.Common.{◌≡◌, true, false, refl, sym, ap, subst, ◌∙◌}
 use Rattle.std.specs.Prelude.{Result, Ok, Err, IfErr}
 use Rattle.std.specs.Result.{IsErrAnd}
 use Rattle.records.specs.declared.fault.StoreFault.{StoreFault}
 use Rattle.records.specs.declared.fault.StoreFault.TheVariants.{Device, Full, Damaged, Memory, Spent, Layout, Old}
-use Rattle.btree_pages.specs.declared.row_layout.RowLayout.{RowLayout}
-use Rattle.btree.specs.Reading.{IsReadRefusal, IsSearchRefusal}
+use Rattle.btree.specs.Reading.{IsReadRefusal}
 use Rattle.btree.specs.Refusals.{IsChangeRefusal}
+use Rattle.btree.proofs.Passing.{passed}
 use Rattle.pages.specs.declared.error.PagesError.{PagesError}
 use Rattle.pages.specs.declared.error.PagesError.TheVariants as pages
-use Rattle.volume_format.specs.Faults.{fault_of}
+use Rattle.pages.specs.declared.page_map.PageMap.{PageMap}
+use Rattle.pages.specs.Pages.{is_spent}
+use Rattle.volume_format.specs.Faults.{fault_of, IsReadFault as IsSearchFault}
 use Rattle.file_recovery.specs.Faults.{IsReadFault}
 use Rattle.file_recovery.specs.Rows.{IsOwnFault}
 
--- why reading an unspent map is refused
-pub read_fault : (layout : RowLayout) (error : PagesError) → IsSearchRefusal layout error → (error ≡ pages.Spent → ⊥)
-    → IsReadFault (fault_of error)
-read_fault layout pages.Device is never = tt
-read_fault layout pages.Full is never = absurd is
-read_fault layout pages.Damaged is never = tt
-read_fault layout pages.Memory is never = tt
-read_fault layout pages.Spent is never = absurd (never refl)
-read_fault layout pages.ForeignMark is never = absurd is
+-- why a search of an unspent map is refused, and a call that passes the refusal on
+search_fault : (fault : StoreFault) → IsSearchFault fault → (fault ≡ Spent → ⊥) → IsReadFault fault
+search_fault Device is never = tt
+search_fault Full is never = absurd is
+search_fault Damaged is never = tt
+search_fault Memory is never = tt
+search_fault Spent is never = absurd (never refl)
+search_fault Layout is never = absurd is
+search_fault Old is never = absurd is
 
--- and reading a page of it
+pub search_passed : {T U : Type 0} {call : Result T StoreFault} (given : Result U StoreFault) (fault : StoreFault)
+    (p : PageMap) → call ≡ Err fault → IsErrAnd given (λ y. y ≡ fault) → IfErr call IsSearchFault
+    → (call ≡ Err Spent → is_spent p ≡ true) → is_spent p ≡ false → IfErr given IsReadFault
+search_passed given fault p was from cause spent unspent =
+    passed given fault from (λ r. IfErr r IsReadFault)
+    (search_fault fault (subst (λ r. IfErr r IsSearchFault) was cause)
+    (λ is. let clash : true ≡ false = sym (spent (was ∙ ap Err is)) ∙ unspent in cc))
+
+-- why reading a page of such a map is refused
 pub page_fault : (error : PagesError) → IsReadRefusal error → (error ≡ pages.Spent → ⊥) → IsReadFault (fault_of error)
 page_fault pages.Device is never = tt
 page_fault pages.Full is never = absurd is

@@ -1,7 +1,7 @@
 //! The trees of all alternate keys of a file.
 ghost use Rattle.std.specs.Prelude.{◌≡◌, ◌≤◌, false, Err, length, IfErr, OnOk};
 ghost use Rattle.std.specs.List.{All};
-ghost use Rattle.pages.specs.Pages.{is_spent, sectors_of, IsOpen};
+ghost use Rattle.pages.specs.Pages.{is_spent, sectors_of};
 ghost use Rattle.btree.specs.Calls.{OnPages};
 ghost use Rattle.records.specs.declared.key.KeyOfReference.TheVariants.{Alternate};
 ghost use Rattle.records.specs.Laws.{RowsAscend};
@@ -31,7 +31,6 @@ pub(crate) fn check_pages<D: Device>(
     device: &mut D,
     seen: &mut [bool],
 ) -> Result<(), StoreFault>
-    requires open { IsOpen pages.old }
     requires unspent { is_spent pages.old ≡ false }
     requires sectors { sectors_of pages.old ≤ D.sectors device.old }
     ensures looks { LooksAt D.Device (result ≡ Err StoreFault.Device) pages.old device.old pages.new
@@ -48,39 +47,45 @@ pub(crate) fn check_pages<D: Device>(
     }
 }
 
-/// Whether the tree of an alternate key, whose root a value of the catalog names, is exactly the pairs of the rows. Its pages are marked.
+/// The root of the tree of an alternate key: the value of the catalog that names its page, and the key.
+#[derive(Clone, Copy)]
+struct AlternateRoot<'a> {
+    value: &'a [u8],
+    key: u8,
+}
+
+/// Whether the tree of an alternate key with this root is exactly the pairs of the rows. Its pages are marked.
 fn check_alternate<D: Device>(
     alloc: Global,
     file: &FileSpec,
-    value: &[u8],
     rows: &[StoredRow],
-    key: u8,
+    root: AlternateRoot<'_>,
     pages: &mut PageMap,
     device: &mut D,
     seen: &mut [bool],
 ) -> Result<(), StoreFault>
-    requires open { IsOpen pages.old }
     requires unspent { is_spent pages.old ≡ false }
     requires sectors { sectors_of pages.old ≤ D.sectors device.old }
-    requires key { IsKey (spec_of file.now) (Alternate key) }
-    requires value { length value.now ≡ 83 }
+    requires key { IsKey (spec_of file.now) (Alternate root.key) }
+    requires value { length root.value.now ≡ 83 }
     requires rows { All (IsSized (spec_of file.now)) (rows_of rows.now) }
     ensures looks { LooksAt D.Device (result ≡ Err StoreFault.Device) pages.old device.old pages.new
         device.new }
     ensures index { RowsAscend file.now.organization (rows_of rows.now)
         → OnPages D.Device pages.old device.old
-        (λ before. OnOk result (FindsIndex before (spec_of file.now) (rows_of rows.now) value.now
-        key seen.old seen.new)) }
+        (λ before. OnOk result (FindsIndex before (spec_of file.now) (rows_of rows.now)
+        root.entry.value.now root.entry.key seen.old seen.new)) }
     ensures damaged { RowsAscend file.now.organization (rows_of rows.now)
         → OnPages D.Device pages.old device.old
         (λ before. result ≡ Err StoreFault.Damaged
-        → NoIndex before (spec_of file.now) (rows_of rows.now) value.now key seen.old) }
+        → NoIndex before (spec_of file.now) (rows_of rows.now) root.entry.value.now root.entry.key
+        seen.old) }
     ensures cause { IfErr result IsReadFault }
 {
-    let layout = tree_layout(file, KeyOfReference::Alternate(key));
-    let tree = Tree::new(alloc, layout, alternate_root(value, key));
+    let layout = tree_layout(file, KeyOfReference::Alternate(root.key));
+    let tree = Tree::new(alloc, layout, alternate_root(root.value, root.key));
     check_pages(alloc, &tree, pages, device, seen)?;
-    check_index(alloc, file, key, rows, &tree, pages, device)
+    check_index(alloc, file, root.key, rows, &tree, pages, device)
 }
 
 /// Whether the trees of all alternate keys are exactly the pairs of the rows. Their pages are marked.
@@ -93,7 +98,6 @@ pub(crate) fn check_alternates<D: Device>(
     device: &mut D,
     seen: &mut [bool],
 ) -> Result<(), StoreFault>
-    requires open { IsOpen pages.old }
     requires unspent { is_spent pages.old ≡ false }
     requires sectors { sectors_of pages.old ≤ D.sectors device.old }
     requires value { length value.now ≡ 83 }
@@ -113,7 +117,8 @@ pub(crate) fn check_alternates<D: Device>(
     map_bounds();
     let count = file.alternates.len() as u8;
     for key in 0..count {
-        check_alternate(alloc, file, value, rows, key, pages, device, seen)?;
+        let root = AlternateRoot { value, key };
+        check_alternate(alloc, file, rows, root, pages, device, seen)?;
     }
     Ok(())
 }

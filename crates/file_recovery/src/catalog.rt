@@ -1,6 +1,6 @@
 //! All files that the catalog lists.
 ghost use Rattle.std.specs.Prelude.{◌≡◌, ◌≤◌, ◌<◌, ◌+◌, ◌^◌, false, Err, length, IfOk, IfErr, OnOk};
-ghost use Rattle.pages.specs.Pages.{map_now, mark_of, is_spent, sectors_of, IsOpen};
+ghost use Rattle.pages.specs.Pages.{map_now, mark_of, is_spent, sectors_of};
 ghost use Rattle.btree.specs.Calls.{IfAgrees, OnPages, OnTree, pages_on};
 ghost use Rattle.btree.specs.Entries.{HasLengths, entries_of};
 ghost use Rattle.volume_format.specs.Catalog.{catalog_layout};
@@ -12,14 +12,13 @@ ghost use Rattle.file_bytes.specs.Stored.{files_of};
 
 use crate::alternates::check_pages;
 use crate::checked_file::check_file;
-use crate::walking::{first_in, next_in};
 use btree::{Entry, Tree};
 use file_bytes::StoredFile;
 use pages::{PageMap, map_bounds};
 use records::StoreFault;
 use station::Device;
 use std::alloc::Global;
-use volume_format::catalog_tree;
+use volume_format::{catalog_tree, first_in, next_in};
 
 /// How many files a volume may have.
 const MOST_FILES: u8 = 255;
@@ -33,7 +32,6 @@ pub(crate) fn read_catalog<D: Device>(
     device: &mut D,
     seen: &mut [bool],
 ) -> Result<Vec<StoredFile>, StoreFault>
-    requires open { IsOpen pages.old }
     requires unspent { is_spent pages.old ≡ false }
     requires sectors { sectors_of pages.old ≤ D.sectors device.old }
     requires generation { generation < 2 ^ 63 }
@@ -63,7 +61,6 @@ fn add_file<D: Device>(
     device: &mut D,
     seen: &mut [bool],
 ) -> Result<(), StoreFault>
-    requires open { IsOpen pages.old }
     requires unspent { is_spent pages.old ≡ false }
     requires sectors { sectors_of pages.old ≤ D.sectors device.old }
     requires generation { generation < 2 ^ 63 }
@@ -95,7 +92,6 @@ fn read_files<D: Device>(
     device: &mut D,
     seen: &mut [bool],
 ) -> Result<Vec<StoredFile>, StoreFault>
-    requires open { IsOpen pages.old }
     requires unspent { is_spent pages.old ≡ false }
     requires sectors { sectors_of pages.old ≤ D.sectors device.old }
     requires generation { generation < 2 ^ 63 }

@@ -1,7 +1,7 @@
 //! A record that is in a chain of pages is read, and the pages of its chain are marked.
 ghost use Rattle.std.specs.Prelude.{◌≡◌, ◌≤◌, ◌+◌, false, Err, length, IfOk, IfErr, OnOk};
 ghost use Rattle.station.specs.Calls.{OnlyReads};
-ghost use Rattle.pages.specs.Pages.{is_spent, sectors_of, IsOpen};
+ghost use Rattle.pages.specs.Pages.{is_spent, sectors_of};
 ghost use Rattle.btree.specs.Calls.{OnPages};
 ghost use Rattle.chains.specs.Chain.{pages_for};
 ghost use Rattle.chains.specs.Changes.{IsRecordOf};
@@ -32,7 +32,6 @@ pub(crate) fn whole_value<D: Device>(
     device: &mut D,
     seen: &mut [bool],
 ) -> Result<Vec<u8>, StoreFault>
-    requires open { IsOpen pages.old }
     requires unspent { is_spent pages.old ≡ false }
     requires sectors { sectors_of pages.old ≤ D.sectors device.old }
     requires value { 4 ≤ length value.now }
@@ -66,7 +65,6 @@ fn check_chain<D: Device>(
     size: usize,
     seen: &mut [bool],
 ) -> Result<(), StoreFault>
-    requires open { IsOpen pages.old }
     requires unspent { is_spent pages.old ≡ false }
     requires sectors { sectors_of pages.old ≤ D.sectors device.old }
     ensures looks { LooksAt D.Device (result ≡ Err StoreFault.Device) pages.old device.old pages.new
@@ -97,7 +95,6 @@ fn mark_link<D: Device>(
     page: u32,
     seen: &mut [bool],
 ) -> Result<u32, StoreFault>
-    requires open { IsOpen pages.old }
     requires unspent { is_spent pages.old ≡ false }
     requires sectors { sectors_of pages.old ≤ D.sectors device.old }
     ensures looks { LooksAt D.Device (result ≡ Err StoreFault.Device) pages.old device.old pages.new
@@ -126,7 +123,6 @@ fn record_of<D: Device>(
     size: usize,
     more: usize,
 ) -> Result<Vec<u8>, StoreFault>
-    requires open { IsOpen pages.now }
     requires unspent { is_spent pages.now ≡ false }
     requires sectors { sectors_of pages.now ≤ D.sectors device.old }
     ensures only { OnlyReads D.Device (result ≡ Err StoreFault.Device) device.old device.new }

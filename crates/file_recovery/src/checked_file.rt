@@ -1,7 +1,7 @@
 //! A file with its trees, by its entry in the catalog.
 ghost use Rattle.std.specs.Prelude.{◌≡◌, ◌≢◌, ◌≤◌, ◌<◌, ◌^◌, true, false, length, take, Err, IfOk, IfErr};
 ghost use Rattle.pages.specs.Layout.{version_of};
-ghost use Rattle.pages.specs.Pages.{mark_of, is_spent, sectors_of, IsOpen};
+ghost use Rattle.pages.specs.Pages.{mark_of, is_spent, sectors_of};
 ghost use Rattle.btree.specs.Calls.{OnPages};
 ghost use Rattle.btree.specs.Entries.{HasLengths};
 ghost use Rattle.volume_format.specs.Catalog.{catalog_layout, catalog_value, value_length};
@@ -31,7 +31,6 @@ pub(crate) fn check_file<D: Device>(
     device: &mut D,
     seen: &mut [bool],
 ) -> Result<StoredFile, StoreFault>
-    requires open { IsOpen pages.old }
     requires unspent { is_spent pages.old ≡ false }
     requires sectors { sectors_of pages.old ≤ D.sectors device.old }
     requires generation { generation < 2 ^ 63 }

@@ -1,14 +1,13 @@
 //! Whether each page that a map uses is marked.
 ghost use Rattle.std.specs.Prelude.{◌≡◌, ◌≢◌, ◌<◌, true, false, List, length, None, slice_index_or};
 ghost use Rattle.station.specs.Disk.{Sector};
-ghost use Rattle.pages.specs.Pages.{map_now, page_count, is_spent, IsOpen};
+ghost use Rattle.pages.specs.Pages.{map_now, page_count, is_spent};
 ghost use Rattle.file_recovery.specs.Covered.{IsStray, IsCovered};
 
 use pages::PageMap;
 
 /// Whether each page that is used is marked.
 pub(crate) fn are_covered(pages: &PageMap, seen: &[bool]) -> bool
-    requires open { IsOpen pages.now }
     requires unspent { is_spent pages.now ≡ false }
     requires count { length seen.now ≡ page_count pages.now }
     ensures yes { result ≡ true → (image : List Sector)
@@ -34,7 +33,6 @@ fn is_marked(seen: &[bool], page: u32) -> bool
 
 /// Whether a page is used, and isn't marked.
 fn is_stray(pages: &PageMap, seen: &[bool], page: u32) -> bool
-    requires open { IsOpen pages.now }
     requires unspent { is_spent pages.now ≡ false }
     requires page { page < length seen.now }
     ensures yes { result ≡ true → (image : List Sector)

@@ -17,7 +17,6 @@ mod row_bytes;
 mod row_search;
 mod rows;
 mod sparse_index;
-mod walking;
 
 pub use file_bytes::{StoredFile, StoredRow};
 pub use laws::one_list_of_files;

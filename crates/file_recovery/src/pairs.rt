@@ -1,7 +1,7 @@
 //! The tree of an alternate key, against the rows of its file.
 ghost use Rattle.std.specs.Prelude.{◌≡◌, ◌≤◌, true, false, Err, IfErr, OnOk};
 ghost use Rattle.std.specs.List.{All};
-ghost use Rattle.pages.specs.Pages.{is_spent, sectors_of, IsOpen};
+ghost use Rattle.pages.specs.Pages.{is_spent, sectors_of};
 ghost use Rattle.btree.specs.Calls.{OnTree};
 ghost use Rattle.btree.specs.Entries.{entries_of};
 ghost use Rattle.records.specs.declared.key.KeyOfReference.TheVariants.{Alternate};
@@ -18,13 +18,13 @@ use crate::listing::is_same;
 use crate::row_bytes::{alternate_value, arrival_of};
 use crate::row_search::find_row;
 use crate::sparse_index::SparseIndex;
-use crate::walking::{first_in, next_in};
 use btree::{Entry, Tree};
 use file_bytes::StoredRow;
 use pages::PageMap;
 use records::{FileSpec, StoreFault};
 use station::Device;
 use std::alloc::Global;
+use volume_format::{first_in, next_in};
 
 /// Whether the entries of the tree of an alternate key are exactly the pairs of the rows, which ascend under the prime key.
 pub(crate) fn check_index<D: Device>(
@@ -36,7 +36,6 @@ pub(crate) fn check_index<D: Device>(
     pages: &mut PageMap,
     device: &mut D,
 ) -> Result<(), StoreFault>
-    requires open { IsOpen pages.old }
     requires unspent { is_spent pages.old ≡ false }
     requires sectors { sectors_of pages.old ≤ D.sectors device.old }
     requires key { IsKey (spec_of file.now) (Alternate key) }

@@ -1,7 +1,7 @@
 //! The rows of a file are read from its tree.
 ghost use Rattle.std.specs.Prelude.{◌≡◌, ◌≤◌, false, Err, IfOk, IfErr};
 ghost use Rattle.std.specs.List.{AllByRecursion};
-ghost use Rattle.pages.specs.Pages.{is_spent, sectors_of, IsOpen};
+ghost use Rattle.pages.specs.Pages.{is_spent, sectors_of};
 ghost use Rattle.btree.specs.Calls.{pages_on, OnPages, OnTree};
 ghost use Rattle.btree.specs.Entries.{HasLengths, entries_of};
 ghost use Rattle.records.specs.Files.{IsRow};
@@ -14,13 +14,13 @@ ghost use Rattle.file_bytes.specs.Stored.{row_of, rows_of};
 
 use crate::chained::whole_value;
 use crate::rows::row_of_entry;
-use crate::walking::{first_in, next_in};
 use btree::{Entry, Tree};
 use file_bytes::StoredRow;
 use pages::PageMap;
 use records::{FileSpec, StoreFault};
 use station::Device;
 use std::alloc::Global;
+use volume_format::{first_in, next_in};
 
 /// The rows of a file, from its tree of rows, whose entries are exactly theirs. The pages of the chains of their records are marked.
 /// `Damaged` means that they are those of no rows of such a file whose chains can be marked. The rows are kept in memory.
@@ -33,7 +33,6 @@ pub(crate) fn read_rows<D: Device>(
     device: &mut D,
     seen: &mut [bool],
 ) -> Result<Vec<StoredRow>, StoreFault>
-    requires open { IsOpen pages.old }
     requires unspent { is_spent pages.old ≡ false }
     requires sectors { sectors_of pages.old ≤ D.sectors device.old }
     requires layout { tree.now.layout ≡ prime_layout (spec_of file.now) }
@@ -77,7 +76,6 @@ fn read_row<D: Device>(
     device: &mut D,
     seen: &mut [bool],
 ) -> Result<StoredRow, StoreFault>
-    requires open { IsOpen pages.old }
     requires unspent { is_spent pages.old ≡ false }
     requires sectors { sectors_of pages.old ≤ D.sectors device.old }
     requires lengths { HasLengths (prime_layout (spec_of file.now)) entry.now }

@@ -5,7 +5,7 @@ ghost use Rattle.station.specs.History.{Through};
 ghost use Rattle.station.specs.Opening.{IsOpening};
 ghost use Rattle.station.specs.State.{state_after_sync};
 ghost use Rattle.pages.specs.Layout.{IsForeign, version_of};
-ghost use Rattle.pages.specs.Pages.{map_now, is_spent, sectors_of, IsOpen};
+ghost use Rattle.pages.specs.Pages.{map_now, is_spent, sectors_of};
 ghost use Rattle.btree.specs.Calls.{IfAgrees};
 ghost use Rattle.records.specs.Files.{Files, AreShort};
 ghost use Rattle.volume_format.specs.Volume.{MapHolds, Holds};
@@ -62,7 +62,6 @@ fn read_volume<D: Device>(
     pages: &mut PageMap,
     device: &mut D,
 ) -> Result<Vec<StoredFile>, StoreFault>
-    requires open { IsOpen pages.old }
     requires unspent { is_spent pages.old ≡ false }
     requires sectors { sectors_of pages.old ≤ D.sectors device.old }
     ensures only { OnlyReads D.Device (result ≡ Err StoreFault.Device) device.old device.new }

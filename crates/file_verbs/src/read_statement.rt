@@ -13,7 +13,8 @@ use crate::keys::key_bytes;
 use crate::link::Link;
 use crate::seeking::{KeyComparison, seek_fitting};
 use records::{
-    Found, KeyOfReference, Organization, Relation, Select, Side, Status, Store, StoreFault, Verb,
+    Found, KeyBound, KeyOfReference, Organization, Relation, Select, Side, Status, Store,
+    StoreFault, Verb,
 };
 use station::Device;
 
@@ -164,16 +165,12 @@ pub(crate) fn read_next<T: Store, D: Device>(
         return Ok(Status::AtEnd);
     }
     let value = key_bytes(&select.file, key, link.value_length, &link.row);
-    let Some(found) = store.seek(
-        device,
-        &select.file,
-        key,
+    let bound = KeyBound {
         side,
         value,
-        link.number,
-        &mut link.sought,
-    )?
-    else {
+        number: link.number,
+    };
+    let Some(found) = store.seek(device, &select.file, key, bound, &mut link.sought)? else {
         lose_position(link, key);
         return Ok(Status::AtEnd);
     };

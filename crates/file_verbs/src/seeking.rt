@@ -9,7 +9,9 @@ ghost use Rattle.records.specs.FileStep.{area};
 ghost use Rattle.file_verbs.specs.Links.{IsFoundRow, fitting_row, number_of};
 
 use crate::keys::{key_bytes, key_value};
-use records::{FileSpec, Found, KeyOfReference, Organization, Relation, Side, Store, StoreFault};
+use records::{
+    FileSpec, Found, KeyBound, KeyOfReference, Organization, Relation, Side, Store, StoreFault,
+};
 use station::Device;
 use std::cmp::Ordering;
 
@@ -52,7 +54,12 @@ pub(crate) fn seek_fitting<T: Store, D: Device>(
     let value = key_bytes(file, key, comparison.count, bytes);
     let from = number_named(file.organization, number);
     let side = side_for(file.organization, comparison.relation);
-    let Some(found) = store.seek(device, file, key, side, value, from, sought)? else {
+    let bound = KeyBound {
+        side,
+        value,
+        number: from,
+    };
+    let Some(found) = store.seek(device, file, key, bound, sought)? else {
         return Ok(None);
     };
     let row_value = key_value(file, key, sought);

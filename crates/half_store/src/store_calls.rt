@@ -9,7 +9,9 @@ use crate::creating::create_in;
 use crate::finding::{find_file, presence_of};
 use crate::seeking::seek_in;
 use crate::store::HalfStore;
-use records::{FileSpec, Found, Keeps, KeyOfReference, Outcome, Presence, Side, Store, StoreFault};
+use records::{
+    FileSpec, Found, Keeps, KeyBound, KeyOfReference, Outcome, Presence, Store, StoreFault,
+};
 use station::Device;
 
 impl Keeps for HalfStore {
@@ -47,9 +49,7 @@ impl Store for HalfStore {
         _device: &mut D,
         file: &FileSpec,
         key: KeyOfReference,
-        side: Side,
-        value: &[u8],
-        number: u64,
+        bound: KeyBound<'_>,
         bytes: &mut [u8],
     ) -> Result<Option<Found>, StoreFault> {
         if self.spent {
@@ -61,9 +61,9 @@ impl Store for HalfStore {
                 &self.files[place].rows,
                 file,
                 key,
-                side,
-                value,
-                number,
+                bound.side,
+                bound.value,
+                bound.number,
                 bytes,
             ),
         }

@@ -7,6 +7,7 @@ use Rattle.std.proofs.lemmas.Bool.{cases_Bool, cond-true, cond-false, or_left, o
 use Rattle.std.proofs.lemmas.Bool.{lt-ltb, le-ltb}
 use Rattle.std.proofs.lemmas.List.Sums.{count_by_more_yes, count_by_more_no}
 use Rattle.pages.specs.Use.{IsUse, is_used, free_below}
+use Rattle.pages.proofs.Uses.{root_or_named}
 
 any_true : (named : List ℕ) (s : ℕ) → Contains named s → list_any (λ t. t == s) named ≡ true
 any_true [] s has = absurd (omega (arith, has.1))
@@ -39,7 +40,7 @@ counted_below n named used right (suc k) le =
     ∙ ⊎_elim
     (λ is. count_by_more_no (λ u. not u) used k false lt (ap not is) ∙ before
     ∙ sym (ap (λ (m : ℕ). free_below named k + m) (cond-true (is_used named k) 0 1
-    (used_there named k (right.taken k (omega (arith, le)) is))) ∙ add-zero (free_below named k)))
+    (used_there named k (root_or_named n named used right k (omega (arith, le)) is))) ∙ add-zero (free_below named k)))
     (λ is. let free = right.free k (omega (arith, le)) is in
     count_by_more_yes (λ u. not u) used k false lt (ap not is) ∙ ap (λ (m : ℕ). m + 1) before
     ∙ sym

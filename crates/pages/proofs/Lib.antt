@@ -11,6 +11,7 @@ pub mod Plans
 pub mod Committed
 pub mod Marking
 pub mod Tables
+pub mod Uses
 pub mod Opened
 pub mod ReadTables
 pub mod Edits

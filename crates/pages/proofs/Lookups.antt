@@ -8,14 +8,16 @@ use Rattle.station.specs.Disk.{Sector}
 use Rattle.station.specs.State.{State}
 use Rattle.pages.specs.Image.{Volume, page_at, pages_in, IsCommitted}
 use Rattle.pages.specs.Cache.{IsCacheOf}
-use Rattle.pages.specs.Pages.{map_now, page_of, sectors_of, IsReady}
+use Rattle.pages.specs.Pages.{map_now, page_of, sectors_of}
+use Rattle.pages.specs.Ready.{IsReady}
 use Rattle.pages.specs.declared.change.Change.{Change}
 use Rattle.pages.specs.declared.page_map.PageMap.{PageMap}
 use Rattle.pages.proofs.Edits.{is_only, only_same}
 
 -- the change of a page that was found has the page's bytes
 pub changed_bytes : (image : List Sector) (p : PageMap) (found : List Change) (page i : ℕ) (entry : Change)
-    → IsReady p → found ≡ p.changes.items → i < length found → HoldsAt (λ (x : Change). x.page ≡ page) found i
+    → IsReady p.volume p.changes.items p.places p.mark → found ≡ p.changes.items → i < length found
+    → HoldsAt (λ (x : Change). x.page ≡ page) found i
     → entry ≡ get_or p.changes.items i entry → entry.bytes ≡ page_of (map_now p image) page
 changed_bytes image p found page i entry ready same within at is =
     let changes = p.changes.items in
@@ -28,8 +30,8 @@ changed_bytes image p found page i entry ready same within at is =
     page i None entry only (omega (arith, bounds.1, here entry, length-map p.volume.table (page_at image))))
 
 -- the table's sectors are on a device that has the volume's sectors
-pub table_fits : (p : PageMap) (table : List ℕ) (count : ℕ) → IsReady p → table ≡ p.volume.table → sectors_of p ≤ count
-    → All (λ (s : ℕ). s < count) table
+pub table_fits : (p : PageMap) (table : List ℕ) (count : ℕ) → IsReady p.volume p.changes.items p.places p.mark
+    → table ≡ p.volume.table → sectors_of p ≤ count → All (λ (s : ℕ). s < count) table
 table_fits p table count ready same fits =
     let entries = p.volume.table in
     subst (All (λ (s : ℕ). s < count)) (sym same) (λ k d lt. ⊎_elim

@@ -9,6 +9,7 @@ use Rattle.std.proofs.lemmas.List.{append_assoc, take_more}
 use Rattle.std.proofs.lemmas.List.Elements.{Contains-append_left, Contains-push, Contains-push_cases}
 use Rattle.pages.specs.Image.{IsPlace, NamesOnce}
 use Rattle.pages.specs.Marked.{IsMarked, AreNames}
+use Rattle.pages.proofs.Uses.{root_or_named}
 
 contains_at : (list : List ℕ) (k t : ℕ) → k < length list → get_or list k 0 ≡ t → Contains list t
 contains_at list k t lt is = (k, lt, get_or_default list k t 0 lt ∙ is)
@@ -55,8 +56,8 @@ mark_zero list used marked = record {
     count = refl;
     free = λ s lt is. let was = marked.in_use.free s lt is in
         (was.0, λ has. ⊎_elim was.1 (λ at. omega (arith, at, was.0)) (Contains-push_cases list 0 s has));
-    taken = λ s lt is.
-        ⊎_elim (λ root. inl root) (λ has. inr (Contains-append_left list (0 ∷ []) s has)) (marked.in_use.taken s lt is);
+    unnamed = λ s lt high absent. marked.in_use.unnamed s lt high
+        (λ has. absent (Contains-append_left list (0 ∷ []) s has));
   };
 }
 
@@ -80,10 +81,10 @@ mark_one list used s low is marked =
             (λ away. let was = marked.in_use.free t (omega (arith, lt, count))
             (sym (get_or-set_other used s t true false away) ∙ unused) in
             (was.0, λ has. ⊎_elim was.1 (λ at. away (sym at)) (Contains-push_cases list s t has))) (cases_eq t s);
-        taken = λ t lt yes. ⊎_elim (λ at. inr (subst (Contains (list ++ s ∷ [])) (sym at) (Contains-push list s)))
-            (λ away.
-            ⊎_elim (λ root. inl root) (λ has. inr (Contains-append_left list (s ∷ []) t has)) (marked.in_use.taken t
-            (omega (arith, lt, count)) (sym (get_or-set_other used s t true false away) ∙ yes))) (cases_eq t s);
+        unnamed = λ t lt high absent. ⊎_elim
+            (λ at. absurd (absent (subst (Contains (list ++ s ∷ [])) (sym at) (Contains-push list s))))
+            (λ away. get_or-set_other used s t true false away ∙ marked.in_use.unnamed t (omega (arith, lt, count)) high
+            (λ has. absent (Contains-append_left list (s ∷ []) t has))) (cases_eq t s);
       };
     }
 
@@ -104,7 +105,7 @@ marked_twice list used s some low is marked are = ⊎_elim
     (λ none. some (sym here ∙ sym (get_or_append_left list (s ∷ []) 0 k lt) ∙ none))
     (get_or_append_left list (s ∷ []) 0 k lt ∙ here ∙ sym (get_or_push list s 0 (length list) refl)) in
     omega (arith, same, lt))
-    (marked.in_use.taken s low is)
+    (root_or_named (length used) list used marked.in_use s low is)
 
 -- the names up to one of them
 pub front_at : (n : ℕ) (before names : List ℕ) (i d : ℕ) → i < length names → AreNames n (before ++ names)

@@ -9,6 +9,7 @@ use Rattle.std.specs.List.{All}
 use Rattle.std.proofs.lemmas.List.Elements.{All-nil, All-cons, All-append}
 use Rattle.pages.specs.Image.{Volume, names, IsPlace, NamesOnce, IsFree}
 use Rattle.pages.specs.Use.{IsUse, use_after, turns_of}
+use Rattle.pages.proofs.Uses.{root_or_named, not_marked}
 use Rattle.pages.specs.Draft.{NamesSectors}
 use Rattle.pages.specs.declared.draft.UseChange.{UseChange}
 
@@ -80,7 +81,7 @@ module _ (n : ℕ) (list : List ℕ) (i s : ℕ) (used : List Bool) (low : i < l
     taken = λ t lt other is. ⊎_elim (λ root. inl root)
         (λ has. let (k, k_lt, at) = at_place list t has in
         ⊎_elim (λ here. inl (omega (arith, none, at, ap (λ (m : ℕ). get_or list m 0) here)))
-        (λ away. inr (set_old list i s k t k_lt away at)) (cases_eq k i)) (right.taken t lt is);
+        (λ away. inr (set_old list i s k t k_lt away at)) (cases_eq k i)) (root_or_named n list used right t lt is);
   }
 
   -- its sector is no longer used
@@ -106,7 +107,7 @@ module _ (n : ℕ) (list : List ℕ) (i s : ℕ) (used : List Bool) (low : i < l
         (λ has. let (k, k_lt, there) = at_place list t has in
         ⊎_elim (λ here. absurd (away (sym there ∙ ap (λ (m : ℕ). get_or list m 0) here)))
         (λ k_away. inr (set_old list i s k t k_lt k_away there)) (cases_eq k i))
-        (right.taken t lt (sym (get_or-set_other used old t false false away) ∙ is)))
+        (root_or_named n list used right t lt (sym (get_or-set_other used old t false false away) ∙ is)))
         (cases_eq t old);
   }
 
@@ -118,8 +119,9 @@ module _ (n : ℕ) (list : List ℕ) (i s : ℕ) (used : List Bool) (low : i < l
         (λ at. absurd (false≢true (sym is ∙ subst (λ (m : ℕ). get_or (set now s true) m false ≡ true) (sym at)
         (get_or-set_same now s true false (omega (arith, below, but.count))))))
         (λ away. but.free t lt away (sym (get_or-set_other now s t true false away) ∙ is)) (cases_eq t s);
-    taken = λ t lt is. ⊎_elim (λ at. inr (subst (Contains (set list i s)) (sym at) (set_new list i s low)))
-        (λ away. but.taken t lt away (sym (get_or-set_other now s t true false away) ∙ is)) (cases_eq t s);
+    unnamed = λ t lt. not_marked (set list i s) (set now s true) t
+        (λ is. ⊎_elim (λ at. inr (subst (Contains (set list i s)) (sym at) (set_new list i s low)))
+        (λ away. but.taken t lt away (sym (get_or-set_other now s t true false away) ∙ is)) (cases_eq t s));
   }
 
   none_taken : (now : List Bool) → ButAt n (set list i s) s now → s ≡ 0 → (get_or now 0 false ≡ false → ⊥)
@@ -128,7 +130,8 @@ module _ (n : ℕ) (list : List ℕ) (i s : ℕ) (used : List Bool) (low : i < l
     count = but.count;
     free = λ t lt is. ⊎_elim (λ at. absurd (root (subst (λ (m : ℕ). get_or now m false ≡ false) (at ∙ none) is)))
         (λ away. but.free t lt away is) (cases_eq t s);
-    taken = λ t lt is. ⊎_elim (λ at. inl (omega (arith, at, none))) (λ away. but.taken t lt away is) (cases_eq t s);
+    unnamed = λ t lt. not_marked (set list i s) now t
+        (λ is. ⊎_elim (λ at. inl (omega (arith, at, none))) (λ away. but.taken t lt away is) (cases_eq t s));
   }
 
   root_used : 0 < n → get_or used 0 false ≡ false → ⊥

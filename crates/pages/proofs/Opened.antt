@@ -30,11 +30,9 @@ start_marks n some =
         count = refl;
         free = λ s lt is.
             (⊎_elim (λ low. absurd (used s low is)) (λ high. high) (cases_lt s 2), λ has. omega (arith, has.1));
-        taken = λ s lt is. ⊎_elim (λ low. inl low)
-            (λ high. absurd (false≢true (sym (get_or-set_other first 1 s true false (λ e. omega (arith, e, high))
+        unnamed = λ s lt high absent. get_or-set_other first 1 s true false (λ e. omega (arith, e, high))
             ∙ get_or-set_other zeros 0 s true false (λ e. omega (arith, e, high))
-            ∙ get_or-replicate n s false false (omega (arith, lt, all))) ∙ is)))
-            (cases_lt s 2);
+            ∙ get_or-replicate n s false false (omega (arith, lt, all));
       };
     }
   where

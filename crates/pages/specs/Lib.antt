@@ -14,6 +14,7 @@ pub mod Payload
 pub mod Found
 pub mod Marked
 pub mod Empty
+pub mod Ready
 pub mod Pages
 pub mod Commits
 pub mod Devices

@@ -7,13 +7,13 @@ use Rattle.station.specs.declared.device.Device.{Ghosts as Devices}
 use Rattle.pages.specs.Layout.{IsForeign}
 use Rattle.pages.specs.Image.{Map, IsImageOf, IsDamaged}
 use Rattle.pages.specs.Errors.{RefusesImage}
-use Rattle.pages.specs.Pages.{changed_pages_of, filled_of, is_spent, sectors_of, cache_of, Agrees, IsOpen}
+use Rattle.pages.specs.Pages.{changed_pages_of, filled_of, is_spent, sectors_of, cache_of, Agrees}
 use Rattle.pages.specs.declared.error.PagesError.{PagesError}
 use Rattle.pages.specs.declared.page_map.PageMap.{PageMap}
 
--- open, with nothing changed, on a device of so many sectors
+-- not spent, with nothing changed, on a device of so many sectors
 abbrev pub IsJustOpened : ℕ → PageMap → Type 0
-IsJustOpened sectors p = IsOpen p × (is_spent p ≡ false) × (sectors_of p ≤ sectors) × (changed_pages_of p ≡ [])
+IsJustOpened sectors p = (is_spent p ≡ false) × (sectors_of p ≤ sectors) × (changed_pages_of p ≡ [])
 
 -- so many of the pages that were changed have bytes
 abbrev pub HasFilled : ℕ → PageMap → Type 0

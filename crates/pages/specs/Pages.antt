@@ -1,17 +1,15 @@
 -- What the user of the pages sees.
 use Rattle.std.specs.Prelude.{◌≡◌, ◌≢◌, ◌⊎◌, ◌<◌, ◌≤◌, ◌+◌, ◌*◌, ◌^◌, Bool, false, ℕ, List, [], length, Option, None}
 use Rattle.std.specs.Prelude.{slice_index_or}
-use Rattle.std.specs.List.{All}
 use Rattle.station.specs.Disk.{Disk, Sector}
 use Rattle.pages.specs.Layout.{map_count, version_of}
-use Rattle.pages.specs.Image.{Volume, Map, IsImageOf, NamesOnce, pages_in, IsCommitted}
-use Rattle.pages.specs.Changes.{pages_after, changed_pages, ArePlaced}
+use Rattle.pages.specs.Image.{Volume, Map, IsImageOf, pages_in, IsCommitted}
+use Rattle.pages.specs.Changes.{pages_after, changed_pages}
 use Rattle.pages.specs.Use.{free_count}
 use Rattle.pages.specs.Needed.{needed_sectors, filled_count, Fills}
-use Rattle.pages.specs.Volumes.{volume_of, IsSound}
+use Rattle.pages.specs.Volumes.{volume_of}
 use Rattle.pages.specs.Cache.{IsCacheOf}
 use Rattle.lru.specs.LruCache.{LruCache}
-use Rattle.pages.specs.declared.change.Change.{Change}
 use Rattle.pages.specs.declared.page_map.PageMap.{PageMap}
 
 -- the volume of the last commit
@@ -94,17 +92,6 @@ HasChanges p = (changed_pages_of p ≡ []) × (p.catalog ≡ p.volume.catalog) �
 abbrev pub IsFull : PageMap → Type 0
 IsFull p = HasChanges p × ((free_count (committed_of p) < needed_of p) ⊎ (2 ^ 63 ≤ generation_of p + 1))
 
-pub record IsReady (p : PageMap) : Type 0 where
-  pub sound : IsSound p.volume
-  pub pages : All (λ (c : Change). (0 < c.page) × (c.page < length p.volume.table)) p.changes.items
-  pub once : NamesOnce (changed_pages p.changes.items)
-  pub placed : ArePlaced p.changes.items p.places
-  pub mark : version_of p.volume.mark ≤ mark_of p
-
--- what every call keeps: until it is spent, the volume in memory is sound
-abbrev pub IsOpen : PageMap → Type 0
-IsOpen p = p.spent ≡ false → IsReady p
-
 -- the map of the next generation
 abbrev pub next_generation : Map → Map
 next_generation m = record { mark = m.mark; generation = m.generation + 1; catalog = m.catalog; pages = m.pages }
@@ -128,13 +115,12 @@ pub record IsUnchanged (old new : PageMap) : Type 0 where
   pub filled : filled_of new ≡ filled_of old
   pub committed : SameCommitted old new
 
--- what each call keeps but a commit: what is committed, the page of the catalog's root, what the disk and the cache
--- agree on, and being open
+-- what each call keeps but a commit: what is committed, the page of the catalog's root, and what the disk and the cache
+-- agree on
 pub record KeepsCommitted (old new : PageMap) : Type 0 where
   pub committed : SameCommitted old new
   pub catalog : catalog_of new ≡ catalog_of old
   pub agrees : (disk : Disk) → Agrees old disk → Agrees new disk
-  pub is_open : IsOpen old → IsOpen new
 
 -- a commit needs at most two sectors for each page that was changed
 abbrev pub FewNeeded : Type 0
@@ -142,12 +128,12 @@ FewNeeded = (p : PageMap) → needed_of p ≤ 2 * length (changed_pages_of p)
 
 -- it needs at most one for each page that has bytes, and the map's sectors; no more pages have bytes than were changed
 abbrev pub NeededBy : Type 0
-NeededBy = (p : PageMap) → IsOpen p → is_spent p ≡ false → (needed_of p ≤ filled_of p + map_count (sectors_of p))
+NeededBy = (p : PageMap) → is_spent p ≡ false → (needed_of p ≤ filled_of p + map_count (sectors_of p))
     × (filled_of p ≤ length (changed_pages_of p))
 
 -- so too few sectors are free only where fewer than that are
 abbrev pub ShortBy : Type 0
-ShortBy = (p : PageMap) → IsOpen p → is_spent p ≡ false → IsFull p
+ShortBy = (p : PageMap) → is_spent p ≡ false → IsFull p
     → (free_count (committed_of p) < filled_of p + map_count (sectors_of p)) ⊎ (2 ^ 63 ≤ generation_of p + 1)
 
 -- a map that an image holds is within the bounds of a volume
@@ -156,10 +142,10 @@ MapBounds = (image : List Sector) (m : Map) → IsImageOf image m → (m.generat
 
 -- and so is that of an opened volume
 abbrev pub OpenBounds : Type 0
-OpenBounds = (p : PageMap) (image : List Sector) → IsOpen p → is_spent p ≡ false
+OpenBounds = (p : PageMap) (image : List Sector) → is_spent p ≡ false
     → ((map_now p image).generation < 2 ^ 63) × (length (map_now p image).pages ≤ 921600)
 
 -- where each page number is used, fewer sectors are free than pages were changed
 abbrev pub FewFree : Type 0
-FewFree = (p : PageMap) → IsOpen p → is_spent p ≡ false → HasEachPage p
+FewFree = (p : PageMap) → is_spent p ≡ false → HasEachPage p
     → free_count (committed_of p) < length (changed_pages_of p)

@@ -1,5 +1,5 @@
 -- Which sectors of a volume are used.
-use Rattle.std.specs.Prelude.{◌≡◌, ◌⊎◌, ◌<◌, ◌≤◌, ◌+◌, ◌==◌, ◌||◌, nat_lt, if◌then◌else◌, Bool, true, false, ℕ, zero, suc, List, [], ◌∷◌, ◌++◌, length, slice_index_or, slice_set, Contains}
+use Rattle.std.specs.Prelude.{◌≡◌, ◌<◌, ◌≤◌, ◌+◌, ◌==◌, ◌||◌, nat_lt, if◌then◌else◌, Bool, true, false, ℕ, zero, suc, List, [], ◌∷◌, ◌++◌, length, slice_index_or, slice_set, Contains}
 use Rattle.std.specs.List.{list_any}
 use Rattle.pages.specs.Image.{Volume, names}
 use Rattle.pages.specs.declared.draft.UseChange.{UseChange}
@@ -8,7 +8,7 @@ use Rattle.pages.specs.declared.draft.UseChange.{UseChange}
 pub record IsUse (sectors : ℕ) (named : List ℕ) (used : List Bool) : Type 0 where
   pub count : length used ≡ sectors
   pub free : (s : ℕ) → s < sectors → slice_index_or used s false ≡ false → (2 ≤ s) × (Contains named s → ⊥)
-  pub taken : (s : ℕ) → s < sectors → slice_index_or used s false ≡ true → (s < 2) ⊎ Contains named s
+  pub unnamed : (s : ℕ) → s < sectors → 2 ≤ s → (Contains named s → ⊥) → slice_index_or used s false ≡ false
 
 -- the use after these turns
 abbrev pub use_after : List Bool → List UseChange → List Bool

@@ -5,6 +5,7 @@ ghost use Rattle.pages.specs.Layout.{version_of};
 ghost use Rattle.pages.specs.Errors.{IsOpenError, IsReadError, FailsWithError};
 ghost use Rattle.pages.specs.Errors.{IsEditRefusal, IsAllocateRefusal, IsCommitRefusal};
 ghost use Rattle.pages.specs.Use.{free_count};
+ghost use Rattle.pages.specs.Ready.{IsReady, ready_props};
 
 use crate::cache::{
     copy_page, fetch_page, forget_page, keep_changes, load_page, new_cache, promote_page,
@@ -47,10 +48,11 @@ pub struct PageMap {
     catalog: u32,
     mark: VolumeMark,
     spent: bool,
+    ghost ready: { spent ≡ false → IsReady volume changes.items places mark } by { Prim.hlevel ready_props },
 }
 
 impl PageMap {
-    ghost use Rattle.pages.specs.Pages.{committed_of, map_now, page_of, changed_pages_of, filled_of, FillsPage, catalog_of, mark_of, is_spent, sectors_of, page_count, IsPage, Agrees, IsOpen, SameCommitted, IsUnchanged, KeepsCommitted, cache_of};
+    ghost use Rattle.pages.specs.Pages.{committed_of, map_now, page_of, changed_pages_of, filled_of, FillsPage, catalog_of, mark_of, is_spent, sectors_of, page_count, IsPage, Agrees, SameCommitted, IsUnchanged, KeepsCommitted, cache_of};
     ghost use Rattle.std.specs.Map.{lookup};
     ghost use Rattle.std.specs.Prelude.{Ok, nat_eq, option_copied, Contains, IsSome};
     ghost use Rattle.lru.specs.LruCache.{lru_cache, promoted};
@@ -133,7 +135,6 @@ impl PageMap {
         ensures committed { SameCommitted self.old self.new }
         ensures agrees { (disk : Disk) → Agrees self.old disk → Agrees self.new disk }
         ensures cache { cache_of self.new ≡ cache_of self.old }
-        ensures open { IsOpen self.old → IsOpen self.new }
     {
         self.catalog = page;
     }
@@ -158,7 +159,6 @@ impl PageMap {
         ensures spent { is_spent self.new ≡ is_spent self.old }
         ensures agrees { (disk : Disk) → Agrees self.old disk → Agrees self.new disk }
         ensures cache { cache_of self.new ≡ cache_of self.old }
-        ensures open { IsOpen self.old → IsOpen self.new }
     {
         self.mark = mark;
     }
@@ -173,7 +173,7 @@ impl PageMap {
     /// The generation of the last commit. Each commit that writes raises it by one.
     pub fn generation(&self) -> u64
         ensures is { (image : List Sector) → (map_now self.now image).generation ≡ result }
-        ensures few { IsOpen self.now → is_spent self.now ≡ false → result < 2 ^ 63 }
+        ensures few { is_spent self.now ≡ false → result < 2 ^ 63 }
     {
         self.volume.generation
     }
@@ -187,7 +187,6 @@ impl PageMap {
 
     /// Whether a page is in the map, whatever its number.
     pub fn has_page(&self, page: u32) -> bool
-        requires open { IsOpen self.now }
         requires unspent { is_spent self.now ≡ false }
         ensures { (image : List Sector) → result ≡ is_some (page_of (map_now self.now image) page) }
     {
@@ -210,7 +209,7 @@ impl PageMap {
         ensures count { result ≡ page_count self.now }
         ensures pages { (image : List Sector)
             → length (map_now self.now image).pages ≡ page_count self.now }
-        ensures few { IsOpen self.now → is_spent self.now ≡ false → result ≤ 921600 }
+        ensures few { is_spent self.now ≡ false → result ≤ 921600 }
     {
         self.volume.table.entries().len()
     }
@@ -224,7 +223,6 @@ impl PageMap {
 
     /// How many sectors neither the root of the last commit nor its maps use.
     pub fn free_sectors(&self) -> u32
-        requires { IsOpen self.now }
         ensures { is_spent self.now ≡ false → result ≡ free_count (committed_of self.now) }
     {
         self.volume.free
@@ -244,7 +242,6 @@ impl PageMap {
         device: &mut D,
         page: u32,
     ) -> Result<Option<[u8; 4096]>, PagesError>
-        requires open { IsOpen self.old }
         requires sectors { FitsDevice D.Device self.old device.old }
         ensures only { OnlyReadsDevice D.Device result device.old device.new }
         ensures page { ReadsPage D.Device result self.old device.old page }
@@ -252,7 +249,6 @@ impl PageMap {
         // The map stays, and what is known of it. A refusal changes nothing.
         ensures unchanged { IsUnchanged self.old self.new }
         ensures agrees { KeepsAgreement D.Device self.old self.new device.old device.new }
-        ensures open { IsOpen self.new }
         ensures err { SameOnErr result self.old self.new }
 
         // A page in memory is answered without the device, and so is none. The cache has another as its most recently used one, if memory has a place for it.
@@ -289,7 +285,6 @@ impl PageMap {
         page: u32,
         bytes: &mut [u8; 4096],
     ) -> Result<bool, PagesError>
-        requires open { IsOpen self.now }
         requires sectors { FitsDevice D.Device self.now device.old }
         ensures only { OnlyReadsDevice D.Device result device.old device.new }
         ensures page { IfDiskAgrees D.Device self.now device.old (IfOk result
@@ -328,14 +323,12 @@ impl PageMap {
     #[cold]
     #[inline(never)]
     pub fn load<D: Device>(&mut self, device: &mut D, page: u32) -> Result<(), PagesError>
-        requires open { IsOpen self.old }
         requires sectors { FitsDevice D.Device self.old device.old }
         ensures only { OnlyReadsDevice D.Device result device.old device.new }
 
         // The map stays, and what is known of it. A refusal leaves the cache too.
         ensures unchanged { IsUnchanged self.old self.new }
         ensures agrees { KeepsAgreement D.Device self.old self.new device.old device.new }
-        ensures open { IsOpen self.new }
         ensures err { OnErr result (SameCache self.old self.new) }
 
         // What is in memory stays as it is, and the device isn't asked. Nor is it for a page that the map hasn't, and the cache stays.
@@ -370,7 +363,6 @@ impl PageMap {
     /// The bytes of a page where they stand in memory: of one that was changed since the last commit, or is in the cache. The order of
     /// use stays; `note_use` changes it. A value that is spent has none.
     pub fn view(&self, page: u32) -> Option<&[u8; 4096]>
-        requires { IsOpen self.now }
         ensures page { (disk : Disk) → Agrees self.now disk → IfSome result
             (λ bytes. page_of (map_now self.now disk.present) page ≡ Some bytes.now) }
         ensures changed { is_spent self.now ≡ false → Contains (changed_pages_of self.now) page
@@ -400,7 +392,6 @@ impl PageMap {
 
     /// Gives a page new bytes. A page that isn't in the map comes into it.
     pub fn edit(&mut self, page: u32, bytes: &[u8; 4096]) -> Result<(), PagesError>
-        requires open { IsOpen self.old }
         requires page { IsPage self.old page }
         ensures map { PutsPage result self.old self.new page bytes.now }
         ensures changes_page { OnOk result (AddsChange self.old self.new page) }
@@ -429,7 +420,6 @@ impl PageMap {
     /// Gives a page new bytes, as `edit` does, for a page that `read_past` reads. After a commit the page stays out of the cache, so
     /// that it doesn't take the place of another one there. That it stays out is not promised by a clause.
     pub fn edit_past(&mut self, page: u32, bytes: &[u8; 4096]) -> Result<(), PagesError>
-        requires open { IsOpen self.old }
         requires page { IsPage self.old page }
 
         // After `Ok` the page has these bytes.
@@ -461,7 +451,6 @@ impl PageMap {
     /// Adds a page with these bytes to the map, as `allocate` does with zeros, for a page that `read_past` reads. After a commit the page
     /// stays out of the cache. That it stays out is not promised by a clause. `Full` means that there is no unused page number.
     pub fn allocate_past(&mut self, bytes: &[u8; 4096]) -> Result<u32, PagesError>
-        requires open { IsOpen self.old }
 
         // After `Ok` the page has these bytes.
         ensures page { IfOk result (IsPage self.old) }
@@ -495,7 +484,6 @@ impl PageMap {
 
     /// A page that wasn't in the map comes into it, with zeros. `Full` means that there is no unused page number.
     pub fn allocate(&mut self) -> Result<u32, PagesError>
-        requires open { IsOpen self.old }
         ensures page { IfOk result (IsPage self.old) }
         ensures unused { IfOk result (LacksPage self.old) }
         ensures map { AddsPage result self.old self.new (replicate 4096 0) }
@@ -523,7 +511,6 @@ impl PageMap {
 
     /// Takes a page out of the map.
     pub fn release(&mut self, page: u32) -> Result<(), PagesError>
-        requires open { IsOpen self.old }
         requires page { IsPage self.old page }
         ensures map { OnOk result (ReplacesPage None self.old self.new page) }
         ensures changes_page { OnOk result (AddsChange self.old self.new page) }
@@ -548,7 +535,6 @@ impl PageMap {
 
     /// A page number that isn't used.
     fn find_unused(&self) -> Result<u32, PagesError>
-        requires { IsOpen self.now }
         ensures page { IfOk result (IsPage self.now) }
         ensures unused { IfOk result (LacksPage self.now) }
         ensures full { ReportsFull self.now result }
@@ -573,7 +559,6 @@ impl PageMap {
 
     /// Gives a page new bytes, or none.
     fn change(&mut self, page: u32, bytes: Option<PageBytes>) -> Result<(), PagesError>
-        requires open { IsOpen self.old }
         requires page { IsPage self.old page }
         ensures keeps { KeepsCommitted self.old self.new }
         ensures cause { IsEditRefusal result }
@@ -600,7 +585,6 @@ impl PageMap {
 
     /// Gives a page of the cache new bytes, which come where the old ones stand in memory.
     fn rewrite(&mut self, page: u32, bytes: &[u8; 4096]) -> Result<(), PagesError>
-        requires open { IsOpen self.old }
         requires page { IsPage self.old page }
         requires unspent { is_spent self.old ≡ false }
         requires cached { IsSome (lookup (nat_eq page) (cache_of self.old).entries) }
@@ -626,7 +610,6 @@ impl PageMap {
     /// Puts the map on the disk. Where nothing was changed, nothing is written. A refused commit spends the value: each later call
     /// that returns a `Result` answers `Spent`, until the volume is opened again.
     pub fn commit<D: Device>(&mut self, device: &mut D) -> Result<(), PagesError>
-        requires open { IsOpen self.old }
         requires sectors { FitsDevice D.Device self.old device.old }
         ensures only { OnlyWritesDevice D.Device result device.old device.new }
 
@@ -638,7 +621,6 @@ impl PageMap {
         ensures settles { SettlesChanges result self.new }
         ensures mark { SameMark self.old self.new }
         ensures same_sectors { SameSectors self.old self.new }
-        ensures open { IsOpen self.new }
 
         // With nothing changed nothing is done, and nothing is other than before.
         ensures rest { RestsIfUnchanged D.Device result self.old self.new device.old device.new }

@@ -7,7 +7,7 @@ use Rattle.station.specs.State.{State}
 use Rattle.station.specs.Calls.{OnlyReads}
 use Rattle.station.specs.declared.device.Device.{Ghosts as Devices}
 use Rattle.pages.specs.Image.{Map}
-use Rattle.pages.specs.Pages.{map_now, Agrees, IsOpen, IsUnchanged}
+use Rattle.pages.specs.Pages.{map_now, Agrees, IsUnchanged}
 use Rattle.pages.specs.declared.page_map.PageMap.{PageMap}
 use Rattle.btree.specs.Calls.{OnPages, OnChange, pages_on}
 pub use Rattle.btree.proofs.EditedPages.{edits_by, edits_where, edits_then, edits_last, edits_more, edits_kept}
@@ -23,16 +23,15 @@ refused_by_call was is refused = was ∙ ap Err (sym (rw refused at is))
 module _ {D : Type 0} (d : Devices D) where
   -- what a call keeps that only reads
   pub looks_by : (A : Type 0) (p q : PageMap) (a b : D) → OnlyReads d A a b → IsUnchanged p q
-      → (d.is_honest a → Agrees p (d.state a).disk → Agrees q (d.state b).disk) → IsOpen q → LooksAt d A p a q b
-  looks_by A p q a b only unchanged agrees is = record {
+      → (d.is_honest a → Agrees p (d.state a).disk → Agrees q (d.state b).disk) → LooksAt d A p a q b
+  looks_by A p q a b only unchanged agrees = record {
     only = only;
     unchanged = unchanged;
     agrees = agrees;
-    is_open = is;
   }
 
   pub looks_edits : (A : Type 0) (p q : PageMap) (a b : D) → LooksAt d A p a q b → EditsPages d A p a q b
-  looks_edits A p q a b looks = edits_read d A p q a b looks.only looks.unchanged looks.agrees looks.is_open
+  looks_edits A p q a b looks = edits_read d A p q a b looks.only looks.unchanged looks.agrees
 
   -- What a call says of the pages of a device, where another call read before it.
   pub pages_told : (A : Type 0) (p : PageMap) (a b : D) (claim : List (Option Sector) → Type 0) → d.is_honest a

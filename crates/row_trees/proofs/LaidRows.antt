@@ -7,7 +7,7 @@ use Rattle.station.specs.declared.device.Device.{Ghosts as Devices}
 use Rattle.byteorder.specs.Endian.{big_bytes}
 use Rattle.pages.specs.Use.{free_count}
 use Rattle.pages.specs.Volumes.{volume_of}
-use Rattle.pages.specs.Pages.{Agrees, KeepsCommitted, SameCommitted, FewFree, HasEachPage, IsOpen}
+use Rattle.pages.specs.Pages.{Agrees, KeepsCommitted, SameCommitted, FewFree, HasEachPage}
 use Rattle.pages.specs.Pages.{committed_of, changed_pages_of, is_spent}
 use Rattle.pages.specs.declared.volume.VolumeMap.{VolumeMap}
 use Rattle.pages.specs.declared.page_map.PageMap.{PageMap}
@@ -31,11 +31,11 @@ use Rattle.row_trees.proofs.Long.{laid_tree, inserted_long}
 use Rattle.row_trees.proofs.Passing.{few_added, few_first, none_or_some}
 
 -- so many pages more were changed
-pub room_laid : (old new : PageMap) (n most : ℕ) → FewFree → IsOpen new → SameCommitted old new
+pub room_laid : (old new : PageMap) (n most : ℕ) → FewFree → SameCommitted old new
     → is_spent old ≡ false → HasEachPage new → length (changed_pages_of new) ≤ length (changed_pages_of old) + n
     → free_count (committed_of old) < length (changed_pages_of old) + (most + n)
-room_laid old new n most law ready same unspent each few =
-    let less = few_left old new n law ready same unspent each few in omega (arith, less)
+room_laid old new n most law same unspent each few =
+    let less = few_left old new n law same unspent each few in omega (arith, less)
 
 pub room_later : (old new : PageMap) (n most : ℕ) → SameCommitted old new
     → length (changed_pages_of new) ≤ length (changed_pages_of old) + n

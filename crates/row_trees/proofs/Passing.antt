@@ -10,8 +10,13 @@ use Rattle.btree_pages.specs.declared.row_layout.RowLayout.{RowLayout}
 use Rattle.btree.specs.Reading.{IsSearchRefusal}
 use Rattle.btree.specs.Refusals.{IsWriteRefusal}
 use Rattle.btree.proofs.Frames.{false_unless}
-use Rattle.btree.proofs.Passing.{same_error}
+use Rattle.btree.proofs.Passing.{never_err, same_error}
 use Rattle.chains.specs.Chain.{pages_for}
+
+-- a refusal that is passed on is not `Ok`
+pub never_answered : {T E A : Type 0} {y : T} (r : Result T E) (x : E) → IsErrAnd r (λ e. e ≡ x) → r ≡ Ok y → A
+never_answered (Ok z) x why is = absurd why
+never_answered (Err z) x why is = never_err is
 
 -- memory that ran out is no failure of the device, and no damage
 pub never_device : {T A : Type 0} (r : Result T PagesError) → IsErrAnd r (λ y. y ≡ Memory) → r ≡ Err Device → A

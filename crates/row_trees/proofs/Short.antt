@@ -1,20 +1,26 @@
 -- A tree that has its records itself, after a call of `btree`.
-use Rattle.std.proofs.Common.{◌≡◌, ℕ, List, [], refl, sym, ap, subst, ◌∙◌}
-use Rattle.std.specs.Prelude.{Option, Some, None, IsSome, option_map}
+use Rattle.std.proofs.Common.{◌≡◌, ℕ, Bool, List, [], refl, sym, ap, subst, ◌∙◌}
+use Rattle.std.specs.Prelude.{Option, Some, None, IsSome, option_map, Result}
 use Rattle.station.specs.Disk.{Sector}
+use Rattle.station.specs.declared.device.Device.{Ghosts as Devices}
+use Rattle.pages.specs.declared.error.PagesError.{PagesError}
+use Rattle.pages.specs.declared.page_map.PageMap.{PageMap}
+use Rattle.btree.specs.Calls.{pages_on, DamagedOnlyIfNoTree}
 use Rattle.btree.specs.Changes.{Becomes, Inserts}
 use Rattle.btree.specs.Entries.{Entry, entry_with, with_new_entry, with_value, without_entry}
 use Rattle.btree.specs.Moves.{Moves}
 use Rattle.btree.specs.Removals.{Removes}
 use Rattle.btree.specs.Tree.{TreeNode}
+use Rattle.btree.specs.TreeEdits.{TrueOnlyIfInserted, FalseOnlyIfPresent}
 use Rattle.btree.proofs.Clearing.{moves_none}
 use Rattle.chains.specs.Rows.{chain_of, unrolled_entry}
 use Rattle.chains.proofs.Entries.{found_as}
 use Rattle.chains.proofs.Rows.{keys_kept}
 use Rattle.volume_format.specs.Chained.{form_of}
 use Rattle.volume_format.specs.Forest.{TreeLevels}
+use Rattle.row_trees.specs.Calls.{AnswersInsertion}
 use Rattle.row_trees.specs.RowTree.{ChainedTree, IsRowTreeAmong}
-use Rattle.row_trees.proofs.Among.{stored_in, seen_in, seen_among}
+use Rattle.row_trees.proofs.Among.{stored_in, seen_in, seen_among, stands_among, viewed}
 use Rattle.row_trees.proofs.Forms.{pair, unrolled_short, short_chain, no_chain}
 use Rattle.row_trees.proofs.Changes.{inserted, removed, rewritten}
 
@@ -68,6 +74,29 @@ inserted_short before after left right old new entries is key value short layout
           (subst (λ (l : List ℕ). Moves before [] before l) (sym (no_chain n before entry short)) (moves_none before))
           (unrolled_short n before entry short) made.1,
     )
+
+module _ {D : Type 0} (d : Devices D) where
+  -- what an insertion into the tree answers
+  pub short_insertion : (p q : PageMap) (a : D) (view self new : ChainedTree) (key value : List ℕ)
+      (result : Result Bool PagesError) → view ≡ self → view.record_bytes ≡ 0 → new.tree.layout ≡ view.tree.layout
+      → new.record_bytes ≡ view.record_bytes → TrueOnlyIfInserted d view.tree p a key value new.tree q result
+      → FalseOnlyIfPresent d view.tree p a key result → DamagedOnlyIfNoTree d view.tree p a result
+      → AnswersInsertion d self p a new q key value result
+  short_insertion p q a view self new key value result same short layout form made held never =
+      let before = pages_on d p a in
+      record {
+        inserted = λ honest agrees left right entries is ok.
+            let own = viewed before left right view self entries same is in
+            inserted_short before (pages_on d q a) left right view new entries own key value short layout form
+            (made honest agrees own.planted.levels (stands_among before left right view entries own).tree ok);
+        there = λ honest agrees left right entries is no.
+            let own = viewed before left right view self entries same is in
+            some_seen before left right view entries own key
+            (held honest agrees own.planted.levels (stands_among before left right view entries own).tree no);
+        damaged = λ honest agrees left right entries is told.
+            let own = viewed before left right view self entries same is in
+            never honest agrees told own.planted.levels (stands_among before left right view entries own).tree;
+      }
 
 -- the entry that a key has
 pub record HeldEntry (entries : List Entry) (key : List ℕ) : Type 0 where

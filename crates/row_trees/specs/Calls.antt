@@ -82,6 +82,14 @@ module _ {D : Type 0} (d : Devices D) where
   ReturnsNoDamage rows pages now result =
       OnRowTreeAmong rows pages now (λ left right entries. result ≡ Err Damaged → ⊥)
 
+  -- What an insertion answers: `Ok true` after the row came to its place, `Ok false` only if its key is there, and no
+  -- `Damaged`.
+  pub record AnswersInsertion (rows : ChainedTree) (pages : PageMap) (now : D) (rows' : ChainedTree) (pages' : PageMap)
+      (key value : List ℕ) (result : Result Bool PagesError) : Type 0 where
+    pub inserted : InsertsRow rows pages now rows' pages' key value result
+    pub there : FindsKey rows pages now key result
+    pub damaged : ReturnsNoDamage rows pages now result
+
   -- At most so many pages more are changed, and those of a chain; of the second, if the call succeeds.
   abbrev pub ChangesFewPages : ℕ → ChainedTree → PageMap → D → PageMap → Type 0
   ChangesFewPages most rows pages now pages' = OnRowTreeAmong rows pages now

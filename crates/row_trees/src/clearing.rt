@@ -1,7 +1,8 @@
 //! A tree of rows gives up its pages.
 ghost use Rattle.std.specs.Prelude.{◌≡◌, ◌≢◌, ◌≤◌, [], Err, OnOk, OnErr, IfErr};
-ghost use Rattle.pages.specs.Pages.{filled_of, IsOpen};
-ghost use Rattle.btree.specs.Calls.{FitsDevice, pages_on};
+ghost use Rattle.pages.specs.Pages.{filled_of};
+ghost use Rattle.pages.specs.Devices.{FitsDevice};
+ghost use Rattle.btree.specs.Calls.{pages_on};
 ghost use Rattle.btree.specs.Moves.{Moves};
 ghost use Rattle.btree.specs.Refusals.{IsChangeRefusal};
 ghost use Rattle.btree.specs.Results.{OnlyIfSpent};
@@ -22,7 +23,6 @@ impl RowTree {
         pages: &mut PageMap,
         device: &mut D,
     ) -> Result<(), PagesError>
-        requires open { IsOpen pages.old }
         requires sectors { FitsDevice D.Device pages.old device.old }
         ensures edits { EditsPagesFor D.Device pages.old device.old pages.new device.new result }
         ensures cleared { ClearsTree D.Device self.old pages.old device.old pages.new result }
@@ -50,7 +50,6 @@ fn release_chains<D: Device>(
     pages: &mut PageMap,
     device: &mut D,
 ) -> Result<(), PagesError>
-    requires open { IsOpen pages.old }
     requires sectors { FitsDevice D.Device pages.old device.old }
     requires chains { record_bytes ≢ 0 }
     requires form { FitsForm record_bytes tree.now.layout }

@@ -1,6 +1,6 @@
 //! A row of a key is found.
 ghost use Rattle.std.specs.Prelude.{◌≡◌, ◌≤◌, Err, length, IfOk, IfSome, IfErr};
-ghost use Rattle.pages.specs.Pages.{sectors_of, IsOpen};
+ghost use Rattle.pages.specs.Pages.{sectors_of};
 ghost use Rattle.btree.specs.Entries.{entry_with};
 ghost use Rattle.btree.specs.Results.{OnlyIfSpent};
 ghost use Rattle.volume_format.specs.Calls.{LooksAt};
@@ -26,7 +26,6 @@ impl RowTree {
         device: &mut D,
         key: &[u8],
     ) -> Result<Option<Row>, PagesError>
-        requires open { IsOpen pages.old }
         requires sectors { sectors_of pages.old ≤ D.sectors device.old }
         ensures looks { LooksAt D.Device (result ≡ Err PagesError.Device) pages.old device.old
             pages.new device.new }

@@ -1,10 +1,9 @@
 //! A new row is added to a tree.
 ghost use Rattle.std.specs.Prelude.{◌≡◌, length, OnErr};
-ghost use Rattle.pages.specs.Pages.{IsOpen};
-ghost use Rattle.btree.specs.Calls.{FitsDevice};
+ghost use Rattle.pages.specs.Devices.{FitsDevice};
 ghost use Rattle.btree.specs.Refusals.{ErrOnlyIfInsertRefusal};
 ghost use Rattle.btree.specs.Results.{OnlyIfSpent};
-ghost use Rattle.row_trees.specs.Calls.{EditsPagesFor, LeavesTree, InsertsRow, FindsKey, ReturnsNoDamage, ChangesFewPages, LacksPages};
+ghost use Rattle.row_trees.specs.Calls.{EditsPagesFor, LeavesTree, AnswersInsertion, ChangesFewPages, LacksPages};
 ghost use Rattle.row_trees.specs.RowTree.{value_length};
 
 use crate::row_tree::RowTree;
@@ -23,16 +22,13 @@ impl RowTree {
         key: &[u8],
         value: &[u8],
     ) -> Result<bool, PagesError>
-        requires open { IsOpen pages.old }
         requires sectors { FitsDevice D.Device pages.old device.old }
         requires key { length key.now ≡ self.old.tree.layout.key_length }
         requires value { length value.now ≡ value_length self.old }
         ensures edits { EditsPagesFor D.Device pages.old device.old pages.new device.new result }
-        ensures inserted { InsertsRow D.Device self.old pages.old device.old self.new pages.new
-            key.now value.now result }
-        ensures there { FindsKey D.Device self.old pages.old device.old key.now result }
+        ensures answers { AnswersInsertion D.Device self.old pages.old device.old self.new
+            pages.new key.now value.now result }
         ensures same { LeavesTree self.old pages.old self.new pages.new result }
-        ensures damaged { ReturnsNoDamage D.Device self.old pages.old device.old result }
         ensures changed_pages { ChangesFewPages D.Device 42 self.old pages.old device.old
             pages.new }
         ensures room { LacksPages D.Device 42 self.old pages.old device.old result }

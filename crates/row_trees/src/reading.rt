@@ -1,7 +1,7 @@
 //! The record of an entry is read.
 ghost use Rattle.std.specs.Prelude.{◌≡◌, ◌≤◌, ◌<◌, Err, length, take, OnOk, OnErr, IfErr};
 ghost use Rattle.station.specs.Calls.{OnlyReads};
-ghost use Rattle.pages.specs.Pages.{sectors_of, IsOpen};
+ghost use Rattle.pages.specs.Pages.{sectors_of};
 ghost use Rattle.btree.specs.Calls.{OnPages};
 ghost use Rattle.btree.specs.Results.{OnlyIfSpent};
 ghost use Rattle.chains.specs.Refusals.{IsRecordRefusal};
@@ -25,7 +25,6 @@ impl RowTree {
         entry: &Entry,
         into: &mut [u8],
     ) -> Result<(), PagesError>
-        requires open { IsOpen pages.now }
         requires sectors { sectors_of pages.now ≤ D.sectors device.old }
         ensures only { OnlyReads D.Device (result ≡ Err PagesError.Device) device.old device.new }
         ensures record { OnPages D.Device pages.now device.old

@@ -1,7 +1,6 @@
 //! A row leaves a tree.
 ghost use Rattle.std.specs.Prelude.{◌≡◌, IfErr};
-ghost use Rattle.pages.specs.Pages.{IsOpen};
-ghost use Rattle.btree.specs.Calls.{FitsDevice};
+ghost use Rattle.pages.specs.Devices.{FitsDevice};
 ghost use Rattle.btree.specs.Refusals.{IsChangeRefusal};
 ghost use Rattle.btree.specs.Results.{OnlyIfSpent};
 ghost use Rattle.row_trees.specs.Calls.{EditsPagesFor, LeavesTree, RemovesRow, MissesKey, ReturnsNoDamage, ChangesFewPagesOnOk};
@@ -21,7 +20,6 @@ impl RowTree {
         device: &mut D,
         key: &[u8],
     ) -> Result<bool, PagesError>
-        requires open { IsOpen pages.old }
         requires sectors { FitsDevice D.Device pages.old device.old }
         ensures edits { EditsPagesFor D.Device pages.old device.old pages.new device.new result }
         ensures removed { RemovesRow D.Device self.old pages.old device.old self.new pages.new

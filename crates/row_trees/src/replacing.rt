@@ -1,7 +1,7 @@
 //! A row gets another record.
 ghost use Rattle.std.specs.Prelude.{◌≡◌, ◌+◌, false, Ok, length, IfErr};
-ghost use Rattle.pages.specs.Pages.{IsOpen, IsUnchanged};
-ghost use Rattle.btree.specs.Calls.{FitsDevice};
+ghost use Rattle.pages.specs.Pages.{IsUnchanged};
+ghost use Rattle.pages.specs.Devices.{FitsDevice};
 ghost use Rattle.btree.specs.Refusals.{IsChangeRefusal};
 ghost use Rattle.btree.specs.Results.{OnlyIfSpent, FewChanged};
 ghost use Rattle.chains.specs.Chain.{pages_for};
@@ -25,7 +25,6 @@ impl RowTree {
         key: &[u8],
         value: &[u8],
     ) -> Result<bool, PagesError>
-        requires open { IsOpen pages.old }
         requires sectors { FitsDevice D.Device pages.old device.old }
         requires value { length value.now ≡ value_length self.old }
         ensures edits { EditsPagesFor D.Device pages.old device.old pages.new device.new result }

@@ -6,7 +6,6 @@ use crate::image::{alike, blank_station, changed, filled, image_of, sector_bytes
 use pages::{PageMap, PagesError, VolumeMark, format};
 use station::{Device, MemoryStation};
 use std::alloc::Global;
-use std::marker::Model;
 use std::process::Abort;
 
 /// How often a station was to read, to write and to sync.
@@ -22,18 +21,6 @@ pub struct Counts {
 pub struct Volume {
     pages: PageMap,
     station: MemoryStation,
-}
-
-impl Model for Volume {
-    ghost use Rattle.std.specs.Prelude.{ℕ};
-    ghost use Rattle.pages.specs.Pages.{IsOpen, sectors_of};
-
-    // Its number of sectors. No clause speaks of it: what counts is the invariant.
-    ghost Value = { ℕ };
-
-    ghost view = { λ volume. sectors_of volume.pages };
-
-    ghost invariant = { λ volume. IsOpen volume.pages };
 }
 
 impl Volume {

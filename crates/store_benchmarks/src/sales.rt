@@ -3,7 +3,7 @@
 use crate::row::{KEY, Order, RECORD};
 use alternate_keys::{PagedStore, format};
 use records::{
-    AlternateKey, FileSpec, KeyOfReference, KeyPlace, Organization, Outcome, Side, Store,
+    AlternateKey, FileSpec, KeyBound, KeyOfReference, KeyPlace, Organization, Outcome, Side, Store,
     StoreFault,
 };
 use station::Device;
@@ -86,13 +86,16 @@ impl<D: Device + Drop> Sales<D> {
         {
             return Err(StoreFault::Damaged);
         }
+        let bound = KeyBound {
+            side: Side::From,
+            value: key,
+            number: 0,
+        };
         let found = self.store.seek(
             &mut self.device,
             &self.file,
             KeyOfReference::Prime,
-            Side::From,
-            key,
-            0,
+            bound,
             record,
         )?;
         Ok(found.is_some())

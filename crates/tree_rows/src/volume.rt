@@ -10,7 +10,6 @@ use pages::{PageMap, PagesError, format};
 use row_scripts::Fault;
 use station::{Device, MemoryStation};
 use std::alloc::{AllocError, Global};
-use std::marker::Model;
 
 /// An opened volume on its station.
 #[derive(Drop)]
@@ -19,18 +18,6 @@ pub struct Volume {
     pages: PageMap,
     station: MemoryStation,
     buffer: RecordBuffer,
-}
-
-impl Model for Volume {
-    ghost use Rattle.std.specs.Prelude.{ℕ};
-    ghost use Rattle.pages.specs.Pages.{IsOpen, sectors_of};
-
-    // Its number of sectors. No clause speaks of it: what counts is the invariant.
-    ghost Value = { ℕ };
-
-    ghost view = { λ volume. sectors_of volume.pages };
-
-    ghost invariant = { λ volume. IsOpen volume.pages };
 }
 
 /// The bytes of a key.

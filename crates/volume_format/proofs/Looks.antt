@@ -3,7 +3,6 @@ use Rattle.std.proofs.Common.{◌⊎◌}
 use Rattle.station.specs.Calls.{OnlyReads}
 use Rattle.station.specs.declared.device.Device.{Ghosts as Devices}
 use Rattle.station.proofs.Calls.{reads_nothing, reads_then}
-use Rattle.pages.specs.Pages.{IsOpen}
 use Rattle.pages.specs.declared.page_map.PageMap.{PageMap}
 use Rattle.btree.proofs.Frames.{unchanged_still, unchanged_on}
 use Rattle.chains.proofs.Unwritten.{still_agrees}
@@ -20,16 +19,15 @@ reads_blamed d A B a b from only = record {
 }
 
 module _ {D : Type 0} (d : Devices D) where
-  pub looks_nowhere : (p : PageMap) (a : D) → IsOpen p → LooksAt d ⊥ p a p a
-  looks_nowhere p a is =
-      record { only = reads_nothing d a; unchanged = unchanged_still p; agrees = λ honest agrees. agrees; is_open = is }
+  pub looks_nowhere : (p : PageMap) (a : D) → LooksAt d ⊥ p a p a
+  looks_nowhere p a =
+      record { only = reads_nothing d a; unchanged = unchanged_still p; agrees = λ honest agrees. agrees }
 
   pub looks_blamed : (A B : Type 0) (p q : PageMap) (a b : D) → (B → A) → LooksAt d A p a q b → LooksAt d B p a q b
   looks_blamed A B p q a b from looks = record {
     only = reads_blamed d A B a b from looks.only;
     unchanged = looks.unchanged;
     agrees = looks.agrees;
-    is_open = looks.is_open;
   }
 
   pub looks_then : (A B C : Type 0) (p q r : PageMap) (a b c : D) → (C → A ⊎ B) → LooksAt d A p a q b
@@ -38,14 +36,12 @@ module _ {D : Type 0} (d : Devices D) where
     only = reads_then d A B C a b c which first.only second.only;
     unchanged = unchanged_on p q r first.unchanged second.unchanged;
     agrees = λ honest agrees. second.agrees (first.only.honest.0 honest) (first.agrees honest agrees);
-    is_open = second.is_open;
   }
 
   -- a call that reads past the cache of pages, which stay
-  pub looks_past : (A : Type 0) (p : PageMap) (a b : D) → OnlyReads d A a b → IsOpen p → LooksAt d A p a p b
-  looks_past A p a b only is = record {
+  pub looks_past : (A : Type 0) (p : PageMap) (a b : D) → OnlyReads d A a b → LooksAt d A p a p b
+  looks_past A p a b only = record {
     only = only;
     unchanged = unchanged_still p;
     agrees = λ honest agrees. still_agrees p (d.state a) (d.state b) (only.state honest) agrees;
-    is_open = is;
   }

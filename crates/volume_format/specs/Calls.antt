@@ -1,7 +1,7 @@
 -- What a call on pages keeps that only reads.
 use Rattle.station.specs.Calls.{OnlyReads}
 use Rattle.station.specs.declared.device.Device.{Ghosts as Devices}
-use Rattle.pages.specs.Pages.{Agrees, IsOpen, IsUnchanged}
+use Rattle.pages.specs.Pages.{Agrees, IsUnchanged}
 use Rattle.pages.specs.declared.page_map.PageMap.{PageMap}
 
 module _ {D : Type 0} (d : Devices D) where
@@ -10,4 +10,3 @@ module _ {D : Type 0} (d : Devices D) where
     pub only : OnlyReads d blamed device device'
     pub unchanged : IsUnchanged old new
     pub agrees : d.is_honest device → Agrees old (d.state device).disk → Agrees new (d.state device').disk
-    pub is_open : IsOpen new

@@ -8,6 +8,7 @@ mod fault;
 mod laws;
 mod layout;
 mod listing;
+mod walking;
 
 pub use catalog::{catalog_tree, listing_part};
 pub use fault::to_fault;
@@ -20,3 +21,4 @@ pub use listing::{
     LISTING_BYTES, alternate_root, next_arrival, prime_root, spell_listing, spell_value,
     stored_rows, value_bytes,
 };
+pub use walking::{first_in, next_in};

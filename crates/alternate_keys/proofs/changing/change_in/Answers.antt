@@ -137,9 +137,6 @@ finish-requires-clause-sectors g c =
     sectors_still g.D.Device _ c.args.pages.now c.prepare.new.pages c.args.device.now c.prepare.new.device
     c.prepare.ensures.edits.only c.prepare.ensures.edits.committed c.requires.sectors
 
-pub finish-requires-clause-open : goal.finish-requires-clause-open
-finish-requires-clause-open g c = c.prepare.ensures.edits.is_open
-
 pub returns-clause-spent : goal.returns-clause-spent
 returns-clause-spent g c =
     λ is. spent_before c.args.pages.now c.prepare.new.pages c.prepare.ensures.edits.committed (c.finish.ensures.spent

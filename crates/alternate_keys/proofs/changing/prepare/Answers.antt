@@ -36,7 +36,6 @@ looks g c = record {
   only = c.find_listing.ensures.only;
   unchanged = c.find_listing.ensures.unchanged;
   agrees = c.find_listing.ensures.agrees;
-  is_open = c.find_listing.ensures.open;
 }
 
 -- the trees of the file that the catalog lists
@@ -49,8 +48,7 @@ listed : (g : Over) (c : After-change_trees g) {held : File} {files : Files} (at
 listed g c {files} at spec_is seen =
     trees_listed g.D.Device at seen c.deref.ensures.value
     (c.in_ok-entry.ensures.entry at.honest at.agrees files at.holds) c.in-Some.is c.listing_part.ensures.part spec_is
-    (c.map_bounds.ensures.open c.args.pages.now (g.D.Device.state c.args.device.now).disk.present c.requires.open
-    c.requires.unspent)
+    (c.map_bounds.ensures.open c.args.pages.now (g.D.Device.state c.args.device.now).disk.present c.requires.unspent)
 
 -- the file has changed in its trees
 changed : (g : Over) (c : Else-not-is_done g) {held : File} {files : Files} (at : HoldsFile g.D.Device
@@ -269,9 +267,6 @@ change_trees-requires-clause-sectors g c =
     sectors_still g.D.Device _ c.args.pages.now c.find_listing.new.pages c.args.device.now c.find_listing.new.device
     c.find_listing.ensures.only c.find_listing.ensures.unchanged.committed c.requires.sectors
 
-pub change_trees-requires-clause-open : goal.change_trees-requires-clause-open
-change_trees-requires-clause-open g c = c.find_listing.ensures.open
-
 pub returns-in_err-turn-clause-spent : goal.returns-in_err-turn-clause-spent
 returns-in_err-turn-clause-spent g c =
     λ is. spent_before c.args.pages.now c.find_listing.new.pages c.find_listing.ensures.unchanged.committed
@@ -288,9 +283,6 @@ replace_listing-requires-clause-sectors g c =
     c.change_trees.new.device c.change_trees.ensures.edits.only c.change_trees.ensures.edits.committed (sectors_still
     g.D.Device _ c.args.pages.now c.find_listing.new.pages c.args.device.now c.find_listing.new.device
     c.find_listing.ensures.only c.find_listing.ensures.unchanged.committed c.requires.sectors)
-
-pub replace_listing-requires-clause-open : goal.replace_listing-requires-clause-open
-replace_listing-requires-clause-open g c = c.change_trees.ensures.edits.is_open
 
 pub returns-in_err-replace_listing-clause-spent : goal.returns-in_err-replace_listing-clause-spent
 returns-in_err-replace_listing-clause-spent g c =

@@ -21,7 +21,7 @@ drop_all (x ∷ xs) = drop_all xs
 
 pub loop-key-init : goal.loop-key-init
 loop-key-init g c = record {
-  edits = edits_nothing g.D.Device c.args.pages.now c.args.device.now c.requires.open;
+  edits = edits_nothing g.D.Device c.args.pages.now c.args.device.now;
   cleared = λ honest agrees kept left right stored forest.
       let before : List (Option Sector) =
       (map_now c.args.pages.now (g.D.Device.state c.args.device.now).disk.present).pages in

@@ -75,9 +75,6 @@ clear_alternates-requires-clause-sectors g c =
     sectors_still g.D.Device _ c.args.pages.now c.clear_rows.new.pages c.args.device.now c.clear_rows.new.device
     c.clear_rows.ensures.edits.only c.clear_rows.ensures.edits.committed c.requires.sectors
 
-pub clear_alternates-requires-clause-open : goal.clear_alternates-requires-clause-open
-clear_alternates-requires-clause-open g c = c.clear_rows.ensures.edits.is_open
-
 pub returns-clause-spent : goal.returns-clause-spent
 returns-clause-spent g c =
     λ is. spent_before c.args.pages.now c.clear_rows.new.pages c.clear_rows.ensures.edits.committed

@@ -35,7 +35,7 @@ returns-in-Err-clause-only g c =
 pub returns-in-Ok-clause-settles : goal.returns-in-Ok-clause-settles
 returns-in-Ok-clause-settles g c = λ before after changed. record {
   stands = commit_stands g.D.Device c.args.pages.now c.commit.new.self c.args.device.now c.commit.new.device before
-      after changed c.map_bounds.ensures.open c.requires.open c.requires.unspent
+      after changed c.map_bounds.ensures.open c.requires.unspent
       (c.in-Ok.ensures.holds.agrees changed.honest changed.agrees) c.in-Ok.ensures.settles.committed
       c.in-Ok.ensures.settles.changed_pages
       (c.in-Ok.ensures.holds.advances changed.honest changed.agrees) c.in-Ok.ensures.rest.rests

@@ -46,7 +46,6 @@ put g c = record {
   committed = c.insert_among.ensures.committed;
   catalog = c.insert_among.ensures.catalog;
   agrees = c.insert_among.ensures.agrees;
-  is_open = c.insert_among.ensures.open;
 }
 
 both : (g : Over) (c : After-insert_among g) (B : Type 0) → (B → c.insert_among.result ≡ Err Device)
@@ -104,7 +103,6 @@ returns-clause-prepares g c =
     prepares_set g.D.Device (c.insert_among.result ≡ Err Device) _ c.args.pages.now c.insert_among.new.pages
     c.set_catalog.new.self c.args.device.now c.insert_among.new.device (λ is. never_ok is)
     (both g at.After-insert_among _ (λ is. is)) c.set_catalog.ensures.committed c.set_catalog.ensures.agrees
-    (c.set_catalog.ensures.open c.insert_among.ensures.open)
 
 pub returns-in_err-is_full-clause-damaged : goal.returns-in_err-is_full-clause-damaged
 returns-in_err-is_full-clause-damaged g c = λ honest agrees files holds none refused.
@@ -206,9 +204,6 @@ pub insert_among-requires-clause-sectors : goal.insert_among-requires-clause-sec
 insert_among-requires-clause-sectors g c =
     sectors_still g.D.Device _ c.args.pages.now c.is_full.new.pages c.args.device.now c.is_full.new.device
     c.is_full.ensures.looks.only c.is_full.ensures.looks.unchanged.committed c.requires.sectors
-
-pub insert_among-requires-clause-open : goal.insert_among-requires-clause-open
-insert_among-requires-clause-open g c = c.is_full.ensures.looks.is_open
 
 pub returns-in_err-insert_among-clause-spent : goal.returns-in_err-insert_among-clause-spent
 returns-in_err-insert_among-clause-spent g c =

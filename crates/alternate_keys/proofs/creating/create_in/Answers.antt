@@ -106,9 +106,6 @@ commit_pages-requires-clause-sectors g c =
     sectors_still g.D.Device _ c.args.pages.now c.prepare_file.new.pages c.args.device.now c.prepare_file.new.device
     c.prepare_file.ensures.prepares.only c.prepare_file.ensures.prepares.committed c.requires.sectors
 
-pub commit_pages-requires-clause-open : goal.commit_pages-requires-clause-open
-commit_pages-requires-clause-open g c = c.prepare_file.ensures.prepares.is_open
-
 pub returns-clause-spent : goal.returns-clause-spent
 returns-clause-spent g c =
     λ is. spent_before c.args.pages.now c.prepare_file.new.pages c.prepare_file.ensures.prepares.committed

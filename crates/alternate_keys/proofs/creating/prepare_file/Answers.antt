@@ -40,7 +40,7 @@ found : (g : Over) (c : After-clear_trees g) → OnFiles g.D.Device c.args.pages
     (pages_on g.D.Device c.find_listing.new.pages c.find_listing.new.device) c.listing_part.result.now)
 found g c honest agrees files holds =
     let old = g.D.Device.state c.args.device.now in
-    let bounds = c.map_bounds.ensures.open c.args.pages.now old.disk.present c.requires.open c.requires.unspent in
+    let bounds = c.map_bounds.ensures.open c.args.pages.now old.disk.present c.requires.unspent in
     is_there_as (map_now c.args.pages.now old.disk.present) files holds c.deref.result.now c.args.file.now.name.items
     c.args.file.now.named (pages_on g.D.Device c.find_listing.new.pages c.find_listing.new.device)
     c.listing_part.result.now c.in_ok-entry.field-0 c.in-Some.entry c.deref.ensures.value
@@ -123,14 +123,14 @@ pub returns-in-Some-clause-full : goal.returns-in-Some-clause-full
 returns-in-Some-clause-full g c = λ honest agrees files holds rested full.
     let same = committed g (goal.at.returns-in-Some-clause-full g c).After-replace_listing in
     let none = ap (λ (l : List ℕ). length l) rested in
-    let start = (c.needed_by.ensures.needed c.args.pages.now c.requires.open c.requires.unspent).1 in
+    let start = (c.needed_by.ensures.needed c.args.pages.now c.requires.unspent).1 in
     let found_filled = c.find_listing.ensures.unchanged.filled in
     let clear = c.clear_trees.ensures.filled in
     let put = c.in_ok-replace_listing-in-Some.ensures.filled in
     lacks_filled c.args.pages.now c.replace_listing.new.pages c.args.file.now.name.items
     (with_file c.args.file.now.name.items (empty_file (spec_of c.args.file.now)) files) same
     (omega (arith, none, start, found_filled, clear, put)) (c.needed_by.ensures.short c.replace_listing.new.pages
-    c.replace_listing.ensures.edits.is_open (same.spent ∙ c.requires.unspent) full)
+    (same.spent ∙ c.requires.unspent) full)
 
 -- no file of that name is there
 absent : (g : Over) (c : After-add_listing g) → OnFiles g.D.Device c.args.pages.now c.args.device.now
@@ -237,9 +237,6 @@ clear_trees-requires-clause-sectors g c =
     sectors_still g.D.Device _ c.args.pages.now c.find_listing.new.pages c.args.device.now c.find_listing.new.device
     c.find_listing.ensures.only c.find_listing.ensures.unchanged.committed c.requires.sectors
 
-pub clear_trees-requires-clause-open : goal.clear_trees-requires-clause-open
-clear_trees-requires-clause-open g c = c.find_listing.ensures.open
-
 pub returns-in_err-clear_trees-in-Some-clause-spent : goal.returns-in_err-clear_trees-in-Some-clause-spent
 returns-in_err-clear_trees-in-Some-clause-spent g c =
     λ is. spent_before c.args.pages.now c.find_listing.new.pages c.find_listing.ensures.unchanged.committed
@@ -264,9 +261,6 @@ replace_listing-requires-clause-sectors g c =
     g.D.Device _ c.args.pages.now c.find_listing.new.pages c.args.device.now c.find_listing.new.device
     c.find_listing.ensures.only c.find_listing.ensures.unchanged.committed c.requires.sectors)
 
-pub replace_listing-requires-clause-open : goal.replace_listing-requires-clause-open
-replace_listing-requires-clause-open g c = c.clear_trees.ensures.edits.is_open
-
 pub returns-in_err-replace_listing-in-Some-clause-spent : goal.returns-in_err-replace_listing-in-Some-clause-spent
 returns-in_err-replace_listing-in-Some-clause-spent g c =
     λ is. spent_before c.args.pages.now c.find_listing.new.pages c.find_listing.ensures.unchanged.committed
@@ -290,9 +284,6 @@ pub add_listing-requires-clause-sectors : goal.add_listing-requires-clause-secto
 add_listing-requires-clause-sectors g c =
     sectors_still g.D.Device _ c.args.pages.now c.find_listing.new.pages c.args.device.now c.find_listing.new.device
     c.find_listing.ensures.only c.find_listing.ensures.unchanged.committed c.requires.sectors
-
-pub add_listing-requires-clause-open : goal.add_listing-requires-clause-open
-add_listing-requires-clause-open g c = c.find_listing.ensures.open
 
 pub returns-in_err-add_listing-in-None-clause-spent : goal.returns-in_err-add_listing-in-None-clause-spent
 returns-in_err-add_listing-in-None-clause-spent g c =

@@ -7,12 +7,12 @@ use Rattle.alternate_keys.proofs.enter.enter_row.Goals as goal
 pub returns-in-Ok-clause-inserted : goal.returns-in-Ok-clause-inserted
 returns-in-Ok-clause-inserted g c = λ honest agrees left right entries stands is.
     let came : c.in-Ok.new ≡ true = cc in
-    c.in-Ok.ensures.inserted honest agrees left right entries stands (ap Ok came)
+    c.in-Ok.ensures.answers.inserted honest agrees left right entries stands (ap Ok came)
 
 pub returns-in-Ok-clause-there : goal.returns-in-Ok-clause-there
 returns-in-Ok-clause-there g c = λ honest agrees left right entries stands is.
     let same : c.in-Ok.new ≡ false = cc in
-    c.in-Ok.ensures.there honest agrees left right entries stands (ap Ok same)
+    c.in-Ok.ensures.answers.there honest agrees left right entries stands (ap Ok same)
 
 pub returns-in-Ok-clause-changed_pages : goal.returns-in-Ok-clause-changed_pages
 returns-in-Ok-clause-changed_pages g c = λ honest agrees left right entries stands.
@@ -22,7 +22,7 @@ pub returns-in-Err-clause-damaged : goal.returns-in-Err-clause-damaged
 returns-in-Err-clause-damaged g c = λ honest agrees left right entries stands is.
     let told : c.to_fault.result ≡ Damaged = cc in
     let fault : c.in-Err.error ≡ pages.Damaged = damaged_back c.in-Err.error (sym c.to_fault.ensures ∙ told) in
-    c.in-Err.ensures.damaged honest agrees left right entries stands (ap Err fault)
+    c.in-Err.ensures.answers.damaged honest agrees left right entries stands (ap Err fault)
 
 pub returns-in-Err-clause-changed_pages : goal.returns-in-Err-clause-changed_pages
 returns-in-Err-clause-changed_pages g c = λ honest agrees left right entries stands.

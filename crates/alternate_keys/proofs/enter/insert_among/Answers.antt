@@ -58,5 +58,5 @@ returns-in-Err-clause-room g c = λ honest agrees left right entries stands is.
     (map_now c.args.pages.now (g.D.Device.state c.args.device.now).disk.present).pages in
     let told : c.to_fault.result ≡ Full = cc in
     let fault : c.in-Err.error ≡ pages.Full = full_back c.in-Err.error (sym c.to_fault.ensures ∙ told) in
-    c.in-Err.ensures.room honest agrees stands.levels (grows before left right c.args.tree.now entries stands)
+    c.in-Err.ensures.few.room honest agrees stands.levels (grows before left right c.args.tree.now entries stands)
     (ap Err fault)

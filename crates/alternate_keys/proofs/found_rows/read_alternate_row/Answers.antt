@@ -38,7 +38,6 @@ looked g c = record {
   only = c.is_repeated.ensures.only;
   unchanged = c.is_repeated.ensures.unchanged;
   agrees = c.is_repeated.ensures.agrees;
-  is_open = c.is_repeated.ensures.open;
 }
 
 both : (g : Over) (c : After-find g) (C : Type 0) → (C → c.find.result ≡ Err Device)
@@ -49,7 +48,6 @@ both g c C from =
       only = c.is_repeated.ensures.only;
       unchanged = c.is_repeated.ensures.unchanged;
       agrees = c.is_repeated.ensures.agrees;
-      is_open = c.is_repeated.ensures.open;
     }) c.find.ensures.looks
 
 damaged_clash : {A : Type 0} → Damaged ≡ Device → A
@@ -65,7 +63,7 @@ pub returns-in_err-number-clause-looks : goal.returns-in_err-number-clause-looks
 returns-in_err-number-clause-looks g c =
     looks_blamed g.D.Device ⊥ _ _ _ _ _
     (λ is. not_device c.in_err-number.was c.in_err-number.ensures.err.0 c.from_residual.ensures.1 is)
-    (looks_nowhere g.D.Device c.args.pages.now c.args.device.now c.requires.open)
+    (looks_nowhere g.D.Device c.args.pages.now c.args.device.now)
 
 pub returns-in_err-repeated-clause-looks : goal.returns-in_err-repeated-clause-looks
 returns-in_err-repeated-clause-looks g c =

@@ -28,7 +28,7 @@ returns-in_err-number-clause-looks g c =
     (looks_blamed g.D.Device ⊥ _ _ _ _ _
     (λ is. let why = c.in_err-number.ensures.err.0 in
     let told : c.in_err-number.field-0.0 ≡ Device = same_error is in cc (why, told))
-    (looks_nowhere g.D.Device c.args.pages.now c.args.device.now c.requires.open))
+    (looks_nowhere g.D.Device c.args.pages.now c.args.device.now))
 
 pub returns-in_err-number-clause-damaged : goal.returns-in_err-number-clause-damaged
 returns-in_err-number-clause-damaged g c = λ honest agrees spec row entry_is same under fits told.
@@ -49,7 +49,7 @@ pub returns-in_err-read_record-clause-looks : goal.returns-in_err-read_record-cl
 returns-in_err-read_record-clause-looks g c =
     looks_blamed g.D.Device (c.read_record.result ≡ Err Device) _ _ _ _ _
     (λ is. refused_by_call c.in_err-read_record.was c.from_residual-in_err-read_record.ensures.1 is)
-    (looks_past g.D.Device _ c.args.pages.now _ _ c.read_record.ensures.only c.requires.open)
+    (looks_past g.D.Device _ c.args.pages.now _ _ c.read_record.ensures.only)
 
 pub returns-in_err-read_record-clause-damaged : goal.returns-in_err-read_record-clause-damaged
 returns-in_err-read_record-clause-damaged g c = λ honest agrees spec row entry_is same under fits told.
@@ -60,7 +60,7 @@ returns-in_err-read_record-clause-damaged g c = λ honest agrees spec row entry_
 
 pub returns-clause-looks : goal.returns-clause-looks
 returns-clause-looks g c = looks_blamed g.D.Device (c.read_record.result ≡ Err Device) _ _ _ _ _ (λ is. never_ok is)
-    (looks_past g.D.Device _ c.args.pages.now _ _ c.read_record.ensures.only c.requires.open)
+    (looks_past g.D.Device _ c.args.pages.now _ _ c.read_record.ensures.only)
 
 pub returns-clause-found : goal.returns-clause-found
 returns-clause-found g c = λ spec row rows same key under.

@@ -25,7 +25,7 @@ use Rattle.alternate_keys.proofs.move_pairs.move_pairs.Goals.{After-move_pair, A
 
 pub loop-key-init : goal.loop-key-init
 loop-key-init g c = record {
-  edits = edits_nothing g.D.Device c.args.pages.now c.args.device.now c.requires.open;
+  edits = edits_nothing g.D.Device c.args.pages.now c.args.device.now;
   came = λ honest agrees held left right trees is has after spec_then move.
       none_become has after _ c.new-roots.ensures.items;
   few = λ honest agrees held left right trees is has after spec_then move. omega arith;

@@ -298,9 +298,6 @@ insert_row-requires-clause-sectors g c =
     c.look_at_new_row.new.device c.look_at_new_row.ensures.looks.only
     c.look_at_new_row.ensures.looks.unchanged.committed c.requires.sectors
 
-pub insert_row-requires-clause-open : goal.insert_row-requires-clause-open
-insert_row-requires-clause-open g c = c.look_at_new_row.ensures.looks.is_open
-
 pub returns-in_err-insert_row-clause-spent : goal.returns-in_err-insert_row-clause-spent
 returns-in_err-insert_row-clause-spent g c =
     λ is. spent_before c.args.pages.now c.look_at_new_row.new.pages
@@ -319,9 +316,6 @@ move_row-requires-clause-sectors g c =
     g.D.Device _
     c.args.pages.now c.look_at_new_row.new.pages c.args.device.now c.look_at_new_row.new.device
     c.look_at_new_row.ensures.looks.only c.look_at_new_row.ensures.looks.unchanged.committed c.requires.sectors)
-
-pub move_row-requires-clause-open : goal.move_row-requires-clause-open
-move_row-requires-clause-open g c = c.insert_row.ensures.edits.is_open
 
 pub returns-in_err-listing-clause-spent : goal.returns-in_err-listing-clause-spent
 returns-in_err-listing-clause-spent g c =

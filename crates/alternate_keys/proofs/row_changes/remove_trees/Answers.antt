@@ -197,13 +197,11 @@ returns-in_err-row-clause-room g c =
     λ honest agrees named generation left right has is. absurd (never_full c.find_row.result c.find_row.ensures.cause
     (refused_by_call c.in_err-row.was c.from_residual.ensures.1 is))
 
-pub remove_row-requires-clause-sectors : goal.remove_row-requires-clause-sectors
-remove_row-requires-clause-sectors g c =
-    sectors_still g.D.Device _ c.args.pages.now c.find_row.new.pages c.args.device.now c.find_row.new.device
-    c.find_row.ensures.looks.only c.find_row.ensures.looks.unchanged.committed c.requires.sectors
-
-pub remove_row-requires-clause-open : goal.remove_row-requires-clause-open
-remove_row-requires-clause-open g c = c.find_row.ensures.looks.is_open
+pub remove_row-requires : goal.remove_row-requires
+remove_row-requires g c = record {
+  sectors = sectors_still g.D.Device _ c.args.pages.now c.find_row.new.pages c.args.device.now c.find_row.new.device
+      c.find_row.ensures.looks.only c.find_row.ensures.looks.unchanged.committed c.requires.sectors;
+}
 
 pub returns-in_err-remove_row-clause-spent : goal.returns-in_err-remove_row-clause-spent
 returns-in_err-remove_row-clause-spent g c =
@@ -229,9 +227,6 @@ move_row-requires-clause-sectors g c =
     c.remove_row.new.device c.remove_row.ensures.edits.only c.remove_row.ensures.edits.committed (sectors_still
     g.D.Device _ c.args.pages.now c.find_row.new.pages c.args.device.now c.find_row.new.device
     c.find_row.ensures.looks.only c.find_row.ensures.looks.unchanged.committed c.requires.sectors)
-
-pub move_row-requires-clause-open : goal.move_row-requires-clause-open
-move_row-requires-clause-open g c = c.remove_row.ensures.edits.is_open
 
 pub returns-in_err-listing-clause-spent : goal.returns-in_err-listing-clause-spent
 returns-in_err-listing-clause-spent g c =

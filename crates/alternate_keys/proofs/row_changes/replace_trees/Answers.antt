@@ -321,9 +321,6 @@ find_duplicate_key-requires-clause-sectors g c =
     sectors_still g.D.Device _ c.args.pages.now c.find_row.new.pages c.args.device.now c.find_row.new.device
     c.find_row.ensures.looks.only c.find_row.ensures.looks.unchanged.committed c.requires.sectors
 
-pub find_duplicate_key-requires-clause-open : goal.find_duplicate_key-requires-clause-open
-find_duplicate_key-requires-clause-open g c = c.find_row.ensures.looks.is_open
-
 pub returns-in_err-outcome-clause-spent : goal.returns-in_err-outcome-clause-spent
 returns-in_err-outcome-clause-spent g c =
     λ is. spent_before c.args.pages.now c.find_row.new.pages c.find_row.ensures.looks.unchanged.committed
@@ -364,9 +361,6 @@ replace_row-requires-clause-sectors g c =
     c.find_row.new.pages c.args.device.now c.find_row.new.device c.find_row.ensures.looks.only
     c.find_row.ensures.looks.unchanged.committed c.requires.sectors)
 
-pub replace_row-requires-clause-open : goal.replace_row-requires-clause-open
-replace_row-requires-clause-open g c = c.find_duplicate_key.ensures.looks.is_open
-
 pub returns-in_err-replace_row-clause-spent : goal.returns-in_err-replace_row-clause-spent
 returns-in_err-replace_row-clause-spent g c =
     λ is. spent_before c.args.pages.now c.find_row.new.pages c.find_row.ensures.looks.unchanged.committed
@@ -395,9 +389,6 @@ move_row-requires-clause-sectors g c =
     c.find_duplicate_key.ensures.looks.only c.find_duplicate_key.ensures.looks.unchanged.committed (sectors_still
     g.D.Device _ c.args.pages.now c.find_row.new.pages c.args.device.now c.find_row.new.device
     c.find_row.ensures.looks.only c.find_row.ensures.looks.unchanged.committed c.requires.sectors))
-
-pub move_row-requires-clause-open : goal.move_row-requires-clause-open
-move_row-requires-clause-open g c = c.replace_row.ensures.edits.is_open
 
 pub returns-in_err-listing-clause-spent : goal.returns-in_err-listing-clause-spent
 returns-in_err-listing-clause-spent g c =

@@ -51,7 +51,7 @@ returns-in-Second-clause-migrated g c = λ honest files holds.
     let new = g.D.Device.state c.open.new.device in
     migrated_image c.in-Ok.pages new.disk files mark
     (opened_stands c.in-Ok.pages (g.D.Device.state c.args.device.now) new files (c.in-Ok.ensures.state honest)
-    (c.in-Ok.ensures.agrees honest) c.in-Ok.ensures.map c.in-Ok.ensures.ready.3 holds)
+    (c.in-Ok.ensures.agrees honest) c.in-Ok.ensures.map c.in-Ok.ensures.ready.2 holds)
 
 -- the pages that were opened have the files of the disk
 opened : (g : Over) (c : After-remake_catalog g) → g.D.Device.is_honest c.args.device.now → (files : Files)
@@ -59,7 +59,7 @@ opened : (g : Over) (c : After-remake_catalog g) → g.D.Device.is_honest c.args
     → Represents c.in-Ok.pages (g.D.Device.state c.open.new.device).disk files
 opened g c honest files holds =
     opened_stands c.in-Ok.pages (g.D.Device.state c.args.device.now) (g.D.Device.state c.open.new.device) files
-    (c.in-Ok.ensures.state honest) (c.in-Ok.ensures.agrees honest) c.in-Ok.ensures.map c.in-Ok.ensures.ready.3 holds
+    (c.in-Ok.ensures.state honest) (c.in-Ok.ensures.agrees honest) c.in-Ok.ensures.map c.in-Ok.ensures.ready.2 holds
 
 -- the volume has the first mark
 first : (g : Over) (c : After-remake_catalog g) → mark_of c.in-Ok.pages ≡ 0
@@ -106,7 +106,7 @@ refused_here g c honest =
     c.in-Ok.ensures.filled (c.remake_catalog.ensures.room is))
     (λ is files holds. c.remake_catalog.ensures.damaged (c.in-Ok.ensures.honest.0 honest) agrees files
     (opened g c honest files holds).holds is)
-    (λ is. never_spent_then c.in-Ok.pages c.in-Ok.pages c.in-Ok.pages c.in-Ok.ensures.ready.1
+    (λ is. never_spent_then c.in-Ok.pages c.in-Ok.pages c.in-Ok.pages c.in-Ok.ensures.ready.0
     (record { volume = refl; mark = refl; spent = refl }) refl (c.remake_catalog.ensures.spent is))
 
 pub returns-in_err-remake_catalog-clause-refused : goal.returns-in_err-remake_catalog-clause-refused
@@ -184,7 +184,7 @@ lacks_here : (g : Over) (c : After-commit_pages g) → g.D.Device.is_honest c.ar
     → LacksRoomToMigrate (g.D.Device.state c.args.device.now).disk.present
 lacks_here g c honest zero full =
     let prepares = c.remake_catalog.ensures.prepares in
-    let unspent = c.set_mark.ensures.spent ∙ prepares.committed.spent ∙ c.in-Ok.ensures.ready.1 in
+    let unspent = c.set_mark.ensures.spent ∙ prepares.committed.spent ∙ c.in-Ok.ensures.ready.0 in
     let most = c.remake_catalog.ensures.filled in
     let set = c.set_mark.ensures.filled in
     let none = c.in-Ok.ensures.filled in
@@ -193,7 +193,7 @@ lacks_here g c honest zero full =
     c.in-Ok.ensures.map zero
     (c.set_mark.ensures.committed ∙ same_volume c.in-Ok.pages c.remake_catalog.new.pages prepares.committed)
     (omega (arith, most, set, none))
-    (c.needed_by.ensures.short c.set_mark.new.self (c.set_mark.ensures.open prepares.is_open) unspent full)
+    (c.needed_by.ensures.short c.set_mark.new.self unspent full)
 
 pub returns-clause-refused : goal.returns-clause-refused
 returns-clause-refused g c = λ honest.
@@ -203,5 +203,5 @@ returns-clause-refused g c = λ honest.
     (c.commit_pages.ensures.full is))
     (λ is files holds. (c.commit_pages.ensures.settles files files (changed g at.After-commit_pages honest files
     (opened g at.After-remake_catalog honest files holds))).sound is)
-    (λ is. never_spent_then c.in-Ok.pages c.remake_catalog.new.pages c.set_mark.new.self c.in-Ok.ensures.ready.1
+    (λ is. never_spent_then c.in-Ok.pages c.remake_catalog.new.pages c.set_mark.new.self c.in-Ok.ensures.ready.0
     c.remake_catalog.ensures.prepares.committed c.set_mark.ensures.spent (c.commit_pages.ensures.spent is))

@@ -45,7 +45,7 @@ built g c =
     (c.clear_among.result ≡ Err Device) _ _ _ _ _ _ (λ is. is)
     (looks_edits g.D.Device _ _ _ _ _ c.counted_leaves.ensures.looks) c.clear_among.ensures.edits)
     (edits_kept g.D.Device c.clear_among.new.pages c.build.new.pages c.clear_among.new.device
-    c.clear_among.ensures.edits.is_open c.build.ensures.keeps)
+    c.build.ensures.keeps)
 
 layout_is : (g : Over) (c : After-build g) → c.layout-layout.result ≡ catalog_layout 1
 layout_is g c = c.layout-layout.ensures.is ∙ c.catalog_tree.ensures.layout
@@ -88,11 +88,13 @@ returns-in_err-leaves-clause-cause g c =
     passed c.from_residual.result c.in_err-leaves.field-0.0 c.from_residual.ensures.1 (λ r. IfErr r IsWriteFault)
     (read_is_write c.in_err-leaves.field-0.0 c.in_err-leaves.ensures.cause)
 
-pub clear_among-requires-clause-sectors : goal.clear_among-requires-clause-sectors
-clear_among-requires-clause-sectors g c =
+pub clear_among-requires : goal.clear_among-requires
+clear_among-requires g c =
     let looks = c.counted_leaves.ensures.looks in
-    sectors_still g.D.Device _ c.args.pages.now c.counted_leaves.new.pages c.args.device.now
-    c.counted_leaves.new.device looks.only looks.unchanged.committed c.requires.sectors
+    record {
+      sectors = sectors_still g.D.Device _ c.args.pages.now c.counted_leaves.new.pages c.args.device.now
+          c.counted_leaves.new.device looks.only looks.unchanged.committed c.requires.sectors;
+    }
 
 pub returns-in_err-clear_among-clause-prepares : goal.returns-in_err-clear_among-clause-prepares
 returns-in_err-clear_among-clause-prepares g c =
@@ -137,7 +139,7 @@ returns-in-Ok-clause-prepares g c =
     let at = goal.at.returns-in-Ok-clause-prepares g c in
     prepares_set g.D.Device ⊥ _ c.args.pages.now c.build.new.pages c.set_catalog.new.self c.args.device.now
     c.clear_among.new.device (λ is. never_ok is) (built g at.After-build) c.set_catalog.ensures.committed
-    c.set_catalog.ensures.agrees (c.set_catalog.ensures.open (built g at.After-build).is_open)
+    c.set_catalog.ensures.agrees
 
 -- the old catalog has released its pages
 released : (g : Over) (c : After-build g) → g.D.Device.is_honest c.args.device.now
@@ -179,5 +181,5 @@ returns-clause-room g c = λ is.
     let more = c.build.ensures.filled in
     let long = ap (λ (l : List Node). length l) c.as_slice.ensures.value in
     let few = c.in_ok-leaves.ensures.leaves.few in
-    room_filled c.args.pages.now c.build.new.pages 9 c.few_free.ensures edits.is_open edits.committed
+    room_filled c.args.pages.now c.build.new.pages 9 c.few_free.ensures edits.committed
     c.requires.unspent (c.in-Err.ensures.full (ap Err fault)) (omega (arith, seen, clear, more, long, few))

@@ -1,4 +1,4 @@
-use Rattle.std.proofs.Common.{◌≡◌, ◌≤◌, inr, List, Err, sym, ap, subst, ◌∙◌, arith}
+use Rattle.std.proofs.Common.{◌≡◌, ◌<◌, ◌≤◌, ◌^◌, inr, List, Err, sym, ap, subst, ◌∙◌, arith, rules}
 use Rattle.std.specs.Prelude.{Option}
 use Rattle.station.specs.Disk.{Sector}
 use Rattle.pages.specs.Pages.{map_now}
@@ -6,7 +6,7 @@ use Rattle.pages.specs.declared.error.PagesError.TheVariants as pages
 use Rattle.records.specs.declared.fault.StoreFault.TheVariants.{Damaged, Device}
 use Rattle.records.specs.Spec.{Spec}
 use Rattle.records.specs.Files.{File, Files, file_at}
-use Rattle.records.specs.Stores.{spec_of, Has, bound_at}
+use Rattle.records.specs.Stores.{spec_of, Has, bound_of}
 use Rattle.btree_pages.specs.declared.row_layout.RowLayout.{RowLayout}
 use Rattle.btree.proofs.Frames.{same_pages}
 use Rattle.btree.specs.Calls.{pages_on}
@@ -27,14 +27,14 @@ use Rattle.alternate_keys.proofs.seeking.seek_in.Goals.{After-seek_row}
 -- the file's listing, and its trees
 knows : (g : Over) (c : After-seek_row g) → OnNotes g.D.Device (noted_search c.args.notes.now) c.args.pages.now
     c.args.device.now (λ m. (files : Files) (held : File) → MapHolds m files → Has files c.args.file.now held
-    → Knows m (file_at c.args.file.now.name.items files) held (spec_of c.args.file.now) c.args.key_start.key
+    → Knows m (file_at c.args.file.now.name.items files) held (spec_of c.args.file.now) c.args.key
     c.note_file.new.self.listing c.row_tree-prime.result c.file_tree-under.result)
 knows g c honest agrees are files held holds has =
     let image = (g.D.Device.state c.args.device.now).disk.present in
-    knows_listed (map_now c.args.pages.now image) files held (spec_of c.args.file.now) c.args.key_start.key
+    knows_listed (map_now c.args.pages.now image) files held (spec_of c.args.file.now) c.args.key
     c.deref.result.now
     c.args.file.now.name.items c.in_ok-note_file.field-0 c.note_file.new.self.listing c.row_tree-prime.result
-    c.file_tree-under.result (c.map_bounds.ensures.open c.args.pages.now image c.requires.open c.requires.unspent)
+    c.file_tree-under.result (c.map_bounds.ensures.open c.args.pages.now image c.requires.unspent)
     c.deref.ensures.value c.if-not-branch.false (c.in_ok-note_file.ensures.listed honest agrees are files holds)
     has.there has.spec c.args.file.now.sound c.requires.key c.row_tree-prime.ensures.layout
     c.row_tree-prime.ensures.root c.row_tree-prime.ensures.form c.file_tree-under.ensures.layout
@@ -51,19 +51,19 @@ same_after g c honest = same_pages c.args.pages.now c.note_file.new.pages (g.D.D
 -- the row is sought in them
 sought : (g : Over) (c : After-seek_row g) → OnNotes g.D.Device (noted_search c.args.notes.now) c.args.pages.now
     c.args.device.now (λ m. (files : Files) (held : File) → MapHolds m files → Has files c.args.file.now held
-    → IsSought (spec_of c.args.file.now) c.args.key_start.key (bound_at c.args.key_start.side c.args.key_start.value.now
-    c.args.number) (pages_on g.D.Device c.note_file.new.pages c.note_file.new.device) held.rows c.row_tree-prime.result
+    → IsSought (spec_of c.args.file.now) c.args.key (bound_of c.args.bound)
+    (pages_on g.D.Device c.note_file.new.pages c.note_file.new.device) held.rows c.row_tree-prime.result
     c.file_tree-under.result c.search_start_for-aim.result c.as_slice-from.result.now)
 sought g c honest agrees are files held holds has =
-    let way = sought_in _ _ held (spec_of c.args.file.now)
-    c.args.key_start.key (bound_at c.args.key_start.side c.args.key_start.value.now c.args.number)
+    let low : c.args.bound.number < 2 ^ 64 = search rules in
+    let way = sought_in _ _ held (spec_of c.args.file.now) c.args.key (bound_of c.args.bound)
     c.note_file.new.self.listing c.row_tree-prime.result c.file_tree-under.result
     c.search_start_for-aim.result c.as_slice-from.result.now (knows g c honest agrees are files held holds has)
-    (record { value = c.requires.value; number = let low = c.ranges.number.fits in omega arith })
+    (record { value = c.requires.value; number = omega (arith, low) })
     c.search_start_for-aim.ensures (c.as_slice-from.ensures.value ∙ c.in_ok-at.ensures.bytes) in
-    subst (λ (p : List (Option Sector)). IsSought (spec_of c.args.file.now) c.args.key_start.key
-    (bound_at c.args.key_start.side c.args.key_start.value.now c.args.number) p held.rows c.row_tree-prime.result
-    c.file_tree-under.result c.search_start_for-aim.result c.as_slice-from.result.now) (sym (same_after g c honest)) way
+    subst (λ (p : List (Option Sector)). IsSought (spec_of c.args.file.now) c.args.key (bound_of c.args.bound) p
+    held.rows c.row_tree-prime.result c.file_tree-under.result c.search_start_for-aim.result
+    c.as_slice-from.result.now) (sym (same_after g c honest)) way
 
 -- the leaf that is noted is one of its tree, before the search and after it
 near : (g : Over) (c : After-seek_row g) → OnNotes g.D.Device (noted_search c.args.notes.now) c.args.pages.now
@@ -110,14 +110,14 @@ seek_row-requires-clause-short g c =
     let spec : Spec = spec_of c.args.file.now in
     let sound = c.args.file.now.sound in
     let P : RowLayout → Type 0 = λ l. l.key_length ≤ 128 in
-    subst P (sym c.file_tree-under.ensures.layout) (layout_short spec c.args.key_start.key sound c.requires.key)
+    subst P (sym c.file_tree-under.ensures.layout) (layout_short spec c.args.key sound c.requires.key)
 
 pub returns-in-Ok-clause-found : goal.returns-in-Ok-clause-found
 returns-in-Ok-clause-found g c = λ honest agrees are files held holds has.
     let at = goal.at.returns-in-Ok-clause-found g c in
     c.in-Ok.ensures.found (c.note_file.ensures.looks.only.honest.0 honest)
     (c.note_file.ensures.looks.agrees honest agrees)
-    (bound_at c.args.key_start.side c.args.key_start.value.now c.args.number) held.rows
+    (bound_of c.args.bound) held.rows
     (sought g at.After-seek_row honest agrees are files held holds has)
     (near g at.After-seek_row honest agrees are)
 
@@ -126,7 +126,7 @@ returns-in-Ok-clause-bytes g c = λ honest agrees are files held holds has.
     let at = goal.at.returns-in-Ok-clause-bytes g c in
     c.in-Ok.ensures.bytes (c.note_file.ensures.looks.only.honest.0 honest)
     (c.note_file.ensures.looks.agrees honest agrees)
-    (bound_at c.args.key_start.side c.args.key_start.value.now c.args.number) held.rows
+    (bound_of c.args.bound) held.rows
     (sought g at.After-seek_row honest agrees are files held holds has)
     (near g at.After-seek_row honest agrees are) c.requires.bytes
 
@@ -137,7 +137,7 @@ returns-clause-damaged g c = λ honest agrees are files held holds has is.
     let fault : c.in-Err.error ≡ pages.Damaged = damaged_back c.in-Err.error (sym c.to_fault.ensures ∙ told) in
     c.in-Err.ensures.damaged (c.note_file.ensures.looks.only.honest.0 honest)
     (c.note_file.ensures.looks.agrees honest agrees)
-    (bound_at c.args.key_start.side c.args.key_start.value.now c.args.number) held.rows
+    (bound_of c.args.bound) held.rows
     (sought g at.After-seek_row honest agrees are files held holds has)
     (near g at.After-seek_row honest agrees are) c.requires.bytes (ap Err fault)
 

@@ -156,9 +156,6 @@ is_row_there-requires-clause-sectors g c =
     c.find_duplicate_key.new.device c.find_duplicate_key.ensures.looks.only
     c.find_duplicate_key.ensures.looks.unchanged.committed c.requires.sectors
 
-pub is_row_there-requires-clause-open : goal.is_row_there-requires-clause-open
-is_row_there-requires-clause-open g c = c.find_duplicate_key.ensures.looks.is_open
-
 pub returns-in_err-is_row_there-clause-spent : goal.returns-in_err-is_row_there-clause-spent
 returns-in_err-is_row_there-clause-spent g c =
     λ is. spent_before c.args.pages.now c.find_duplicate_key.new.pages

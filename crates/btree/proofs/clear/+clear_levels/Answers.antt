@@ -127,9 +127,6 @@ returns-clause-agrees g t c = λ honest agrees. c.clear_levels.ensures.agrees (c
     (c.release_pages.ensures.keeps.agrees (g.D.Device.state c.below.new.device).disk
     (c.below.ensures.agrees honest agrees))
 
-pub returns-in_err-release_pages-clause-open : goal.returns-in_err-release_pages-clause-open
-returns-in_err-release_pages-clause-open g t c = c.release_pages.ensures.keeps.is_open c.below.ensures.open
-
 pub returns-in_err-children-clause-spent : goal.returns-in_err-children-clause-spent
 returns-in_err-children-clause-spent g t c =
     passed c.from_residual.result c.in_err-children.field-0.0 c.from_residual.ensures.1

@@ -94,7 +94,6 @@ loop-place-preserved g c =
       only = reads_then g.D.Device _ _ _ _ _ _ (λ e. absurd e) loop.invariant.only c.read_node.ensures.only;
       unchanged = unchanged_on _ _ _ loop.invariant.unchanged c.read_node.ensures.unchanged;
       agrees = λ h a. c.read_node.ensures.agrees (loop.invariant.only.honest.0 h) (loop.invariant.agrees h a);
-      is_open = c.read_node.ensures.open;
       children = children_next g.D.Device c.args.layout c.args.pages.now loop.pages c.args.device.now loop.device
           c.args.numbers.now loop.place c.in_ok-node.node loop.children.items c.push_children.new.numbers.items
           loop.invariant.unchanged loop.invariant.only loop.invariant.agrees c.loop-place-test.true

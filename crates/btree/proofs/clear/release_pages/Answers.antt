@@ -29,7 +29,6 @@ loop-place-preserved c =
           (c.in_ok-release.ensures.map image);
       filled = omega (arith, c.release.ensures.filled, loop.invariant.filled);
       keeps = keeps_on _ _ _ loop.invariant.keeps c.release.ensures.keeps;
-      is_open = c.release.ensures.keeps.is_open loop.invariant.is_open;
     }
 
 pub returns-clause-released : goal.returns-clause-released

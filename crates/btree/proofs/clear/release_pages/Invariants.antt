@@ -1,6 +1,6 @@
 use Rattle.std.proofs.Common.{◌≤◌, List, [], take}
 use Rattle.station.specs.Disk.{Sector}
-use Rattle.pages.specs.Pages.{IsOpen, filled_of, KeepsCommitted}
+use Rattle.pages.specs.Pages.{filled_of, KeepsCommitted}
 use Rattle.btree.specs.Moves.{Moves}
 use Rattle.btree.specs.Changes.{pages_of_map}
 use Rattle.btree.proofs.clear.release_pages.Given as goal
@@ -11,5 +11,4 @@ invariant-loop-place l = record {
       → Moves (pages_of_map l.fn.pages image) (take l.place l.numbers) (pages_of_map l.pages image) [];
   filled : filled_of l.pages ≤ filled_of l.fn.pages;
   keeps : KeepsCommitted l.fn.pages l.pages;
-  is_open : IsOpen l.pages;
 }

@@ -61,7 +61,6 @@ loop-place-preserved g c =
       only = reads_then g.D.Device ⊥ _ ⊥ _ _ _ (λ e. absurd e) at.only c.read_node.ensures.only;
       unchanged = unchanged_on _ _ _ at.unchanged c.read_node.ensures.unchanged;
       agrees = λ h a. c.read_node.ensures.agrees (at.only.honest.0 h) (at.agrees h a);
-      is_open = c.read_node.ensures.open;
       rows = rows_on g.D.Device ⊥ c.args.pages.now c.loop-place.pages c.args.device.now c.loop-place.device
           c.args.layout c.args.numbers.now c.loop-place.place c.loop-place.count c.count.result c.in_ok-node.node
           at.unchanged at.only at.agrees low c.in_ok-node.ensures.node c.count.ensures.rows at.rows;

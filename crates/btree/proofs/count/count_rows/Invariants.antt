@@ -1,7 +1,7 @@
 use Rattle.std.proofs.Common.{◌≡◌, ◌≤◌, ◌*◌, List, length, take}
 use Rattle.std.specs.List.{All}
 use Rattle.station.specs.Calls.{OnlyReads}
-use Rattle.pages.specs.Pages.{Agrees, IsOpen, IsUnchanged}
+use Rattle.pages.specs.Pages.{Agrees, IsUnchanged}
 use Rattle.btree_pages.specs.declared.row_layout.Kind.TheVariants.{Leaf}
 use Rattle.btree.specs.Tree.{TreeNode, IsOnPage, rows_of}
 use Rattle.btree.specs.Moves.{numbers_of}
@@ -14,7 +14,6 @@ invariant-loop-place g l = record {
   unchanged : IsUnchanged l.fn.pages l.pages;
   agrees : g.D.Device.is_honest l.fn.device → Agrees l.fn.pages (g.D.Device.state l.fn.device).disk
       → Agrees l.pages (g.D.Device.state l.device).disk;
-  is_open : IsOpen l.pages;
   rows : g.D.Device.is_honest l.fn.device → Agrees l.fn.pages (g.D.Device.state l.fn.device).disk
       → (level : List TreeNode) →
       All (IsOnPage l.fn.layout (pages_of_map l.fn.pages (g.D.Device.state l.fn.device).disk.present) Leaf) level

@@ -175,15 +175,6 @@ returns-clause-agrees g c =
     (c.enter_leaf.ensures.keeps.agrees (g.D.Device.state c.follow.new.device).disk
     (c.follow.ensures.agrees honest agrees))
 
-pub returns-in_err-enter_leaf-clause-open : goal.returns-in_err-enter_leaf-clause-open
-returns-in_err-enter_leaf-clause-open g c = c.enter_leaf.ensures.keeps.is_open c.follow.ensures.open
-
-pub returns-then-branch-clause-open : goal.returns-then-branch-clause-open
-returns-then-branch-clause-open g c = c.enter_leaf.ensures.keeps.is_open c.follow.ensures.open
-
-pub insert_slowly-requires-clause-open : goal.insert_slowly-requires-clause-open
-insert_slowly-requires-clause-open g c = c.enter_leaf.ensures.keeps.is_open c.follow.ensures.open
-
 pub insert_slowly-requires-clause-sectors : goal.insert_slowly-requires-clause-sectors
 insert_slowly-requires-clause-sectors g c = sectors_on c.args.pages.now c.enter_leaf.new.pages _ _
     (c.enter_leaf.ensures.keeps.committed.volume ∙ c.follow.ensures.unchanged.committed.volume)
@@ -285,12 +276,6 @@ returns-in_err-new-clause-agrees g c =
 pub returns-then-root-eq0-clause-agrees : goal.returns-then-root-eq0-clause-agrees
 returns-then-root-eq0-clause-agrees g c =
     λ honest agrees. c.first_leaf.ensures.keeps.agrees (g.D.Device.state c.args.device.now).disk agrees
-
-pub returns-in_err-new-clause-open : goal.returns-in_err-new-clause-open
-returns-in_err-new-clause-open g c = c.first_leaf.ensures.keeps.is_open c.requires.open
-
-pub returns-then-root-eq0-clause-open : goal.returns-then-root-eq0-clause-open
-returns-then-root-eq0-clause-open g c = c.first_leaf.ensures.keeps.is_open c.requires.open
 
 pub returns-in_err-new-clause-spent : goal.returns-in_err-new-clause-spent
 returns-in_err-new-clause-spent g c = passed c.from_residual.result c.in_err-new.field-0.0 c.from_residual.ensures.1

@@ -94,7 +94,7 @@ returns-in_err-entered-clause-changed_pages g c = λ honest agrees levels holds.
     (λ spent. ok_or_err d Spent (sym c.in_ok-descent.was ∙ c.descend.ensures.spent.1 spent)) in
     let small =
     few_pages before (page_count c.args.pages.now) c.page_count-page_count.result (c.page_count-page_count.ensures.pages
-    image) c.page_count-page_count.ensures.count (c.page_count-page_count.ensures.few c.requires.open unspent) in
+    image) c.page_count-page_count.ensures.count (c.page_count-page_count.ensures.few unspent) in
     let steps = few_steps c.args.layout c.args.key.now before c.args.root levels d.path.items d.page d.leaf.rows d.right
     small tree (c.in_ok-descent.ensures.way honest agrees levels tree) in
     let same = ap length c.descend.ensures.unchanged.changed_pages in
@@ -110,7 +110,7 @@ returns-clause-changed_pages g c = λ honest agrees levels holds.
     (λ spent. ok_or_err d Spent (sym c.in_ok-descent.was ∙ c.descend.ensures.spent.1 spent)) in
     let small =
     few_pages before (page_count c.args.pages.now) c.page_count-page_count.result (c.page_count-page_count.ensures.pages
-    image) c.page_count-page_count.ensures.count (c.page_count-page_count.ensures.few c.requires.open unspent) in
+    image) c.page_count-page_count.ensures.count (c.page_count-page_count.ensures.few unspent) in
     let steps = few_steps c.args.layout c.args.key.now before c.args.root levels d.path.items d.page d.leaf.rows d.right
     small tree (c.in_ok-descent.ensures.way honest agrees levels tree) in
     let same = ap length c.descend.ensures.unchanged.changed_pages in
@@ -131,7 +131,7 @@ returns-in_err-entered-clause-filled g c = λ honest agrees levels holds.
     (λ spent. ok_or_err d Spent (sym c.in_ok-descent.was ∙ c.descend.ensures.spent.1 spent)) in
     let small =
     few_pages before (page_count c.args.pages.now) c.page_count-page_count.result (c.page_count-page_count.ensures.pages
-    image) c.page_count-page_count.ensures.count (c.page_count-page_count.ensures.few c.requires.open unspent) in
+    image) c.page_count-page_count.ensures.count (c.page_count-page_count.ensures.few unspent) in
     let steps = few_steps c.args.layout c.args.key.now before c.args.root levels d.path.items d.page d.leaf.rows d.right
     small tree (c.in_ok-descent.ensures.way honest agrees levels tree) in
     let same = c.descend.ensures.unchanged.filled in
@@ -147,7 +147,7 @@ returns-clause-filled g c = λ honest agrees levels holds.
     (λ spent. ok_or_err d Spent (sym c.in_ok-descent.was ∙ c.descend.ensures.spent.1 spent)) in
     let small =
     few_pages before (page_count c.args.pages.now) c.page_count-page_count.result (c.page_count-page_count.ensures.pages
-    image) c.page_count-page_count.ensures.count (c.page_count-page_count.ensures.few c.requires.open unspent) in
+    image) c.page_count-page_count.ensures.count (c.page_count-page_count.ensures.few unspent) in
     let steps = few_steps c.args.layout c.args.key.now before c.args.root levels d.path.items d.page d.leaf.rows d.right
     small tree (c.in_ok-descent.ensures.way honest agrees levels tree) in
     let same = c.descend.ensures.unchanged.filled in
@@ -226,13 +226,13 @@ returns-in_err-descent-clause-edits g c =
     (λ r. EditsPages g.D.Device (r ≡ Err Device) c.args.pages.now c.args.device.now c.descend.new.pages
     c.descend.new.device)
     (edits_where g.D.Device _ _ _ _ _ _ (λ is. still_error is)
-    (edits_read g.D.Device _ _ _ _ _ way.only way.unchanged way.agrees way.open))
+    (edits_read g.D.Device _ _ _ _ _ way.only way.unchanged way.agrees))
 
 pub returns-in-Ok-clause-edits : goal.returns-in-Ok-clause-edits
 returns-in-Ok-clause-edits g c =
     let way = c.descend.ensures in
     edits_where g.D.Device _ _ _ _ _ _ (λ is. never_ok is)
-    (edits_read g.D.Device _ _ _ _ _ way.only way.unchanged way.agrees way.open)
+    (edits_read g.D.Device _ _ _ _ _ way.only way.unchanged way.agrees)
 
 pub returns-in_err-entered-clause-edits : goal.returns-in_err-entered-clause-edits
 returns-in_err-entered-clause-edits g c =
@@ -242,13 +242,13 @@ returns-in_err-entered-clause-edits g c =
     (λ r. EditsPages g.D.Device (r ≡ Err Device) c.args.pages.now c.args.device.now c.insert_into_leaf.new.pages
     c.insert_into_leaf.new.device)
     (edits_last g.D.Device _ _ _ _ _ _ _ _ _ (λ is. still_error is)
-    (edits_read g.D.Device _ _ _ _ _ way.only way.unchanged way.agrees way.open)
-    (edits_by g.D.Device _ _ _ _ _ put.only put.committed put.catalog put.agrees put.open))
+    (edits_read g.D.Device _ _ _ _ _ way.only way.unchanged way.agrees)
+    (edits_by g.D.Device _ _ _ _ _ put.only put.committed put.catalog put.agrees))
 
 pub returns-clause-edits : goal.returns-clause-edits
 returns-clause-edits g c =
     let way = c.descend.ensures in
     let put = c.insert_into_leaf.ensures in
     edits_last g.D.Device _ _ _ _ _ _ _ _ _ (λ is. never_ok is)
-    (edits_read g.D.Device _ _ _ _ _ way.only way.unchanged way.agrees way.open)
-    (edits_by g.D.Device _ _ _ _ _ put.only put.committed put.catalog put.agrees put.open)
+    (edits_read g.D.Device _ _ _ _ _ way.only way.unchanged way.agrees)
+    (edits_by g.D.Device _ _ _ _ _ put.only put.committed put.catalog put.agrees)

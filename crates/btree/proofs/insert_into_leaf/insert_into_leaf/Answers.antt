@@ -23,7 +23,7 @@ pub returns-then-descent-eq0-clause-damaged : goal.returns-then-descent-eq0-clau
 returns-then-descent-eq0-clause-damaged g c = λ honest agrees is levels tree ends.
     let d = c.args.descent in
     let before = pages_of_map c.args.pages.now (g.D.Device.state c.args.device.now).disk.present in
-    let some : 0 < d.page = (end_stands c.args.layout c.args.key.now before c.args.root levels d.path.items d.page
+    let some : 0 < d.page = (end_stands c.args.layout c.args.row.key.now before c.args.root levels d.path.items d.page
     d.leaf.rows d.right tree ends).some in
     omega (arith, some, c.if-descent-eq0.true)
 
@@ -33,7 +33,7 @@ returns-then-page_count-descent-clause-damaged g c = λ honest agrees is levels 
     let image = (g.D.Device.state c.args.device.now).disk.present in
     let before = pages_of_map c.args.pages.now image in
     let low : d.page < length before = is_low before d.page (end_in c.args.layout before d.page d.leaf.rows (end_stands
-    c.args.layout c.args.key.now before c.args.root levels d.path.items d.page d.leaf.rows d.right tree ends)) in
+    c.args.layout c.args.row.key.now before c.args.root levels d.path.items d.page d.leaf.rows d.right tree ends)) in
     omega (arith, low, c.page_count.ensures.pages image, c.page_count.ensures.count, c.if-page_count-descent.true)
 
 pub returns-in-None-clause-entered : goal.returns-in-None-clause-entered
@@ -42,11 +42,11 @@ returns-in-None-clause-entered g c = λ honest agrees.
     let image = (g.D.Device.state c.args.device.now).disk.present in
     let before = pages_of_map c.args.pages.now image in
     let one = pages_of_map c.put_row.new.pages image in
-    let row = c.args.key.now ++ c.args.value.now in
+    let row = c.args.row.key.now ++ c.args.row.value.now in
     let put = leaf_put c.args.layout before one d.page d.leaf c.args.place row c.in_ok-put.put c.requires.leaf.0
     c.requires.leaf.1 (c.in_ok-put.ensures.pages image) c.in_ok-put.ensures.rows c.in_ok-put.ensures.split.page_is in
     enters_with c.args.layout before one one one c.args.root c.args.root d.path.items d.page d.leaf.rows d.right
-    c.args.place c.args.key.now c.args.value.now None None c.in_ok-put.put c.requires.key put
+    c.args.place c.args.row.key.now c.args.row.value.now None None c.in_ok-put.put c.requires.key put
     (tells_none c.args.layout d.page d.leaf.rows c.args.place row c.in_ok-put.put c.in_ok-put.ensures.split.page_is
     c.in_ok-put.ensures.rows c.in-None.ensures.is)
     (propagates_still c.args.layout one d.path.items) (settle_same c.args.layout c.args.root one)
@@ -56,14 +56,14 @@ returns-in_err-up-clause-damaged g c = λ honest agrees is levels tree ends.
     let d = c.args.descent in
     let image = (g.D.Device.state c.args.device.now).disk.present in
     let one = pages_of_map c.put_row.new.pages image in
-    let row = c.args.key.now ++ c.args.value.now in
+    let row = c.args.row.key.now ++ c.args.row.value.now in
     let put = leaf_put c.args.layout _ one d.page d.leaf c.args.place row c.in_ok-put.put c.requires.leaf.0
     c.requires.leaf.1 (c.in_ok-put.ensures.pages image) c.in_ok-put.ensures.rows c.in_ok-put.ensures.split.page_is in
     let told = rw is at c.from_residual-in_err-up.ensures.1 in
     let never = c.in_err-up.ensures.damaged honest (c.put_row.ensures.keeps.agrees _ agrees) (cc told) in
-    never_entered c.args.layout _ one c.args.root d.path.items d.page d.leaf.rows d.right c.args.place c.args.key.now
-    row c.in_ok-put.put levels put (never_way c.args.layout _ d.path.items one c.in-Some.split c.in_ok-put.put
-    c.as_slice.ensures c.in-Some.ensures.is never) tree ends
+    never_entered c.args.layout _ one c.args.root d.path.items d.page d.leaf.rows d.right c.args.place
+    c.args.row.key.now row c.in_ok-put.put levels put (never_way c.args.layout _ d.path.items one c.in-Some.split
+    c.in_ok-put.put c.as_slice.ensures c.in-Some.ensures.is never) tree ends
 
 pub returns-clause-entered : goal.returns-clause-entered
 returns-clause-entered g c = λ honest agrees.
@@ -71,12 +71,12 @@ returns-clause-entered g c = λ honest agrees.
     let image = (g.D.Device.state c.args.device.now).disk.present in
     let one = pages_of_map c.put_row.new.pages image in
     let two = pages_of_map c.propagate_split.new.pages image in
-    let row = c.args.key.now ++ c.args.value.now in
+    let row = c.args.row.key.now ++ c.args.row.value.now in
     let put = leaf_put c.args.layout _ one d.page d.leaf c.args.place row c.in_ok-put.put c.requires.leaf.0
     c.requires.leaf.1 (c.in_ok-put.ensures.pages image) c.in_ok-put.ensures.rows c.in_ok-put.ensures.split.page_is in
     enters_with c.args.layout _ one two _ c.args.root c.in_ok-new.new d.path.items d.page d.leaf.rows d.right
-    c.args.place c.args.key.now c.args.value.now (Some c.in_ok-put.put) c.in_ok-up.up c.in_ok-put.put c.requires.key put
-    (tells_some c.args.layout d.page d.leaf.rows c.in_ok-put.put c.in_ok-put.ensures.split.page_is)
+    c.args.place c.args.row.key.now c.args.row.value.now (Some c.in_ok-put.put) c.in_ok-up.up c.in_ok-put.put
+    c.requires.key put (tells_some c.args.layout d.page d.leaf.rows c.in_ok-put.put c.in_ok-put.ensures.split.page_is)
     (same_way c.args.layout _ d.path.items one two c.in-Some.split c.in_ok-put.put c.in_ok-up.up c.as_slice.ensures
     c.in-Some.ensures.is (c.in_ok-up.ensures.propagates honest (c.put_row.ensures.keeps.agrees _ agrees)))
     (c.in_ok-new.ensures.settles image)
@@ -181,21 +181,6 @@ returns-clause-agrees g c =
     λ honest agrees. c.root_after_split.ensures.keeps.agrees (g.D.Device.state c.propagate_split.new.device).disk
     (c.propagate_split.ensures.agrees honest
     (c.put_row.ensures.keeps.agrees (g.D.Device.state c.args.device.now).disk agrees))
-
-pub returns-in_err-put-clause-open : goal.returns-in_err-put-clause-open
-returns-in_err-put-clause-open g c = c.put_row.ensures.keeps.is_open c.requires.open
-
-pub returns-in-None-clause-open : goal.returns-in-None-clause-open
-returns-in-None-clause-open g c = c.put_row.ensures.keeps.is_open c.requires.open
-
-pub propagate_split-requires-clause-open : goal.propagate_split-requires-clause-open
-propagate_split-requires-clause-open g c = c.put_row.ensures.keeps.is_open c.requires.open
-
-pub returns-in_err-new-clause-open : goal.returns-in_err-new-clause-open
-returns-in_err-new-clause-open g c = c.root_after_split.ensures.keeps.is_open c.propagate_split.ensures.open
-
-pub returns-clause-open : goal.returns-clause-open
-returns-clause-open g c = c.root_after_split.ensures.keeps.is_open c.propagate_split.ensures.open
 
 pub propagate_split-requires-clause-sectors : goal.propagate_split-requires-clause-sectors
 propagate_split-requires-clause-sectors g c =

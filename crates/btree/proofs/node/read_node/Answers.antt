@@ -44,7 +44,7 @@ returns-in-Some-clause-damaged g c = λ honest agrees is kind node same stands.
 pub returns-clause-unchanged : goal.returns-clause-unchanged
 returns-clause-unchanged g c =
     unchanged_on c.args.pages.now c.note_use.new.self c.node_loaded.new.pages c.note_use.ensures.unchanged
-    c.node_loaded.ensures.unchanged
+    c.node_loaded.ensures.reads.unchanged
 
 pub returns-clause-node : goal.returns-clause-node
 returns-clause-node g c = λ honest agrees.
@@ -53,7 +53,7 @@ returns-clause-node g c = λ honest agrees.
     ap (λ (m : Map). m.pages) (c.note_use.ensures.unchanged.map present) in
     let kept = c.note_use.ensures.keeps.agrees (g.D.Device.state c.args.device.now).disk agrees in
     subst (λ (p : List (Option Sector)). IfOk c.node_loaded.result
-    (λ node. node_at c.args.layout p c.args.page ≡ Some node)) noted (c.node_loaded.ensures.node honest kept)
+    (λ node. node_at c.args.layout p c.args.page ≡ Some node)) noted (c.node_loaded.ensures.reads.answer honest kept)
 
 pub returns-clause-damaged : goal.returns-clause-damaged
 returns-clause-damaged g c = λ honest agrees is kind node same stands.
@@ -61,7 +61,7 @@ returns-clause-damaged g c = λ honest agrees is kind node same stands.
     let noted : (map_now c.note_use.new.self present).pages ≡ (map_now c.args.pages.now present).pages =
     ap (λ (m : Map). m.pages) (c.note_use.ensures.unchanged.map present) in
     let kept = c.note_use.ensures.keeps.agrees (g.D.Device.state c.args.device.now).disk agrees in
-    c.node_loaded.ensures.damaged honest kept is kind node same
+    c.node_loaded.ensures.reads.damaged honest kept is kind node same
     (subst (λ (p : List (Option Sector)). IsOnPage c.args.layout p kind node) (sym noted) stands)
 
 pub returns-in-Some-clause-only : goal.returns-in-Some-clause-only
@@ -75,25 +75,22 @@ pub node_loaded-requires-clause-sectors : goal.node_loaded-requires-clause-secto
 node_loaded-requires-clause-sectors g c = sectors_on c.args.pages.now c.note_use.new.self _ _
     c.note_use.ensures.keeps.committed.volume refl c.requires.sectors
 
-pub node_loaded-requires-clause-open : goal.node_loaded-requires-clause-open
-node_loaded-requires-clause-open g c = c.note_use.ensures.keeps.is_open c.requires.open
-
-pub view-requires : goal.view-requires
-view-requires g c = c.note_use.ensures.keeps.is_open c.requires.open
-
-pub returns-in-Some-clause-open : goal.returns-in-Some-clause-open
-returns-in-Some-clause-open g c = c.note_use.ensures.keeps.is_open c.requires.open
-
 pub returns-in-Some-clause-agrees : goal.returns-in-Some-clause-agrees
 returns-in-Some-clause-agrees g c =
     λ honest agrees. c.note_use.ensures.keeps.agrees (g.D.Device.state c.args.device.now).disk agrees
 
 pub returns-clause-agrees : goal.returns-clause-agrees
-returns-clause-agrees g c = λ honest agrees. c.node_loaded.ensures.agrees honest
+returns-clause-agrees g c = λ honest agrees. c.node_loaded.ensures.reads.agrees honest
     (c.note_use.ensures.keeps.agrees (g.D.Device.state c.args.device.now).disk agrees)
 
 pub returns-clause-spent : goal.returns-clause-spent
 returns-clause-spent g c = (
-  λ is. sym c.note_use.ensures.unchanged.committed.spent ∙ c.node_loaded.ensures.spent.0 is,
-  λ was. c.node_loaded.ensures.spent.1 (c.note_use.ensures.unchanged.committed.spent ∙ was),
+  λ is. sym c.note_use.ensures.unchanged.committed.spent ∙ c.node_loaded.ensures.reads.spent.0 is,
+  λ was. c.node_loaded.ensures.reads.spent.1 (c.note_use.ensures.unchanged.committed.spent ∙ was),
 )
+
+pub returns-clause-only : goal.returns-clause-only
+returns-clause-only g c = c.node_loaded.ensures.reads.only
+
+pub returns-clause-cause : goal.returns-clause-cause
+returns-clause-cause g c = c.node_loaded.ensures.reads.cause

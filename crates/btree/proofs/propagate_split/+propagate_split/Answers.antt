@@ -178,12 +178,6 @@ returns-clause-agrees g t c =
     (c.read_node.ensures.agrees (c.propagate_split.ensures.only.honest.0 honest)
     (c.propagate_split.ensures.agrees honest agrees))
 
-pub returns-in_err-up-clause-open : goal.returns-in_err-up-clause-open
-returns-in_err-up-clause-open g t c = c.update_parent_at.ensures.keeps.is_open c.read_node.ensures.open
-
-pub returns-clause-open : goal.returns-clause-open
-returns-clause-open g t c = c.update_parent_at.ensures.keeps.is_open c.read_node.ensures.open
-
 pub read_node-requires-clause-sectors : goal.read_node-requires-clause-sectors
 read_node-requires-clause-sectors g t c =
     sectors_on c.args.pages.now c.propagate_split.new.pages _ _ c.propagate_split.ensures.committed.volume

@@ -62,21 +62,17 @@ returns-clause-filled c = omega (
   c.in_ok-edit-2.ensures.fills.again (c.in_ok-edit.ensures.fills.others c.in_ok-new.new c.in_ok-new.ensures.fills.here),
 )
 
-pub edit-requires-clause-open : goal.edit-requires-clause-open
-edit-requires-clause-open c = c.allocate.ensures.keeps.is_open c.requires.open
+pub edit-requires : goal.edit-requires
+edit-requires c = record {
+  page = page_stays c.args.pages.now c.allocate.new.self c.args.page c.allocate.ensures.keeps.committed c.requires.page;
+}
 
-pub edit-requires-clause-page : goal.edit-requires-clause-page
-edit-requires-clause-page c =
-    page_stays c.args.pages.now c.allocate.new.self c.args.page c.allocate.ensures.keeps.committed c.requires.page
-
-pub edit-requires-2-clause-open : goal.edit-requires-2-clause-open
-edit-requires-2-clause-open c = c.edit.ensures.keeps.is_open (c.allocate.ensures.keeps.is_open c.requires.open)
-
-pub edit-requires-2-clause-page : goal.edit-requires-2-clause-page
-edit-requires-2-clause-page c = page_stays c.args.pages.now c.edit.new.self c.in_ok-new.new
-    (committed_on c.args.pages.now c.allocate.new.self c.edit.new.self c.allocate.ensures.keeps.committed
-    c.edit.ensures.keeps.committed)
-    c.in_ok-new.ensures.page
+pub edit-requires-2 : goal.edit-requires-2
+edit-requires-2 c = record {
+  page = page_stays c.args.pages.now c.edit.new.self c.in_ok-new.new
+      (committed_on c.args.pages.now c.allocate.new.self c.edit.new.self c.allocate.ensures.keeps.committed
+      c.edit.ensures.keeps.committed) c.in_ok-new.ensures.page;
+}
 
 pub returns-in_err-edit-clause-keeps : goal.returns-in_err-edit-clause-keeps
 returns-in_err-edit-clause-keeps c =

@@ -33,12 +33,11 @@ returns-clause-pages c = λ image one two both.
 pub returns-clause-even : goal.returns-clause-even
 returns-clause-even c = inl refl
 
-pub release-requires-clause-open : goal.release-requires-clause-open
-release-requires-clause-open c = c.edit.ensures.keeps.is_open c.requires.open
-
-pub release-requires-clause-page : goal.release-requires-clause-page
-release-requires-clause-page c =
-    page_stays c.args.pages.now c.edit.new.self c.args.right.page c.edit.ensures.keeps.committed c.requires.right_page
+pub release-requires : goal.release-requires
+release-requires c = record {
+  page = page_stays c.args.pages.now c.edit.new.self c.args.right.page c.edit.ensures.keeps.committed
+      c.requires.right_page;
+}
 
 pub returns-clause-rows : goal.returns-clause-rows
 returns-clause-rows c = append-nil c.append.new.self.rows ∙ ap (λ (n : Node). n.rows) c.append.ensures

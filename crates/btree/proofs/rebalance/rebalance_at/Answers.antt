@@ -38,7 +38,7 @@ returns-in_err-right-clause-damaged g c = λ honest agrees is left right inner l
     let damaged = was_error c.from_residual.result c.neighbour.result c.in_err-right.field-0.0 Damaged
     c.from_residual.ensures.1 c.in_err-right.was is in
     let above = above_at c.neighbour.result c.args.pages.now (g.D.Device.state c.args.device.now).disk.present
-    c.args.layout c.args.node c.leads.ensures.count c.leads.ensures.few c.requires.open c.neighbour.ensures.spent
+    c.args.layout c.args.node c.leads.ensures.count c.leads.ensures.few c.neighbour.ensures.spent
     (λ spent. damaged_not_spent (sym damaged ∙ spent)) c.requires.node inner c.count.ensures.node in
     never_missing _ c.args.layout c.args.lone.node.kind c.kind-kind.result c.args.node step.page step.place 0 1
     c.args.lone.page c.child.result left right left right
@@ -50,7 +50,7 @@ returns-in_err-first-clause-damaged g c = λ honest agrees is left right inner l
     let image = (g.D.Device.state c.args.device.now).disk.present in
     let told = rw is at c.from_residual-in_err-first.ensures.1 in
     let above = above_at (Ok c.in_ok-right.right) c.args.pages.now image c.args.layout c.args.node
-    c.leads.ensures.count c.leads.ensures.few c.requires.open c.in_ok-right.ensures.spent (λ spent. never_ok spent)
+    c.leads.ensures.count c.leads.ensures.few c.in_ok-right.ensures.spent (λ spent. never_ok spent)
     c.requires.node inner c.count.ensures.node in
     let near = first_near _ c.args.layout c.args.lone.node.kind c.args.node c.args.step.page c.args.step.place
     c.args.lone.page left right above c.if-step-eq0.true pair in
@@ -64,7 +64,7 @@ returns-then-step-eq0-clause-rebalances g c = λ honest agrees left right can pa
     let step = c.args.step in
     let image = (g.D.Device.state c.args.device.now).disk.present in
     let above = above_at (Ok c.in_ok-right.right) c.args.pages.now image c.args.layout c.args.node
-    c.leads.ensures.count c.leads.ensures.few c.requires.open c.in_ok-right.ensures.spent (λ spent. never_ok spent)
+    c.leads.ensures.count c.leads.ensures.few c.in_ok-right.ensures.spent (λ spent. never_ok spent)
     c.requires.node (c.leads.ensures.is.0 c.if-not-leads.false).0 c.count.ensures.node in
     rebalanced_first c.args.pages.now c.neighbour.new.pages c.rebalance_pair.new.pages image c.args.layout c.args.node
     step c.args.lone c.in_ok-right.right c.child.result left right c.in_ok-first.first
@@ -79,7 +79,7 @@ returns-in_err-left-clause-damaged g c = λ honest agrees is left right inner lo
     let damaged = was_error c.from_residual-in_err-left.result c.neighbour-2.result c.in_err-left.field-0.0 Damaged
     c.from_residual-in_err-left.ensures.1 c.in_err-left.was is in
     let above = above_at c.neighbour-2.result c.args.pages.now (g.D.Device.state c.args.device.now).disk.present
-    c.args.layout c.args.node c.leads.ensures.count c.leads.ensures.few c.requires.open c.neighbour-2.ensures.spent
+    c.args.layout c.args.node c.leads.ensures.count c.leads.ensures.few c.neighbour-2.ensures.spent
     (λ spent. damaged_not_spent (sym damaged ∙ spent)) c.requires.node inner c.count.ensures.node in
     never_missing _ c.args.layout c.args.lone.node.kind c.kind-kind.result c.args.node step.page step.place
     (step.place - 1) (step.place - 1) c.args.lone.page c.child-2.result left right right left
@@ -92,7 +92,7 @@ returns-in_err-outcome-clause-damaged g c = λ honest agrees is left right inner
     let image = (g.D.Device.state c.args.device.now).disk.present in
     let told = rw is at c.from_residual-in_err-outcome.ensures.1 in
     let above = above_at (Ok c.in_ok-left.left) c.args.pages.now image c.args.layout c.args.node
-    c.leads.ensures.count c.leads.ensures.few c.requires.open c.in_ok-left.ensures.spent (λ spent. never_ok spent)
+    c.leads.ensures.count c.leads.ensures.few c.in_ok-left.ensures.spent (λ spent. never_ok spent)
     c.requires.node inner c.count.ensures.node in
     let near = other_near _ c.args.layout c.args.lone.node.kind c.args.node c.args.step.page c.args.step.place
     c.args.lone.page left right above c.if-step-eq0.false pair in
@@ -107,7 +107,7 @@ returns-clause-rebalances g c = λ honest agrees left right can pair.
     let other = c.in_ok-left.left in
     let image = (g.D.Device.state c.args.device.now).disk.present in
     let above = above_at (Ok other) c.args.pages.now image c.args.layout c.args.node c.leads.ensures.count
-    c.leads.ensures.few c.requires.open c.in_ok-left.ensures.spent (λ spent. never_ok spent)
+    c.leads.ensures.few c.in_ok-left.ensures.spent (λ spent. never_ok spent)
     c.requires.node (c.leads.ensures.is.0 c.if-not-leads.false).0 c.count.ensures.node in
     rebalanced_other c.args.pages.now c.neighbour-2.new.pages c.rebalance_pair-2.new.pages image c.args.layout
     c.args.node step other c.args.lone c.child-2.result left right c.in_ok-outcome.outcome
@@ -157,12 +157,6 @@ pub returns-in_err-first-clause-agrees : goal.returns-in_err-first-clause-agrees
 returns-in_err-first-clause-agrees g c =
     λ honest agrees. c.rebalance_pair.ensures.keeps.agrees (g.D.Device.state c.neighbour.new.device).disk
     (c.neighbour.ensures.agrees honest agrees)
-
-pub returns-in_err-first-clause-open : goal.returns-in_err-first-clause-open
-returns-in_err-first-clause-open g c = c.rebalance_pair.ensures.keeps.is_open c.neighbour.ensures.open
-
-pub returns-then-step-eq0-clause-open : goal.returns-then-step-eq0-clause-open
-returns-then-step-eq0-clause-open g c = c.rebalance_pair.ensures.keeps.is_open c.neighbour.ensures.open
 
 pub returns-in_err-right-clause-spent : goal.returns-in_err-right-clause-spent
 returns-in_err-right-clause-spent g c = passed c.from_residual.result c.in_err-right.field-0.0 c.from_residual.ensures.1
@@ -244,12 +238,6 @@ pub returns-in_err-outcome-clause-agrees : goal.returns-in_err-outcome-clause-ag
 returns-in_err-outcome-clause-agrees g c =
     λ honest agrees. c.rebalance_pair-2.ensures.keeps.agrees (g.D.Device.state c.neighbour-2.new.device).disk
     (c.neighbour-2.ensures.agrees honest agrees)
-
-pub returns-in_err-outcome-clause-open : goal.returns-in_err-outcome-clause-open
-returns-in_err-outcome-clause-open g c = c.rebalance_pair-2.ensures.keeps.is_open c.neighbour-2.ensures.open
-
-pub returns-clause-open : goal.returns-clause-open
-returns-clause-open g c = c.rebalance_pair-2.ensures.keeps.is_open c.neighbour-2.ensures.open
 
 pub returns-in_err-left-clause-spent : goal.returns-in_err-left-clause-spent
 returns-in_err-left-clause-spent g c =

@@ -28,12 +28,11 @@ returns-clause-joins c = λ image one two pair one_is two_is.
     (record { rows = joined.rows; pages = joined.pages; is_joined = joined.joined; even = joined.even })
     (record { like = named.like; rows = named.rows }) c.in_ok-outcome.ensures.pages
 
-pub write_back-requires-clause-open : goal.write_back-requires-clause-open
-write_back-requires-clause-open c = c.rebalance.ensures.keeps.is_open c.requires.open
-
-pub write_back-requires-clause-page : goal.write_back-requires-clause-page
-write_back-requires-clause-page c =
-    page_stays c.args.pages.now c.rebalance.new.pages c.args.page c.rebalance.ensures.keeps.committed c.requires.page
+pub write_back-requires : goal.write_back-requires
+write_back-requires c = record {
+  page = page_stays c.args.pages.now c.rebalance.new.pages c.args.page c.rebalance.ensures.keeps.committed
+      c.requires.page;
+}
 
 pub returns-in_err-outcome-clause-keeps : goal.returns-in_err-outcome-clause-keeps
 returns-in_err-outcome-clause-keeps c = keeps_on c.args.pages.now c.rebalance.new.pages c.write_back.new.pages

@@ -40,12 +40,11 @@ returns-clause-even c =
     (omega (arith, count, c.requires.full, c.share_rows.ensures.left_even, c.share_rows.ensures.right_even))
     (omega (arith, count, c.requires.full, c.share_rows.ensures.left_even, c.share_rows.ensures.right_even))
 
-pub edit-requires-2-clause-open : goal.edit-requires-2-clause-open
-edit-requires-2-clause-open c = c.edit.ensures.keeps.is_open c.requires.open
-
-pub edit-requires-2-clause-page : goal.edit-requires-2-clause-page
-edit-requires-2-clause-page c =
-    page_stays c.args.pages.now c.edit.new.self c.args.right.page c.edit.ensures.keeps.committed c.requires.right_page
+pub edit-requires-2 : goal.edit-requires-2
+edit-requires-2 c = record {
+  page = page_stays c.args.pages.now c.edit.new.self c.args.right.page c.edit.ensures.keeps.committed
+      c.requires.right_page;
+}
 
 pub returns-clause-rows : goal.returns-clause-rows
 returns-clause-rows c =

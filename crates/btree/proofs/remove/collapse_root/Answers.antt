@@ -24,7 +24,7 @@ returns-clause-gives c = λ image.
     let unspent : is_spent c.args.pages.now ≡ false = false_unless (is_spent c.args.pages.now)
     (λ spent. ok_or_err c.in_ok-release.field-0 Spent (sym c.in_ok-release.was ∙ c.release.ensures.spent.1 spent)) in
     let few : length before ≤ 2 ^ 20 = few_pages before (page_count c.args.pages.now) (page_count c.args.pages.now)
-    count refl (c.is_page.ensures.few c.requires.open unspent) in
+    count refl (c.is_page.ensures.few unspent) in
     record {
       leaves = λ layout rows. write_none layout Inner before after c.args.lone.page rows
           (c.in_ok-release.ensures.map image) (omega (arith, page.1, count));

@@ -124,7 +124,7 @@ returns-clause-changed_pages g c = λ honest agrees levels holds.
     few_removed c.args.layout c.args.key.now pages c.args.root levels d.path.items c.as_slice.result.now d.page
     d.leaf.rows d.right _ _ _ _ _ (spare c.in_ok-out.out) (spare c.in_ok-outcome.outcome)
     (small_map c.args.pages.now (g.D.Device.state c.args.device.now).disk.present c.page_count-page_count.result
-    numbers.pages numbers.count numbers.few c.requires.open (live_after c.args.pages.now c.in_ok-descent.ensures.spent))
+    numbers.pages numbers.count numbers.few (live_after c.args.pages.now c.in_ok-descent.ensures.spent))
     tree (c.in_ok-descent.ensures.way honest agrees levels tree) c.as_slice.ensures
     (ap length c.descend.ensures.unchanged.changed_pages) c.in_ok-out.ensures.changed_pages
     c.in_ok-outcome.ensures.changed_pages
@@ -139,7 +139,7 @@ returns-clause-filled g c = λ honest agrees levels holds.
     few_removed c.args.layout c.args.key.now pages c.args.root levels d.path.items c.as_slice.result.now d.page
     d.leaf.rows d.right _ _ _ _ _ (spare c.in_ok-out.out) (spare c.in_ok-outcome.outcome)
     (small_map c.args.pages.now (g.D.Device.state c.args.device.now).disk.present c.page_count-page_count.result
-    numbers.pages numbers.count numbers.few c.requires.open (live_after c.args.pages.now c.in_ok-descent.ensures.spent))
+    numbers.pages numbers.count numbers.few (live_after c.args.pages.now c.in_ok-descent.ensures.spent))
     tree (c.in_ok-descent.ensures.way honest agrees levels tree) c.as_slice.ensures
     c.descend.ensures.unchanged.filled c.in_ok-out.ensures.filled c.in_ok-outcome.ensures.filled
     c.in_ok-new.ensures.filled
@@ -238,18 +238,6 @@ returns-clause-agrees g c =
     (c.shrink.ensures.agrees (c.descend.ensures.only.honest.0 honest)
     (c.take_out.ensures.keeps.agrees (g.D.Device.state c.descend.new.device).disk
     (c.descend.ensures.agrees honest agrees)))
-
-pub returns-in_err-out-clause-open : goal.returns-in_err-out-clause-open
-returns-in_err-out-clause-open g c = c.take_out.ensures.keeps.is_open c.descend.ensures.open
-
-pub shrink-requires-clause-open : goal.shrink-requires-clause-open
-shrink-requires-clause-open g c = c.take_out.ensures.keeps.is_open c.descend.ensures.open
-
-pub returns-in_err-new-clause-open : goal.returns-in_err-new-clause-open
-returns-in_err-new-clause-open g c = c.root_after_removal.ensures.keeps.is_open c.shrink.ensures.open
-
-pub returns-clause-open : goal.returns-clause-open
-returns-clause-open g c = c.root_after_removal.ensures.keeps.is_open c.shrink.ensures.open
 
 pub shrink-requires-clause-sectors : goal.shrink-requires-clause-sectors
 shrink-requires-clause-sectors g c = sectors_on c.args.pages.now c.take_out.new.pages _ _

@@ -125,9 +125,6 @@ returns-in-Renamed-clause-agrees g c =
     λ honest agrees. c.rename_at.ensures.keeps.agrees (g.D.Device.state c.read_node.new.device).disk
     (c.read_node.ensures.agrees honest agrees)
 
-pub returns-in-Renamed-clause-open : goal.returns-in-Renamed-clause-open
-returns-in-Renamed-clause-open g c = c.rename_at.ensures.keeps.is_open c.read_node.ensures.open
-
 pub returns-in-Renamed-clause-spent : goal.returns-in-Renamed-clause-spent
 returns-in-Renamed-clause-spent g c =
     λ is. sym c.read_node.ensures.unchanged.committed.spent ∙ c.rename_at.ensures.spent is
@@ -141,9 +138,6 @@ pub returns-in-Gone-clause-agrees : goal.returns-in-Gone-clause-agrees
 returns-in-Gone-clause-agrees g c =
     λ honest agrees. c.lose_at.ensures.keeps.agrees (g.D.Device.state c.read_node.new.device).disk
     (c.read_node.ensures.agrees honest agrees)
-
-pub returns-in-Gone-clause-open : goal.returns-in-Gone-clause-open
-returns-in-Gone-clause-open g c = c.lose_at.ensures.keeps.is_open c.read_node.ensures.open
 
 pub returns-in-Gone-clause-spent : goal.returns-in-Gone-clause-spent
 returns-in-Gone-clause-spent g c = λ is. sym c.read_node.ensures.unchanged.committed.spent ∙ c.lose_at.ensures.spent is

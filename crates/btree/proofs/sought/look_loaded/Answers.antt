@@ -1,176 +1,73 @@
-use Rattle.std.proofs.Common.{List, sym}
-use Rattle.std.specs.Prelude.{Option}
-use Rattle.station.specs.Disk.{Sector}
-use Rattle.pages.specs.Pages.{map_now}
-use Rattle.btree.specs.Sought.{LooksIn, LooksAt}
-use Rattle.btree.proofs.Frames.{unchanged_on, same_pages, seen_before}
-use Rattle.btree.proofs.TreeNodes.{spells_none}
-use Rattle.btree.proofs.Stepping.{if_ok}
-use Rattle.btree.proofs.Answering.{looks_there}
+use Rattle.std.proofs.Common.{sym, ◌∙◌}
 use Rattle.std.specs.Prelude.{Err}
-use Rattle.std.proofs.Common.{◌≡◌, ◌↔◌, inr, true, ◌∙◌}
-use Rattle.station.specs.Calls.{OnlyReads}
-use Rattle.station.proofs.Calls.{reads_then}
 use Rattle.pages.specs.Pages.{is_spent}
-use Rattle.pages.specs.declared.error.PagesError.TheVariants.{Device, Spent}
-use Rattle.btree.proofs.Passing.{passed, never_ok, still_error}
-use Rattle.btree.proofs.Passing.{reads_where, sectors_on}
-use Rattle.btree.proofs.Passing.{damaged_alone, damaged_is_read, spent_exactly}
-use Rattle.std.proofs.Common.{ap, refl}
-use Rattle.std.specs.Prelude.{Some, None, slice_index_or}
-use Rattle.btree.proofs.TreeNodes.{read_none}
-use Rattle.btree.proofs.Passing.{damaged_not_device, damaged_not_spent}
+use Rattle.pages.specs.declared.error.PagesError.TheVariants.{Damaged}
+use Rattle.btree.specs.Sought.{LooksIn}
+use Rattle.btree.proofs.Answering.{looks_there}
+use Rattle.btree.proofs.PageReads.{after_reading, from_bytes, from_error, from_memory, from_nothing, never_none}
+use Rattle.btree.proofs.PageReads.{page_refused}
+use Rattle.btree.proofs.Passing.{damaged_alone, damaged_is_read, never_ok, sectors_on, spent_exactly}
 use Rattle.btree.proofs.sought.look_loaded.Goals as goal
 
-pub returns-in-Some-clause-look : goal.returns-in-Some-clause-look
-returns-in-Some-clause-look g c = λ honest agrees.
-    let before = g.D.Device.state c.args.device.now in
-    let after = g.D.Device.state c.load.new.device in
-    let pages : List (Option Sector) = (map_now c.args.pages.now before.disk.present).pages in
-    let bytes = c.in-Some.bytes.now in
-    let seen = c.in-Some.ensures.page after.disk (c.in_ok-load.ensures.agrees honest agrees) in
-    let here = seen_before c.args.pages.now c.load.new.self before after c.args.page bytes
-    c.in_ok-load.ensures.unchanged (c.in_ok-load.ensures.only.state honest) seen in
-    if_ok (LooksIn c.args.layout bytes c.args.key.now c.args.sought c.look_in.new.entry)
-    (LooksAt c.args.layout pages c.args.page c.args.key.now c.args.sought c.look_in.new.entry) c.look_in.result
-    (λ look looks. looks_there c.args.layout pages c.args.page bytes c.args.key.now c.args.sought c.look_in.new.entry
-    look here looks) c.look_in.ensures.look
+pub returns-in_err-load-clause-reads : goal.returns-in_err-load-clause-reads
+returns-in_err-load-clause-reads g c =
+    let load = c.in_err-load.ensures in
+    let e = c.in_err-load.field-0.0 in
+    from_error g.D.Device c.args.layout c.args.unloaded _ _ c.args.pages.now c.load.new.self c.args.device.now
+    c.load.new.device c.from_residual.result e c.from_residual.ensures.1 load.only load.unchanged load.agrees
+    load.spent load.cause (page_refused e load.cause)
 
-pub returns-in-Some-clause-damaged : goal.returns-in-Some-clause-damaged
-returns-in-Some-clause-damaged g c = λ honest agrees is kind node at stands.
-    let before = g.D.Device.state c.args.device.now in
-    let after = g.D.Device.state c.load.new.device in
-    let pages : List (Option Sector) = (map_now c.args.pages.now before.disk.present).pages in
-    let bytes = c.in-Some.bytes.now in
-    let seen = c.in-Some.ensures.page after.disk (c.in_ok-load.ensures.agrees honest agrees) in
-    let here = seen_before c.args.pages.now c.load.new.self before after c.args.page bytes
-    c.in_ok-load.ensures.unchanged (c.in_ok-load.ensures.only.state honest) seen in
-    spells_none c.args.layout pages c.args.page bytes here (c.look_in.ensures.damaged is) kind node at stands
-
-pub returns-in_err-load-clause-only : goal.returns-in_err-load-clause-only
-returns-in_err-load-clause-only g c = passed c.from_residual.result c.in_err-load.field-0.0 c.from_residual.ensures.1
-    (λ r. OnlyReads g.D.Device (r ≡ Err Device) c.args.device.now c.load.new.device)
-    (reads_where g.D.Device _ _ _ _ (λ is. still_error is) c.in_err-load.ensures.only)
-
-pub returns-in-Some-clause-only : goal.returns-in-Some-clause-only
-returns-in-Some-clause-only g c =
-    reads_where g.D.Device _ _ _ _ (λ is. damaged_alone c.look_in.result c.look_in.ensures.cause is) c.load.ensures.only
-
-pub returns-in_err-load-clause-spent : goal.returns-in_err-load-clause-spent
-returns-in_err-load-clause-spent g c = passed c.from_residual.result c.in_err-load.field-0.0 c.from_residual.ensures.1
-    (λ r. (r ≡ Err Spent) ↔ (is_spent c.args.pages.now ≡ true))
-    (λ is. c.in_err-load.ensures.spent.0 (still_error is), λ was. still_error (c.in_err-load.ensures.spent.1 was))
-
-pub returns-in-Some-clause-spent : goal.returns-in-Some-clause-spent
-returns-in-Some-clause-spent g c = spent_exactly c.look_in.result (is_spent c.args.pages.now) c.look_in.ensures.cause
-    (λ was. never_ok (sym c.in_ok-load.was ∙ c.load.ensures.spent.1 was))
-
-pub returns-in-Some-clause-cause : goal.returns-in-Some-clause-cause
-returns-in-Some-clause-cause g c = damaged_is_read c.look_in.result c.look_in.ensures.cause
-
-pub returns-in-Some-2-clause-look : goal.returns-in-Some-2-clause-look
-returns-in-Some-2-clause-look g c = λ honest agrees.
+pub returns-in-Some-clause-reads : goal.returns-in-Some-clause-reads
+returns-in-Some-clause-reads g c =
     let load = c.in_ok-load.ensures in
-    let pages : List (Option Sector) =
-    (map_now c.args.pages.now (g.D.Device.state c.args.device.now).disk.present).pages in
-    let bytes = c.in-Some-2.bytes in
-    let here = seen_before c.args.pages.now c.load.new.self (g.D.Device.state c.args.device.now)
-    (g.D.Device.state c.load.new.device) c.args.page bytes load.unchanged (load.only.state honest)
-    (sym (c.in_ok-bytes.ensures.page (load.only.honest.0 honest) (load.agrees honest agrees)) ∙ c.in-Some-2.is) in
-    if_ok (LooksIn c.args.layout bytes c.args.key.now c.args.sought c.look_in-in-Some-2.new.entry)
-    (LooksAt c.args.layout pages c.args.page c.args.key.now c.args.sought c.look_in-in-Some-2.new.entry)
-    c.look_in-in-Some-2.result
-    (λ look looks.
-    looks_there c.args.layout pages c.args.page bytes c.args.key.now c.args.sought c.look_in-in-Some-2.new.entry
-    look here looks) c.look_in-in-Some-2.ensures.look
+    let bytes = c.in-Some.bytes.now in
+    after_reading g.D.Device _ c.args.layout c.args.unloaded _ _ _ _ c.load.new.self _ _ c.load.new.device
+    c.look_in.result load.only load.unchanged load.agrees (from_memory g.D.Device c.args.layout c.args.unloaded _ _
+    (LooksIn c.args.layout bytes c.args.key.now c.args.sought c.look_in.new.entry) c.load.new.self c.load.new.device
+    bytes c.look_in.result c.in-Some.ensures.page (λ pages here look looks. looks_there c.args.layout pages
+    c.args.unloaded bytes c.args.key.now c.args.sought c.look_in.new.entry look here looks) c.look_in.ensures.look
+    c.look_in.ensures.damaged (λ is. damaged_alone c.look_in.result c.look_in.ensures.cause is) (spent_exactly
+    c.look_in.result (is_spent c.load.new.self) c.look_in.ensures.cause (λ was. never_none (c.in-Some.ensures.spent
+    was))) (damaged_is_read c.look_in.result c.look_in.ensures.cause))
 
-pub returns-in-Some-2-clause-damaged : goal.returns-in-Some-2-clause-damaged
-returns-in-Some-2-clause-damaged g c = λ honest agrees is kind node at stands.
+pub returns-in_err-bytes-clause-reads : goal.returns-in_err-bytes-clause-reads
+returns-in_err-bytes-clause-reads g c =
     let load = c.in_ok-load.ensures in
-    let pages : List (Option Sector) =
-    (map_now c.args.pages.now (g.D.Device.state c.args.device.now).disk.present).pages in
+    let read = c.in_err-bytes.ensures in
+    let e = c.in_err-bytes.field-0.0 in
+    after_reading g.D.Device _ c.args.layout c.args.unloaded _ _ _ _ c.read.new.self _ _ c.read.new.device
+    c.from_residual-in_err-bytes.result load.only load.unchanged load.agrees (from_error g.D.Device c.args.layout
+    c.args.unloaded _ _ c.load.new.self c.read.new.self c.load.new.device c.read.new.device
+    c.from_residual-in_err-bytes.result e c.from_residual-in_err-bytes.ensures.1 read.only read.unchanged read.agrees
+    read.spent read.cause (page_refused e read.cause))
+
+pub returns-in-Some-2-clause-reads : goal.returns-in-Some-2-clause-reads
+returns-in-Some-2-clause-reads g c =
+    let load = c.in_ok-load.ensures in
+    let read = c.in_ok-bytes.ensures in
     let bytes = c.in-Some-2.bytes in
-    let here = seen_before c.args.pages.now c.load.new.self (g.D.Device.state c.args.device.now)
-    (g.D.Device.state c.load.new.device) c.args.page bytes load.unchanged (load.only.state honest)
-    (sym (c.in_ok-bytes.ensures.page (load.only.honest.0 honest) (load.agrees honest agrees)) ∙ c.in-Some-2.is) in
-    spells_none c.args.layout pages c.args.page bytes here (c.look_in-in-Some-2.ensures.damaged is) kind node at stands
+    after_reading g.D.Device _ c.args.layout c.args.unloaded _ _ _ _ c.read.new.self _ _ c.read.new.device
+    c.look_in-in-Some-2.result load.only load.unchanged load.agrees (from_bytes g.D.Device _ c.args.layout
+    c.args.unloaded _ _ (LooksIn c.args.layout bytes c.args.key.now c.args.sought c.look_in-in-Some-2.new.entry) _ _ _
+    _ bytes c.look_in-in-Some-2.result read.only read.unchanged read.agrees (λ honest agrees. sym (read.page honest
+    agrees) ∙ c.in-Some-2.is) (λ pages here look looks. looks_there c.args.layout pages c.args.unloaded bytes
+    c.args.key.now c.args.sought c.look_in-in-Some-2.new.entry look here looks) c.look_in-in-Some-2.ensures.look
+    c.look_in-in-Some-2.ensures.damaged (λ is. damaged_alone c.look_in-in-Some-2.result
+    c.look_in-in-Some-2.ensures.cause is) (spent_exactly c.look_in-in-Some-2.result (is_spent c.load.new.self)
+    c.look_in-in-Some-2.ensures.cause (λ was. never_ok (read.spent.1 was))) (damaged_is_read c.look_in-in-Some-2.result
+    c.look_in-in-Some-2.ensures.cause))
 
-pub returns-in_err-bytes-clause-unchanged : goal.returns-in_err-bytes-clause-unchanged
-returns-in_err-bytes-clause-unchanged g c =
-    unchanged_on c.args.pages.now c.load.new.self c.read.new.self c.in_ok-load.ensures.unchanged
-    c.read.ensures.unchanged
+pub returns-in-None-clause-reads : goal.returns-in-None-clause-reads
+returns-in-None-clause-reads g c =
+    let load = c.in_ok-load.ensures in
+    let read = c.in_ok-bytes.ensures in
+    after_reading g.D.Device _ c.args.layout c.args.unloaded _ _ _ _ c.read.new.self _ _ c.read.new.device
+    (Err Damaged) load.only load.unchanged load.agrees (from_nothing g.D.Device _ c.args.layout c.args.unloaded _ _
+    c.load.new.self c.read.new.self c.load.new.device c.read.new.device read.only read.unchanged read.agrees
+    (λ honest agrees. sym c.in-None.is ∙ read.page honest agrees) (λ was. never_ok (read.spent.1 was)) tt)
 
-pub returns-in_err-bytes-clause-agrees : goal.returns-in_err-bytes-clause-agrees
-returns-in_err-bytes-clause-agrees g c =
-    λ honest agrees. c.read.ensures.agrees (c.in_ok-load.ensures.only.honest.0 honest)
-    (c.in_ok-load.ensures.agrees honest agrees)
-
-pub returns-in-Some-2-clause-unchanged : goal.returns-in-Some-2-clause-unchanged
-returns-in-Some-2-clause-unchanged g c =
-    unchanged_on c.args.pages.now c.load.new.self c.read.new.self c.in_ok-load.ensures.unchanged
-    c.read.ensures.unchanged
-
-pub returns-in-Some-2-clause-agrees : goal.returns-in-Some-2-clause-agrees
-returns-in-Some-2-clause-agrees g c = λ honest agrees. c.read.ensures.agrees (c.in_ok-load.ensures.only.honest.0 honest)
-    (c.in_ok-load.ensures.agrees honest agrees)
-
-pub returns-in-None-clause-unchanged : goal.returns-in-None-clause-unchanged
-returns-in-None-clause-unchanged g c =
-    unchanged_on c.args.pages.now c.load.new.self c.read.new.self c.in_ok-load.ensures.unchanged
-    c.read.ensures.unchanged
-
-pub returns-in-None-clause-agrees : goal.returns-in-None-clause-agrees
-returns-in-None-clause-agrees g c = λ honest agrees. c.read.ensures.agrees (c.in_ok-load.ensures.only.honest.0 honest)
-    (c.in_ok-load.ensures.agrees honest agrees)
-
-pub returns-in_err-bytes-clause-only : goal.returns-in_err-bytes-clause-only
-returns-in_err-bytes-clause-only g c = passed c.from_residual-in_err-bytes.result c.in_err-bytes.field-0.0
-    c.from_residual-in_err-bytes.ensures.1
-    (λ r. OnlyReads g.D.Device (r ≡ Err Device) c.args.device.now c.read.new.device)
-    (reads_then g.D.Device _ _ _ _ _ _ (λ is. inr (still_error is)) c.load.ensures.only c.in_err-bytes.ensures.only)
-
-pub returns-in-Some-2-clause-only : goal.returns-in-Some-2-clause-only
-returns-in-Some-2-clause-only g c = reads_then g.D.Device _ _ _ _ _ _
-    (λ is. damaged_alone c.look_in-in-Some-2.result c.look_in-in-Some-2.ensures.cause is) c.load.ensures.only
-    c.read.ensures.only
-
-pub returns-in-None-clause-only : goal.returns-in-None-clause-only
-returns-in-None-clause-only g c =
-    reads_then g.D.Device _ _ _ _ _ _ (λ is. damaged_not_device is) c.load.ensures.only c.read.ensures.only
-
-pub returns-in-None-clause-damaged : goal.returns-in-None-clause-damaged
-returns-in-None-clause-damaged g c = λ honest agrees is kind node same stands.
-    let before = g.D.Device.state c.args.device.now in
-    let after = g.D.Device.state c.load.new.device in
-    let pages : List (Option Sector) = (map_now c.args.pages.now before.disk.present).pages in
-    let still = same_pages c.args.pages.now c.load.new.self before after c.in_ok-load.ensures.unchanged
-    (c.in_ok-load.ensures.only.state honest) in
-    read_none c.args.layout pages c.args.page None kind node
-    (sym c.in-None.is ∙ c.in_ok-bytes.ensures.page (c.in_ok-load.ensures.only.honest.0 honest)
-    (c.in_ok-load.ensures.agrees honest agrees)
-    ∙ ap (λ (p : List (Option Sector)). slice_index_or p c.args.page None) still) refl same stands
-
-pub read-requires-clause-sectors : goal.read-requires-clause-sectors
-read-requires-clause-sectors g c =
-    sectors_on c.args.pages.now c.load.new.self _ _ c.in_ok-load.ensures.unchanged.committed.volume
-    c.in_ok-load.ensures.only.sectors c.requires.sectors
-
-pub returns-in_err-bytes-clause-spent : goal.returns-in_err-bytes-clause-spent
-returns-in_err-bytes-clause-spent g c = passed c.from_residual-in_err-bytes.result c.in_err-bytes.field-0.0
-    c.from_residual-in_err-bytes.ensures.1
-    (λ r. (r ≡ Err Spent) ↔ (is_spent c.args.pages.now ≡ true)) (
-      λ is. sym c.load.ensures.unchanged.committed.spent ∙ c.in_err-bytes.ensures.spent.0 (still_error is),
-      λ was. never_ok (sym c.in_ok-load.was ∙ c.load.ensures.spent.1 was),
-    )
-
-pub returns-in-Some-2-clause-spent : goal.returns-in-Some-2-clause-spent
-returns-in-Some-2-clause-spent g c =
-    spent_exactly c.look_in-in-Some-2.result (is_spent c.args.pages.now) c.look_in-in-Some-2.ensures.cause
-    (λ was. never_ok (sym c.in_ok-load.was ∙ c.load.ensures.spent.1 was))
-
-pub returns-in-None-clause-spent : goal.returns-in-None-clause-spent
-returns-in-None-clause-spent g c =
-    (λ is. damaged_not_spent is, λ was. never_ok (sym c.in_ok-load.was ∙ c.load.ensures.spent.1 was))
-
-pub returns-in-Some-2-clause-cause : goal.returns-in-Some-2-clause-cause
-returns-in-Some-2-clause-cause g c = damaged_is_read c.look_in-in-Some-2.result c.look_in-in-Some-2.ensures.cause
+pub read-requires : goal.read-requires
+read-requires g c = record {
+  sectors = sectors_on c.args.pages.now c.load.new.self _ _ c.in_ok-load.ensures.unchanged.committed.volume
+      c.in_ok-load.ensures.only.sectors c.requires.sectors;
+}

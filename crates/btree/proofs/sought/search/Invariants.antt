@@ -1,6 +1,6 @@
 use Rattle.std.proofs.Common.{◌≡◌, ◌<◌, List, false}
 use Rattle.station.specs.Calls.{OnlyReads}
-use Rattle.pages.specs.Pages.{map_now, is_spent, Agrees, IsOpen, IsUnchanged}
+use Rattle.pages.specs.Pages.{map_now, is_spent, Agrees, IsUnchanged}
 use Rattle.btree.specs.Tree.{TreeNode, IsTree}
 use Rattle.btree.proofs.Descending.{Down}
 use Rattle.btree.proofs.sought.search.Given as goal
@@ -11,7 +11,6 @@ invariant-loop-depth g l = record {
   unchanged : IsUnchanged l.fn.pages l.pages;
   agrees : g.D.Device.is_honest l.fn.device → Agrees l.fn.pages (g.D.Device.state l.fn.device).disk
       → Agrees l.pages (g.D.Device.state l.device).disk;
-  is_open : IsOpen l.pages;
   spent : 0 < l._depth → is_spent l.fn.pages ≡ false;
   way : is_spent l.fn.pages ≡ false → g.D.Device.is_honest l.fn.device
       → Agrees l.fn.pages (g.D.Device.state l.fn.device).disk → (levels : List (List TreeNode)) →

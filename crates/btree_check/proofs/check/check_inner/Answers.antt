@@ -11,7 +11,7 @@ use Rattle.btree_check.proofs.check.check_inner.Goals as goal
 
 pub loop-place-init : goal.loop-place-init
 loop-place-init g c = record {
-  reads = reads_none g.D.Device c.args.pages.now c.args.device.now c.args.seen.now c.requires.open;
+  reads = reads_none g.D.Device c.args.pages.now c.args.device.now c.args.seen.now;
   more = omega arith;
   few = omega (arith, ap (λ (l : List Separator). length l) c.new-lower.ensures.items);
   level = λ h a. (
@@ -66,6 +66,6 @@ loop-place-preserved g c =
     c.args.layout c.args.separators.now loop.place c.index-separators-place.result loop.invariant.reads
     c.loop-place-test.true c.index-separators-place.is c.check_node.new.pages c.check_node.new.device
     c.check_node.new.seen c.in_ok-node.node.layout c.in_ok-node.node.rows loop.lower.items
-    c.push_separators.new.separators.items _ read.only read.unchanged read.agrees read.open node.marks node.node
+    c.push_separators.new.separators.items _ read.only read.unchanged read.agrees node.marks node.node
     node.shape.0 node.shape.2 pushed.separators pushed.rows loop.invariant.more loop.invariant.level in
     record { reads = next.0; more = next.1; few = omega (arith, within, next.0.marks.count); level = next.2 }

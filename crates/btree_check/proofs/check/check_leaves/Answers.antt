@@ -12,7 +12,7 @@ use Rattle.btree_check.proofs.check.check_leaves.Goals as goal
 
 pub loop-place-init : goal.loop-place-init
 loop-place-init g c = record {
-  reads = reads_none g.D.Device c.args.pages.now c.args.device.now c.args.seen.now c.requires.open;
+  reads = reads_none g.D.Device c.args.pages.now c.args.device.now c.args.seen.now;
   level = λ h a. ([], level_none c.args.layout _ Leaf, in_order_none c.args.layout c.args.separators.now);
 }
 
@@ -53,7 +53,7 @@ loop-place-preserved g c =
     record {
       reads = reads_next g.D.Device c.args.pages.now loop.pages c.check_node.new.pages c.args.device.now loop.device _
           c.args.seen.now loop.seen c.check_node.new.seen c.args.separators.now loop.place _ _ loop.invariant.reads
-          read.only read.unchanged read.agrees read.open c.loop-place-test.true c.index-separators-place.is leaf.marks;
+          read.only read.unchanged read.agrees c.loop-place-test.true c.index-separators-place.is leaf.marks;
       level = leaves_next g.D.Device c.args.pages.now loop.pages c.args.device.now loop.device c.args.seen.now
           loop.seen c.args.layout c.args.separators.now loop.place c.index-separators-place.result loop.invariant.reads
           c.loop-place-test.true c.index-separators-place.is c.in_ok-leaf.leaf.layout c.in_ok-leaf.leaf.rows

@@ -49,7 +49,7 @@ returns-clause-damaged g c = λ honest agrees is levels holds unmarked.
     let same = same_pages c.args.pages.now c.read_node.new.pages (g.D.Device.state c.args.device.now)
     (g.D.Device.state c.read_node.new.device) read.unchanged (read.only.state honest) in
     let few = few_read c.in_ok-top.top c.read_node.result c.args.pages.now image c.page_count-page_count.result
-    c.in_ok-top.was read.spent.1 (numbers.pages image) numbers.count (numbers.few c.requires.open) in
+    c.in_ok-top.was read.spent.1 (numbers.pages image) numbers.count numbers.few in
     root_missing c.layout-layout.result c.args.tree.now.layout _ _ c.root-root.result c.args.tree.now.root
     c.in_ok-key.key c.in_ok-top.top c.push.new.self.items c.new-separators.result.items c.args.seen.now levels _
     (c.check_levels.result ≡ Err Damaged) c.layout-layout.ensures.is c.root-root.ensures c.if-root-eq0.false holds same

@@ -22,7 +22,6 @@ parts-init c =
       changed_pages = omega (arith, count);
       filled = omega (arith, count);
       keeps = keeps_still c.args.pages.now;
-      is_open = c.requires.open;
       unspent = λ low. absurd (omega (arith, count, low));
     }
 
@@ -38,7 +37,6 @@ parts-preserved c =
       changed_pages = omega (arith, loop.invariant.changed_pages, c.parts-test.true, put.changed_pages);
       filled = omega (arith, loop.invariant.filled, c.parts-test.true, put.filled);
       keeps = keeps_on c.args.pages.now loop.pages c.put_link.new.pages loop.invariant.keeps put.keeps;
-      is_open = put.keeps.is_open loop.invariant.is_open;
       unspent = λ low. never_was c.in_ok-page.was loop.invariant.keeps.committed.spent put.spent;
     }
 

@@ -1,6 +1,6 @@
 use Rattle.std.proofs.Common.{◌≡◌, ◌<◌, ◌≤◌, ◌+◌, ◌*◌, List, length, drop, false}
 use Rattle.station.specs.Disk.{Sector}
-use Rattle.pages.specs.Pages.{changed_pages_of, filled_of, is_spent, IsOpen, KeepsCommitted}
+use Rattle.pages.specs.Pages.{changed_pages_of, filled_of, is_spent, KeepsCommitted}
 use Rattle.btree.specs.Changes.{pages_of_map}
 use Rattle.chains.specs.Chain.{pages_for}
 use Rattle.chains.specs.Changes.{Lays}
@@ -15,7 +15,6 @@ invariant-parts l = record {
       ≤ length (changed_pages_of l.fn.pages) + pages_for (length l.bytes);
   filled : filled_of l.pages + l.place ≤ filled_of l.fn.pages + pages_for (length l.bytes);
   keeps : KeepsCommitted l.fn.pages l.pages;
-  is_open : IsOpen l.pages;
   unspent : l.place < pages_for (length l.bytes) → is_spent l.fn.pages ≡ false;
 }
 

@@ -17,7 +17,7 @@ use Rattle.chains.proofs.releasing.release.Goals as goal
 
 pub loop-place-init : goal.loop-place-init
 loop-place-init g c = record {
-  keeps = keeps_nothing g.D.Device c.args.pages.now c.args.device.now c.requires.open;
+  keeps = keeps_nothing g.D.Device c.args.pages.now c.args.device.now;
   rest = λ honest agrees stands.
       releases_start (over g.D.Device c.args.pages.now c.args.device.now) (pages_for c.args.size) c.args.first stands;
   filled = omega arith;
@@ -38,18 +38,14 @@ loop-place-preserved g c =
       filled = omega (arith, loop.invariant.filled, c.release.ensures.filled);
     }
 
-pub page_after-requires-clause-open : goal.page_after-requires-clause-open
-page_after-requires-clause-open g c = c.loop-place.invariant.keeps.is_open
+pub page_after-requires : goal.page_after-requires
+page_after-requires g c = record {
+  sectors = sectors_on c.args.pages.now c.loop-place.pages _ _ c.loop-place.invariant.keeps.committed.volume
+      c.loop-place.invariant.keeps.only.sectors c.requires.sectors;
+}
 
-pub release-requires-clause-open : goal.release-requires-clause-open
-release-requires-clause-open g c = c.loop-place.invariant.keeps.is_open
-
-pub page_after-requires-clause-sectors : goal.page_after-requires-clause-sectors
-page_after-requires-clause-sectors g c = sectors_on c.args.pages.now c.loop-place.pages _ _
-    c.loop-place.invariant.keeps.committed.volume c.loop-place.invariant.keeps.only.sectors c.requires.sectors
-
-pub release-requires-clause-page : goal.release-requires-clause-page
-release-requires-clause-page g c = c.in_ok-next.ensures.page
+pub release-requires : goal.release-requires
+release-requires g c = record { page = c.in_ok-next.ensures.page }
 
 -- A page that isn't read.
 pub returns-in_err-next-clause-only : goal.returns-in_err-next-clause-only
@@ -110,9 +106,6 @@ pub returns-in_err-next-clause-cause : goal.returns-in_err-next-clause-cause
 returns-in_err-next-clause-cause g c = passed c.from_residual.result c.in_err-next.field-0.0 c.from_residual.ensures.1
     (λ r. IfErr r IsChangeRefusal) (read_is_change c.in_err-next.field-0.0 c.in_err-next.ensures.cause)
 
-pub returns-in_err-next-clause-open : goal.returns-in_err-next-clause-open
-returns-in_err-next-clause-open g c = c.loop-place.invariant.keeps.is_open
-
 -- A page that isn't changed.
 pub returns-in_err-release-clause-only : goal.returns-in_err-release-clause-only
 returns-in_err-release-clause-only g c =
@@ -158,9 +151,6 @@ returns-in_err-release-clause-agrees g c = λ honest agrees.
     (still_agrees c.loop-place.pages _ _
     (c.page_after.ensures.only.state (c.loop-place.invariant.keeps.only.honest.0 honest))
     (c.loop-place.invariant.keeps.agrees honest agrees))
-
-pub returns-in_err-release-clause-open : goal.returns-in_err-release-clause-open
-returns-in_err-release-clause-open g c = c.release.ensures.keeps.is_open c.loop-place.invariant.keeps.is_open
 
 pub returns-in_err-release-clause-spent : goal.returns-in_err-release-clause-spent
 returns-in_err-release-clause-spent g c =
@@ -231,6 +221,3 @@ returns-clause-catalog g c = c.loop-place.invariant.keeps.catalog
 
 pub returns-clause-agrees : goal.returns-clause-agrees
 returns-clause-agrees g c = λ honest agrees. c.loop-place.invariant.keeps.agrees honest agrees
-
-pub returns-clause-open : goal.returns-clause-open
-returns-clause-open g c = c.loop-place.invariant.keeps.is_open

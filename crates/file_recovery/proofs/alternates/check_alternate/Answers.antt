@@ -32,11 +32,11 @@ returns-clause-index g c = λ up honest agrees.
     let tree : RootedTree = c.new-tree.result in
     let found = c.in_ok-check_pages.ensures.holds honest agrees in
     on_ok_weaker c.check_index.result
-    (index_is (pages_on g.D.Device c.args.pages.now c.args.device.now) spec rows c.args.value.now
+    (index_is (pages_on g.D.Device c.args.pages.now c.args.device.now) spec rows c.args.root.value.now
     (c.new-tree.ensures.layout ∙ c.tree_layout-layout.ensures.layout)
     (c.new-tree.ensures.root ∙ c.alternate_root.ensures) found)
     (on_tree_before g.D.Device (λ pages levels.
-    OnOk c.check_index.result (AreOf spec (Alternate c.args.key) rows (entries_of tree.layout levels)))
+    OnOk c.check_index.result (AreOf spec (Alternate c.args.root.key) rows (entries_of tree.layout levels)))
     c.check_pages.ensures.looks (c.check_index.ensures.index up) honest agrees found.levels found.holds)
 
 pub returns-clause-damaged : goal.returns-clause-damaged
@@ -46,12 +46,12 @@ returns-clause-damaged g c = λ up honest agrees told own is rooted grows can.
     let tree : RootedTree = c.new-tree.result in
     let before : List (Option Sector) = pages_on g.D.Device c.args.pages.now c.args.device.now in
     let layout = c.new-tree.ensures.layout ∙ c.tree_layout-layout.ensures.layout in
-    let there = index_there before spec rows c.args.value.now _ layout own is grows
+    let there = index_there before spec rows c.args.root.value.now _ layout own is grows
     (c.new-tree.ensures.root ∙ c.alternate_root.ensures) rooted in
     on_tree_before g.D.Device (λ pages levels.
-    AreOf spec (Alternate c.args.key) rows (entries_of tree.layout levels) → ⊥) c.check_pages.ensures.looks
+    AreOf spec (Alternate c.args.root.key) rows (entries_of tree.layout levels) → ⊥) c.check_pages.ensures.looks
     (λ still same levels holds. c.check_index.ensures.damaged up still same levels holds told) honest agrees own.levels
-    there (index_entries before spec rows c.args.value.now tree layout own is grows)
+    there (index_entries before spec rows c.args.root.value.now tree layout own is grows)
 
 pub returns-in_err-check_pages-clause-damaged : goal.returns-in_err-check_pages-clause-damaged
 returns-in_err-check_pages-clause-damaged g c = λ up honest agrees refused own is rooted grows can.
@@ -59,7 +59,7 @@ returns-in_err-check_pages-clause-damaged g c = λ up honest agrees refused own 
     let fault : c.in_err-check_pages.field-0.0 ≡ Damaged = sym from in
     let told : c.check_pages.result ≡ Err Damaged = c.in_err-check_pages.was ∙ ap Err fault in
     let before : List (Option Sector) = pages_on g.D.Device c.args.pages.now c.args.device.now in
-    let there = index_there before (spec_of c.args.file.now) (rows_of c.args.rows.now) c.args.value.now _
+    let there = index_there before (spec_of c.args.file.now) (rows_of c.args.rows.now) c.args.root.value.now _
     (c.new-tree.ensures.layout ∙ c.tree_layout-layout.ensures.layout) own is grows
     (c.new-tree.ensures.root ∙ c.alternate_root.ensures) rooted in
     c.check_pages.ensures.damaged honest agrees told own.levels there

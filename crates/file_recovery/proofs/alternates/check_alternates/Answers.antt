@@ -17,7 +17,7 @@ use Rattle.file_recovery.proofs.alternates.check_alternates.Goals.{After-check_a
 
 pub loop-key-init : goal.loop-key-init
 loop-key-init g c = record {
-  looks = looks_nowhere g.D.Device c.args.pages.now c.args.device.now c.requires.open;
+  looks = looks_nowhere g.D.Device c.args.pages.now c.args.device.now;
   found =
       λ up honest agrees. no_indexes (map_now c.args.pages.now (g.D.Device.state c.args.device.now).disk.present).pages
       (spec_of c.args.file.now) (rows_of c.args.rows.now) c.args.value.now c.args.seen.now;
@@ -38,7 +38,7 @@ pub loop-key-preserved : goal.loop-key-preserved
 loop-key-preserved g c =
     let looks = c.loop-key.invariant.looks in
     let few = (c.map_bounds.ensures.open c.args.pages.now (g.D.Device.state c.args.device.now).disk.present
-    c.requires.open c.requires.unspent).1 in
+    c.requires.unspent).1 in
     record {
       looks = looks_on g.D.Device looks c.check_alternate.ensures.looks;
       found = λ up. index_more g.D.Device looks (c.in_ok-check_alternate.ensures.index up)

@@ -79,7 +79,7 @@ returns-clause-damaged g c = λ honest agrees told.
     let m : Map = map_now c.args.pages.now (g.D.Device.state c.args.device.now).disk.present in
     let found = c.in_ok-check_pages.ensures.holds honest agrees in
     let few = (c.map_bounds.ensures.open c.args.pages.now (g.D.Device.state c.args.device.now).disk.present
-    c.requires.open c.requires.unspent).1 in
+    c.requires.unspent).1 in
     no_catalog_read m c.args.generation (c.catalog_tree-catalog.ensures.layout ∙ ap catalog_layout c.mark.ensures.is)
     (c.catalog_tree-catalog.ensures.root ∙ c.catalog.ensures) found (omega (arith, few))
     (catalog_claim g (goal.at.returns-clause-damaged g c).After-read_files

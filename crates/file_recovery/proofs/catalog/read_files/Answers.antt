@@ -12,7 +12,8 @@ use Rattle.volume_format.specs.Catalog.{catalog_layout}
 use Rattle.file_recovery.specs.Listed.{FindsFiles}
 use Rattle.file_bytes.specs.Stored.{files_of}
 use Rattle.volume_format.proofs.Looks.{looks_blamed, looks_then}
-use Rattle.file_recovery.proofs.Calling.{on_tree_before, looks_on}
+use Rattle.file_recovery.proofs.Calling.{on_tree_before, looks_on, unspent_kept}
+use Rattle.file_recovery.proofs.Faults.{search_passed}
 use Rattle.file_recovery.proofs.Listed.{no_files, at_first, too_many}
 use Rattle.btree.proofs.Ascending.{entry_at, first_at}
 use Rattle.file_recovery.proofs.Passed.{taken_all}
@@ -53,7 +54,7 @@ few_pages : (g : Over) (c : After-add_file g)
     → OnPages g.D.Device c.args.pages.now c.args.device.now (λ pages. length pages ≤ 2 ^ 20)
 few_pages g c = λ honest agrees.
     let few = (c.map_bounds.ensures.open c.args.pages.now (g.D.Device.state c.args.device.now).disk.present
-    c.requires.open c.requires.unspent).1 in
+    c.requires.unspent).1 in
     omega (arith, few)
 
 pub loop-turn-preserved : goal.loop-turn-preserved
@@ -88,7 +89,12 @@ returns-in_err-next-clause-damaged g c = λ honest agrees levels holds refused k
     let from = rw refused at c.from_residual.ensures.1 in
     let fault : c.in_err-next.field-0.0 ≡ Damaged = sym from in
     let told : c.first_in.result ≡ Err Damaged = c.in_err-next.was ∙ ap Err fault in
-    c.first_in.ensures.damaged honest agrees told levels holds
+    c.first_in.ensures.damaged honest agrees levels holds told
+
+pub returns-in_err-next-clause-cause : goal.returns-in_err-next-clause-cause
+returns-in_err-next-clause-cause g c =
+    search_passed c.from_residual.result c.in_err-next.field-0.0 c.args.pages.now c.in_err-next.was
+    c.from_residual.ensures.1 c.first_in.ensures.cause c.first_in.ensures.spent c.requires.unspent
 
 pub returns-in_err-add_file-in-Some-clause-looks : goal.returns-in_err-add_file-in-Some-clause-looks
 returns-in_err-add_file-in-Some-clause-looks g c =
@@ -126,7 +132,15 @@ returns-in_err-next-in-Some-clause-damaged g c = λ honest agrees levels holds r
     let told : c.next_in.result ≡ Err Damaged = c.in_err-next-in-Some.was ∙ ap Err fault in
     on_tree_before g.D.Device (λ pages l. ⊥)
     (file_looks g (goal.at.returns-in_err-next-in-Some-clause-damaged g c).After-add_file)
-    (λ still same l there. c.next_in.ensures.damaged still same told l there) honest agrees levels holds
+    (λ still same l there. c.next_in.ensures.damaged still same l there told) honest agrees levels holds
+
+pub returns-in_err-next-in-Some-clause-cause : goal.returns-in_err-next-in-Some-clause-cause
+returns-in_err-next-in-Some-clause-cause g c =
+    search_passed c.from_residual-in_err-next-in-Some.result c.in_err-next-in-Some.field-0.0 c.add_file.new.pages
+    c.in_err-next-in-Some.was c.from_residual-in_err-next-in-Some.ensures.1 c.next_in.ensures.cause
+    c.next_in.ensures.spent
+    (unspent_kept g.D.Device ⊥ c.args.pages.now c.add_file.new.pages c.args.device.now c.add_file.new.device
+    (file_looks g (goal.at.returns-in_err-next-in-Some-clause-cause g c).After-add_file) c.requires.unspent)
 
 pub returns-in-Some-next-clause-damaged : goal.returns-in-Some-next-clause-damaged
 returns-in-Some-next-clause-damaged g c = λ honest agrees levels holds told.

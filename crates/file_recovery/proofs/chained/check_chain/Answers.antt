@@ -10,7 +10,7 @@ use Rattle.file_recovery.proofs.chained.check_chain.Goals as goal
 
 pub loop-place-init : goal.loop-place-init
 loop-place-init g c = record {
-  looks = looks_nowhere g.D.Device c.args.pages.now c.args.device.now c.requires.open;
+  looks = looks_nowhere g.D.Device c.args.pages.now c.args.device.now;
   marked = λ honest agrees.
       marked_start (pages_on g.D.Device c.args.pages.now c.args.device.now) c.args.first c.args.seen.now;
 }

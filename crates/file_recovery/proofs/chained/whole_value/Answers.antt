@@ -27,7 +27,7 @@ returns-in_err-whole-clause-looks g c =
     let fault : c.in_err-whole.field-0.0 ≡ Device = sym from in
     let told : c.record_of.result ≡ Err Device = c.in_err-whole.was ∙ ap Err fault in inr told)
     c.check_chain.ensures.looks
-    (looks_past g.D.Device _ c.check_chain.new.pages _ _ c.record_of.ensures.only c.check_chain.ensures.looks.is_open)
+    (looks_past g.D.Device _ c.check_chain.new.pages _ _ c.record_of.ensures.only)
 
 pub returns-in_err-whole-clause-damaged : goal.returns-in_err-whole-clause-damaged
 returns-in_err-whole-clause-damaged g c = λ honest agrees refused stands can.
@@ -52,14 +52,14 @@ returns-in_err-extend_from_slice-clause-looks g c =
     (λ is. memory_not_device c.from_residual-in_err-extend_from_slice.result
     c.from_residual-in_err-extend_from_slice.ensures.1 is)
     c.check_chain.ensures.looks
-    (looks_past g.D.Device _ c.check_chain.new.pages _ _ c.record_of.ensures.only c.check_chain.ensures.looks.is_open)
+    (looks_past g.D.Device _ c.check_chain.new.pages _ _ c.record_of.ensures.only)
 
 pub returns-clause-looks : goal.returns-clause-looks
 returns-clause-looks g c =
     looks_then g.D.Device (c.check_chain.result ≡ Err Device) (c.record_of.result ≡ Err Device) _ c.args.pages.now
     c.check_chain.new.pages c.check_chain.new.pages c.args.device.now c.check_chain.new.device c.record_of.new.device
     (λ is. let never : ⊥ = cc in absurd never) c.check_chain.ensures.looks
-    (looks_past g.D.Device _ c.check_chain.new.pages _ _ c.record_of.ensures.only c.check_chain.ensures.looks.is_open)
+    (looks_past g.D.Device _ c.check_chain.new.pages _ _ c.record_of.ensures.only)
 
 pub returns-clause-whole : goal.returns-clause-whole
 returns-clause-whole g c = λ honest agrees.

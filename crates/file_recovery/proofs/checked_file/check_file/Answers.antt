@@ -47,7 +47,7 @@ entry_read : (g : Over) (c : After-check_pages g)
     c.new-tree.result
 entry_read g c =
     let few = (c.map_bounds.ensures.open c.args.pages.now (g.D.Device.state c.args.device.now).disk.present
-    c.requires.open c.requires.unspent).1 in
+    c.requires.unspent).1 in
     entry_is (without_count c.args.entry.now) c.key.result.now c.listing_part-value.result.now c.key.ensures
     c.listing_part-value.ensures.part c.requires.generation c.in-Some.is c.in_ok-file.ensures.some
     c.next_arrival-next.ensures (c.is_next.ensures.yes c.if-not-is_next.false)
@@ -107,7 +107,7 @@ returns-in_default-clause-damaged g c = λ honest agrees told. none_counted (λ 
     let before : List (Option Sector) =
     (map_now c.args.pages.now (g.D.Device.state c.args.device.now).disk.present).pages in
     let few = (c.map_bounds.ensures.open c.args.pages.now (g.D.Device.state c.args.device.now).disk.present
-    c.requires.open c.requires.unspent).1 in
+    c.requires.unspent).1 in
     let small : length before ≤ 2 ^ 20 = omega (arith, few) in
     c.in_ok-file.ensures.none (ap (λ (o : Option FileSpec). Ok o) (is_none c.in_ok-file.field-0 c.in_default.not-Some))
     kept.named.name _ found.named.name
@@ -122,7 +122,7 @@ returns-then-not-is_next-clause-damaged g c = λ honest agrees told. none_counte
     let before : List (Option Sector) =
     (map_now c.args.pages.now (g.D.Device.state c.args.device.now).disk.present).pages in
     let few = (c.map_bounds.ensures.open c.args.pages.now (g.D.Device.state c.args.device.now).disk.present
-    c.requires.open c.requires.unspent).1 in
+    c.requires.unspent).1 in
     let small : length before ≤ 2 ^ 20 = omega (arith, few) in
     let next : c.next_arrival-next.result ≡ kept.named.file.next_arrival =
     c.next_arrival-next.ensures ∙ ap (λ (v : List ℕ). big_number 8 (drop 75 v)) c.listing_part-value.ensures.part

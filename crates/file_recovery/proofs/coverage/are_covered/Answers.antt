@@ -22,7 +22,7 @@ returns-clause-yes c = λ is image.
     let pages = (map_now c.args.pages.now image).pages in
     let many = c.page_count-count.ensures.pages image in
     let counted = c.page_count-count.ensures.count in
-    let few = c.page_count-count.ensures.few c.requires.open c.requires.unspent in
+    let few = c.page_count-count.ensures.few c.requires.unspent in
     let test = c.loop-page-test.false in
     covered_all pages c.args.seen.now c.loop-page.page (omega (arith, many, counted, few, test))
     (c.loop-page.invariant image)

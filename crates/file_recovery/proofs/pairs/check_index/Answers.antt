@@ -10,7 +10,8 @@ use Rattle.records.specs.Stores.{spec_of}
 use Rattle.file_recovery.specs.Rows.{IsPairOf}
 use Rattle.file_bytes.specs.Stored.{row_of, rows_of}
 use Rattle.volume_format.proofs.Looks.{looks_blamed, looks_then}
-use Rattle.file_recovery.proofs.Calling.{on_tree_before, looks_on}
+use Rattle.file_recovery.proofs.Calling.{on_tree_before, looks_on, unspent_kept}
+use Rattle.file_recovery.proofs.Faults.{search_passed}
 use Rattle.file_recovery.proofs.Matching.{are_pairs, as_many}
 use Rattle.file_recovery.proofs.PairsOf.{primes_ascend}
 use Rattle.btree.proofs.Ascending.{first_at, none_at, some_at}
@@ -76,7 +77,12 @@ returns-in_err-next-clause-damaged g c = λ up honest agrees levels holds refuse
     let from = rw refused at c.from_residual-in_err-next.ensures.1 in
     let fault : c.in_err-next.field-0.0 ≡ Damaged = sym from in
     let told : c.first_in.result ≡ Err Damaged = c.in_err-next.was ∙ ap Err fault in
-    c.first_in.ensures.damaged honest agrees told levels holds
+    c.first_in.ensures.damaged honest agrees levels holds told
+
+pub returns-in_err-next-clause-cause : goal.returns-in_err-next-clause-cause
+returns-in_err-next-clause-cause g c =
+    search_passed c.from_residual-in_err-next.result c.in_err-next.field-0.0 c.args.pages.now c.in_err-next.was
+    c.from_residual-in_err-next.ensures.1 c.first_in.ensures.cause c.first_in.ensures.spent c.requires.unspent
 
 pub returns-in_err-next-in-Some-clause-looks : goal.returns-in_err-next-in-Some-clause-looks
 returns-in_err-next-in-Some-clause-looks g c =
@@ -94,7 +100,15 @@ returns-in_err-next-in-Some-clause-damaged g c = λ up honest agrees levels hold
     let fault : c.in_err-next-in-Some.field-0.0 ≡ Damaged = sym from in
     let told : c.next_in.result ≡ Err Damaged = c.in_err-next-in-Some.was ∙ ap Err fault in
     on_tree_before g.D.Device (λ pages l. ⊥) c.loop-turn.invariant.looks
-    (λ still same l there. c.next_in.ensures.damaged still same told l there) honest agrees levels holds
+    (λ still same l there. c.next_in.ensures.damaged still same l there told) honest agrees levels holds
+
+pub returns-in_err-next-in-Some-clause-cause : goal.returns-in_err-next-in-Some-clause-cause
+returns-in_err-next-in-Some-clause-cause g c =
+    search_passed c.from_residual-in_err-next-in-Some.result c.in_err-next-in-Some.field-0.0 c.loop-turn.pages
+    c.in_err-next-in-Some.was c.from_residual-in_err-next-in-Some.ensures.1 c.next_in.ensures.cause
+    c.next_in.ensures.spent
+    (unspent_kept g.D.Device ⊥ c.args.pages.now c.loop-turn.pages c.args.device.now c.loop-turn.device
+    c.loop-turn.invariant.looks c.requires.unspent)
 
 pub returns-in-Some-next-clause-damaged : goal.returns-in-Some-next-clause-damaged
 returns-in-Some-next-clause-damaged g c = λ up honest agrees levels holds told are.

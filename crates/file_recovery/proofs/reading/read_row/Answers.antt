@@ -38,7 +38,7 @@ pub returns-then-not-is_long-clause-looks : goal.returns-then-not-is_long-clause
 returns-then-not-is_long-clause-looks g c =
     looks_blamed g.D.Device ⊥ _ c.args.pages.now c.args.pages.now c.args.device.now c.args.device.now
     (λ is. own_not_device c.row_of_entry.result c.row_of_entry.ensures.cause is)
-    (looks_nowhere g.D.Device c.args.pages.now c.args.device.now c.requires.open)
+    (looks_nowhere g.D.Device c.args.pages.now c.args.device.now)
 
 pub returns-then-not-is_long-clause-row : goal.returns-then-not-is_long-clause-row
 returns-then-not-is_long-clause-row g c = λ honest agrees.

@@ -13,8 +13,8 @@ use Rattle.file_bytes.specs.Stored.{rows_of}
 use Rattle.volume_format.specs.Calls.{LooksAt}
 use Rattle.volume_format.proofs.Looks.{looks_blamed, looks_then}
 use Rattle.file_recovery.specs.Rows.{FindsRows}
-use Rattle.file_recovery.proofs.Calling.{on_tree_before, looks_on}
-use Rattle.file_recovery.proofs.Faults.{memory_not_device}
+use Rattle.file_recovery.proofs.Calling.{on_tree_before, looks_on, unspent_kept}
+use Rattle.file_recovery.proofs.Faults.{memory_not_device, search_passed}
 use Rattle.btree.proofs.Ascending.{entry_at, first_at}
 use Rattle.file_recovery.proofs.ChainedRows.{rows_added, rows_are_so, found_none, found_all}
 use Rattle.file_recovery.proofs.Walked.{next_entry, row_here, no_row_here}
@@ -77,7 +77,12 @@ returns-in_err-next-clause-damaged g c = λ honest agrees levels holds refused r
     let from = rw refused at c.from_residual.ensures.1 in
     let fault : c.in_err-next.field-0.0 ≡ Damaged = sym from in
     let told : c.first_in.result ≡ Err Damaged = c.in_err-next.was ∙ ap Err fault in
-    c.first_in.ensures.damaged honest agrees told levels holds
+    c.first_in.ensures.damaged honest agrees levels holds told
+
+pub returns-in_err-next-clause-cause : goal.returns-in_err-next-clause-cause
+returns-in_err-next-clause-cause g c =
+    search_passed c.from_residual.result c.in_err-next.field-0.0 c.args.pages.now c.in_err-next.was
+    c.from_residual.ensures.1 c.first_in.ensures.cause c.first_in.ensures.spent c.requires.unspent
 
 pub returns-in_err-row-in-Some-clause-looks : goal.returns-in_err-row-in-Some-clause-looks
 returns-in_err-row-in-Some-clause-looks g c =
@@ -124,4 +129,12 @@ returns-in_err-next-in-Some-clause-damaged g c = λ honest agrees levels holds r
     let told : c.next_in.result ≡ Err Damaged = c.in_err-next-in-Some.was ∙ ap Err fault in
     on_tree_before g.D.Device (λ pages l. ⊥)
     (row_looks g (goal.at.returns-in_err-next-in-Some-clause-damaged g c).After-read_row)
-    (λ still same l there. c.next_in.ensures.damaged still same told l there) honest agrees levels holds
+    (λ still same l there. c.next_in.ensures.damaged still same l there told) honest agrees levels holds
+
+pub returns-in_err-next-in-Some-clause-cause : goal.returns-in_err-next-in-Some-clause-cause
+returns-in_err-next-in-Some-clause-cause g c =
+    search_passed c.from_residual-in_err-next-in-Some.result c.in_err-next-in-Some.field-0.0 c.read_row.new.pages
+    c.in_err-next-in-Some.was c.from_residual-in_err-next-in-Some.ensures.1 c.next_in.ensures.cause
+    c.next_in.ensures.spent
+    (unspent_kept g.D.Device ⊥ c.args.pages.now c.read_row.new.pages c.args.device.now c.read_row.new.device
+    (row_looks g (goal.at.returns-in_err-next-in-Some-clause-cause g c).After-read_row) c.requires.unspent)

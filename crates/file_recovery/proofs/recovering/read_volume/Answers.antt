@@ -23,7 +23,7 @@ none_yet g c = subst NoneMarked
 small_map : (g : Over) (c : After-read_catalog g)
     → length (map_now c.args.pages.now (g.D.Device.state c.args.device.now).disk.present).pages ≤ 2 ^ 20
 small_map g c =
-    let few = c.page_count.ensures.few c.requires.open c.requires.unspent in
+    let few = c.page_count.ensures.few c.requires.unspent in
     let counted = c.page_count.ensures.count in
     let many = c.page_count.ensures.pages (g.D.Device.state c.args.device.now).disk.present in
     omega (arith, few, counted, many)

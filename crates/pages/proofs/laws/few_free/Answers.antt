@@ -5,8 +5,8 @@ use Rattle.pages.proofs.Crowded.{crowded}
 use Rattle.pages.proofs.laws.few_free.Goals as goal
 
 pub returns : goal.returns
-returns c = λ p ready unspent each. omega (
+returns c = λ p unspent each. omega (
   arith,
-  crowded p.volume p.changes.items (ready unspent).sound each,
+  crowded p.volume p.changes.items (p.ready unspent).sound each,
   length-map p.changes.items (λ (x : Change). x.page),
 )

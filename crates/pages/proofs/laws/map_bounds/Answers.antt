@@ -9,8 +9,8 @@ pub returns-clause-held : goal.returns-clause-held
 returns-clause-held c = bounds.map_bounds
 
 pub returns-clause-open : goal.returns-clause-open
-returns-clause-open c = λ p image ready unspent.
-    let sound = (ready unspent).sound in (
+returns-clause-open c = λ p image unspent.
+    let sound = (p.ready unspent).sound in (
       sound.generation,
       omega (
         arith,

@@ -24,8 +24,8 @@ pub loop-place-init : goal.loop-place-init
 loop-place-init g c =
     let one = c.count.ensures in
     let two = c.first.ensures in
-    let counted = looks_by g.D.Device _ _ _ _ _ one.only one.unchanged one.agrees one.open in
-    let looked = looks_by g.D.Device _ _ _ _ _ two.only two.unchanged two.agrees two.open in
+    let counted = looks_by g.D.Device _ _ _ _ _ one.only one.unchanged one.agrees in
+    let looked = looks_by g.D.Device _ _ _ _ _ two.only two.unchanged two.agrees in
     record {
       edits = looks_edits g.D.Device ⊥ _ _ _ _
           (looks_then g.D.Device _ _ ⊥ _ _ _ _ _ _ (λ never. absurd never) counted looked);
@@ -55,7 +55,7 @@ released : (g : Over) (c : After-release g) → EditsPages g.D.Device ⊥ c.args
     c.release.new.pages c.release.new.device
 released g c = let rel = c.release.ensures in
     edits_more g.D.Device _ _ _ _ _ _ _ c.loop-place.invariant.edits
-    (edits_by g.D.Device _ _ _ _ _ rel.only rel.committed rel.catalog rel.agrees rel.open)
+    (edits_by g.D.Device _ _ _ _ _ rel.only rel.committed rel.catalog rel.agrees)
 
 pub loop-place-preserved : goal.loop-place-preserved
 loop-place-preserved g c =
@@ -63,7 +63,7 @@ loop-place-preserved g c =
     let nxt = c.next.ensures in
     record {
       edits = edits_more g.D.Device _ _ _ _ _ _ _ (released g at) (looks_edits g.D.Device _ _ _ _ _
-          (looks_by g.D.Device _ _ _ _ _ nxt.only nxt.unchanged nxt.agrees nxt.open));
+          (looks_by g.D.Device _ _ _ _ _ nxt.only nxt.unchanged nxt.agrees));
       filled = omega (arith, c.loop-place.invariant.filled, c.release.ensures.filled, nxt.unchanged.filled);
       lengths = c.in_ok-next-2.ensures.lengths;
       rest = released_next g.D.Device (next_row g at) c.in_ok-release.ensures.released (released g at)
@@ -83,17 +83,20 @@ first_page-requires g c =
     let same = ap (λ (l : List ℕ). length l) c.value.ensures in
     omega (arith, fits, long, same)
 
-pub release-requires-clause-sectors : goal.release-requires-clause-sectors
-release-requires-clause-sectors g c =
-    sectors_on c.args.pages.now c.loop-place.pages _ _
-    c.loop-place.invariant.edits.committed.volume c.loop-place.invariant.edits.only.sectors c.requires.sectors
+pub release-requires : goal.release-requires
+release-requires g c = record {
+  sectors = sectors_on c.args.pages.now c.loop-place.pages _ _ c.loop-place.invariant.edits.committed.volume
+      c.loop-place.invariant.edits.only.sectors c.requires.sectors;
+}
 
-pub next-requires-clause-sectors : goal.next-requires-clause-sectors
-next-requires-clause-sectors g c =
+pub next-requires : goal.next-requires
+next-requires g c =
     let edits = c.loop-place.invariant.edits in
-    sectors_on c.loop-place.pages c.release.new.pages _ _ c.release.ensures.committed.volume
-    c.release.ensures.only.sectors (sectors_on c.args.pages.now c.loop-place.pages _ _ edits.committed.volume
-    edits.only.sectors c.requires.sectors)
+    record {
+      sectors = sectors_on c.loop-place.pages c.release.new.pages _ _ c.release.ensures.committed.volume
+          c.release.ensures.only.sectors (sectors_on c.args.pages.now c.loop-place.pages _ _ edits.committed.volume
+          edits.only.sectors c.requires.sectors);
+    }
 
 -- The entries are not counted, or the first one is not found.
 pub returns-in_err-count-clause-edits : goal.returns-in_err-count-clause-edits
@@ -103,7 +106,7 @@ returns-in_err-count-clause-edits g c =
     (λ r. EditsPages g.D.Device (r ≡ Err Device) c.args.pages.now c.args.device.now c.count.new.pages
     c.count.new.device)
     (edits_where g.D.Device _ _ _ _ _ _ (λ is. still_error is)
-    (looks_edits g.D.Device _ _ _ _ _ (looks_by g.D.Device _ _ _ _ _ one.only one.unchanged one.agrees one.open)))
+    (looks_edits g.D.Device _ _ _ _ _ (looks_by g.D.Device _ _ _ _ _ one.only one.unchanged one.agrees)))
 
 pub returns-in_err-count-clause-damaged : goal.returns-in_err-count-clause-damaged
 returns-in_err-count-clause-damaged g c = λ honest agrees planted is told.
@@ -122,12 +125,12 @@ pub returns-in_err-next-clause-edits : goal.returns-in_err-next-clause-edits
 returns-in_err-next-clause-edits g c =
     let one = c.count.ensures in
     let two = c.in_err-next.ensures in
-    let counted = looks_by g.D.Device _ _ _ _ _ one.only one.unchanged one.agrees one.open in
+    let counted = looks_by g.D.Device _ _ _ _ _ one.only one.unchanged one.agrees in
     passed c.from_residual-in_err-next.result c.in_err-next.field-0.0 c.from_residual-in_err-next.ensures.1
     (λ r. EditsPages g.D.Device (r ≡ Err Device) c.args.pages.now c.args.device.now c.first.new.pages
     c.first.new.device)
     (looks_edits g.D.Device _ _ _ _ _ (looks_then g.D.Device _ _ _ _ _ _ _ _ _ (λ is. inr (still_error is)) counted
-    (looks_by g.D.Device _ _ _ _ _ two.only two.unchanged two.agrees two.open)))
+    (looks_by g.D.Device _ _ _ _ _ two.only two.unchanged two.agrees)))
 
 pub returns-in_err-next-clause-damaged : goal.returns-in_err-next-clause-damaged
 returns-in_err-next-clause-damaged g c = λ honest agrees planted is told.
@@ -136,7 +139,7 @@ returns-in_err-next-clause-damaged g c = λ honest agrees planted is told.
     let rows = chained c.args.tree.now c.args.record_bytes in
     let levels = planted.levels in
     let one = c.count.ensures in
-    let counted = looks_by g.D.Device _ _ _ _ _ one.only one.unchanged one.agrees one.open in
+    let counted = looks_by g.D.Device _ _ _ _ _ one.only one.unchanged one.agrees in
     let damaged = refused_by_call c.in_err-next.was c.from_residual-in_err-next.ensures.1 told in
     read_tells g.D.Device _ c.args.pages.now c.count.new.pages c.args.device.now c.count.new.device rows levels
     (λ levels. ⊥) counted honest agrees (stands_alone before rows planted is)
@@ -191,7 +194,7 @@ returns-in_err-release-clause-edits g c =
     (λ r. EditsPages g.D.Device (r ≡ Err Device) c.args.pages.now c.args.device.now c.release.new.pages
     c.release.new.device)
     (edits_last g.D.Device ⊥ _ _ _ _ _ _ _ _ (λ is. still_error is) c.loop-place.invariant.edits
-    (edits_by g.D.Device _ _ _ _ _ rel.only rel.committed rel.catalog rel.agrees rel.open))
+    (edits_by g.D.Device _ _ _ _ _ rel.only rel.committed rel.catalog rel.agrees))
 
 pub returns-in_err-release-clause-damaged : goal.returns-in_err-release-clause-damaged
 returns-in_err-release-clause-damaged g c =
@@ -217,7 +220,7 @@ returns-in_err-next-2-clause-edits g c =
     (λ r. EditsPages g.D.Device (r ≡ Err Device) c.args.pages.now c.args.device.now c.next.new.pages c.next.new.device)
     (edits_last g.D.Device _ _ _ _ _ _ _ _ _ (λ is. still_error is)
     (released g (goal.at.returns-in_err-next-2-clause-edits g c).After-release)
-    (looks_edits g.D.Device _ _ _ _ _ (looks_by g.D.Device _ _ _ _ _ nxt.only nxt.unchanged nxt.agrees nxt.open)))
+    (looks_edits g.D.Device _ _ _ _ _ (looks_by g.D.Device _ _ _ _ _ nxt.only nxt.unchanged nxt.agrees)))
 
 pub returns-in_err-next-2-clause-damaged : goal.returns-in_err-next-2-clause-damaged
 returns-in_err-next-2-clause-damaged g c =

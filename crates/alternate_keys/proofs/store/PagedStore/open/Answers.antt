@@ -15,7 +15,7 @@ returns-in-Ok-clause-stands g c = λ honest files holds.
     ap (λ (s : State). s.disk.present) (c.in-Ok.ensures.state honest) in
     record {
       represents = stands_for c.in-Ok.pages new.disk files (c.in-Ok.ensures.agrees honest) c.in-Ok.ensures.map
-          c.in-Ok.ensures.ready.3 (subst (λ (l : List Sector). Holds l files) (sym same) holds);
+          c.in-Ok.ensures.ready.2 (subst (λ (l : List Sector). Holds l files) (sym same) holds);
       notes = c.new.ensures _;
     }
 

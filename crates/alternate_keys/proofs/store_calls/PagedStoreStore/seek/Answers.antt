@@ -10,7 +10,7 @@ use Rattle.alternate_keys.proofs.store_calls.PagedStoreStore.seek.Goals as goal
 
 pub returns-clause-reads : goal.returns-clause-reads
 returns-clause-reads g c =
-    let unspent : is_spent c.self.inside.pages ≡ false = c.self.invariant.1 c.if-self.false in
+    let unspent : is_spent c.self.inside.pages ≡ false = c.self.invariant c.if-self.false in
     subst (λ (s : OpenedVolume). OnlyReadsFiles ghosts g.D.Device c.seek_in.result s c.args.device.now
     (opened c.seek_in.new.pages c.self.inside.spent (noted_search c.seek_in.new.notes)) c.seek_in.new.device)
     c.self.view_is

@@ -20,7 +20,6 @@ loop-turn-init c = record {
   changes = omega arith;
   fills = omega arith;
   keeps = keeps_still c.args.pages.now;
-  is_open = c.requires.open;
 }
 
 pub loop-turn-preserved : goal.loop-turn-preserved
@@ -35,7 +34,6 @@ loop-turn-preserved c =
       changes = omega (arith, loop.invariant.changes, c.put_new.ensures.changed_pages);
       fills = omega (arith, loop.invariant.fills, c.put_new.ensures.filled);
       keeps = keeps_on _ _ _ loop.invariant.keeps c.put_new.ensures.keeps;
-      is_open = c.put_new.ensures.keeps.is_open loop.invariant.is_open;
     }
 
 pub returns-then-leaves-le1-clause-built : goal.returns-then-leaves-le1-clause-built

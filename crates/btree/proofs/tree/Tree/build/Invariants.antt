@@ -1,5 +1,5 @@
 use Rattle.std.proofs.Common.{◌≤◌, ◌+◌, ◌-◌, length}
-use Rattle.pages.specs.Pages.{IsOpen, KeepsCommitted, changed_pages_of, filled_of}
+use Rattle.pages.specs.Pages.{KeepsCommitted, changed_pages_of, filled_of}
 use Rattle.btree.specs.Changes.{pages_of_map}
 use Rattle.btree.proofs.PlacedLeaves.{PlacedTop}
 use Rattle.btree.proofs.tree.Tree.build.Given as goal
@@ -10,5 +10,4 @@ invariant-loop-turn l = record {
   changes : length (changed_pages_of l.pages) ≤ length (changed_pages_of l.fn.pages) + l.turn;
   fills : filled_of l.pages ≤ filled_of l.fn.pages + l.turn;
   keeps : KeepsCommitted l.fn.pages l.pages;
-  is_open : IsOpen l.pages;
 }

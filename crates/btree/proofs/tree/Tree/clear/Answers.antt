@@ -25,7 +25,7 @@ returns-in_err-clear_levels-clause-damaged g c = λ honest agrees is levels hold
     let told = rw is at c.from_residual-in_err-clear_levels.ensures.1 in
     let fault : c.in_err-clear_levels.field-0.0 ≡ Damaged = cc told in
     let few = small_map c.args.pages.now image c.page_count-page_count.result (c.page_count-page_count.ensures.pages
-    image) c.page_count-page_count.ensures.count (c.page_count-page_count.ensures.few c.requires.open) (λ spent.
+    image) c.page_count-page_count.ensures.count c.page_count-page_count.ensures.few (λ spent.
     damaged_not_spent (ap Err (sym fault) ∙ c.in_err-clear_levels.ensures.told spent down.0 (omega arith))) in
     let depth = few_levels _ pages _ levels few tree in
     c.in_err-clear_levels.ensures.damaged honest agrees (ap Err fault) levels few down.1 (omega arith)
@@ -38,7 +38,7 @@ returns-clause-cleared g c = λ honest agrees levels holds.
     let down = root_down _ pages _ levels _ c.push.new.self.items c.new-numbers.ensures.items c.in_ok-push.ensures.items
     tree in
     let few = small_map c.args.pages.now image c.page_count-page_count.result (c.page_count-page_count.ensures.pages
-    image) c.page_count-page_count.ensures.count (c.page_count-page_count.ensures.few c.requires.open) (λ spent.
+    image) c.page_count-page_count.ensures.count c.page_count-page_count.ensures.few (λ spent.
     never_ok (sym c.in_ok-clear_levels.was ∙ c.clear_levels.ensures.told spent down.0 (omega arith))) in
     c.in_ok-clear_levels.ensures.cleared honest agrees levels few down.1
 
@@ -72,7 +72,7 @@ returns-clause-damaged g c = λ honest agrees is. never_ok is
 pub returns-then-top-eq0-clause-edits : goal.returns-then-top-eq0-clause-edits
 returns-then-top-eq0-clause-edits g c =
     edits_where g.D.Device _ _ _ _ _ _ (λ is. never_ok is)
-    (edits_none g.D.Device c.args.pages.now c.args.device.now c.requires.open)
+    (edits_none g.D.Device c.args.pages.now c.args.device.now)
 
 pub returns-in_err-clear_levels-clause-edits : goal.returns-in_err-clear_levels-clause-edits
 returns-in_err-clear_levels-clause-edits g c =
@@ -82,10 +82,10 @@ returns-in_err-clear_levels-clause-edits g c =
     (λ r. EditsPages g.D.Device (r ≡ Err Device) c.args.pages.now c.args.device.now c.clear_levels.new.pages
     c.clear_levels.new.device)
     (edits_where g.D.Device _ _ _ _ _ _ (λ is. still_error is)
-    (edits_by g.D.Device _ _ _ _ _ gone.only gone.committed gone.catalog gone.agrees gone.open))
+    (edits_by g.D.Device _ _ _ _ _ gone.only gone.committed gone.catalog gone.agrees))
 
 pub returns-clause-edits : goal.returns-clause-edits
 returns-clause-edits g c =
     let gone = c.clear_levels.ensures in
     edits_where g.D.Device _ _ _ _ _ _ (λ is. never_ok is)
-    (edits_by g.D.Device _ _ _ _ _ gone.only gone.committed gone.catalog gone.agrees gone.open)
+    (edits_by g.D.Device _ _ _ _ _ gone.only gone.committed gone.catalog gone.agrees)

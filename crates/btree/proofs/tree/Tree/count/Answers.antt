@@ -11,7 +11,7 @@ returns-clause-count g c = counted_by g.D.Device c.args.pages.now c.args.device.
     c.self.inside.root c.page_count-page_count.result c.new-numbers.result.items c.push.new.self.items
     c.count_levels.result c.self.view_is c.if-self-eq0.false c.new-numbers.ensures.items c.in_ok-push.ensures.items
     c.page_count-page_count.ensures.pages c.page_count-page_count.ensures.count c.page_count-page_count.ensures.few
-    c.requires.open c.count_levels.ensures.told
+    c.count_levels.ensures.told
     c.count_levels.ensures.count
 
 pub returns-clause-damaged : goal.returns-clause-damaged
@@ -20,7 +20,7 @@ returns-clause-damaged g c = λ honest agrees is.
     c.self.inside.root c.page_count-page_count.result c.new-numbers.result.items c.push.new.self.items
     c.count_levels.result c.self.view_is c.if-self-eq0.false c.new-numbers.ensures.items c.in_ok-push.ensures.items
     c.page_count-page_count.ensures.pages c.page_count-page_count.ensures.count c.page_count-page_count.ensures.few
-    c.requires.open c.count_levels.ensures.told
+    c.count_levels.ensures.told
     is (λ h a levels few down deep. c.count_levels.ensures.damaged h a is levels few down deep) honest agrees
 
 pub returns-then-self-eq0-clause-only : goal.returns-then-self-eq0-clause-only

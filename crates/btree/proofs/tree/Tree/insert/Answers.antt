@@ -6,7 +6,6 @@ use Rattle.btree_pages.specs.declared.row_layout.RowLayout.{RowLayout}
 use Rattle.btree.specs.Changes.{pages_of_map, Inserts}
 use Rattle.btree.proofs.Frames.{false_unless}
 use Rattle.btree.proofs.NamedTrees.{same_holds}
-use Rattle.btree.proofs.Refused.{few_left}
 use Rattle.std.specs.Prelude.{IfErr, Ok}
 use Rattle.std.proofs.Common.{◌↔◌, true, ◌∙◌}
 use Rattle.pages.specs.declared.error.PagesError.TheVariants.{Device}
@@ -14,7 +13,7 @@ use Rattle.btree.specs.Refusals.{IsInsertRefusal}
 use Rattle.btree.proofs.Passing.{passed, never_ok, never_err, still_error}
 use Rattle.btree.proofs.Passing.{false_not_true}
 use Rattle.btree.specs.Calls.{EditsPages}
-use Rattle.btree.proofs.EditedPages.{edits_by, edits_where, few_named}
+use Rattle.btree.proofs.EditedPages.{edits_by, edits_where, takes_few, takes_few_ok}
 use Rattle.btree.proofs.tree.Tree.insert.Goals as goal
 
 pub returns-in_err-added-clause-damaged : goal.returns-in_err-added-clause-damaged
@@ -40,24 +39,6 @@ returns-in-Some-clause-inserted g c = λ honest agrees levels holds is.
     (subst (λ (f : RowLayout). Inserts f before levels after key value (Some c.in-Some.root)) c.layout-layout.ensures.is
     added)
 
-pub returns-in_err-added-clause-full : goal.returns-in_err-added-clause-full
-returns-in_err-added-clause-full g c = λ is.
-    let told = rw is at c.from_residual.ensures.1 in
-    c.in_err-added.ensures.full (cc told)
-
-pub returns-in_err-added-clause-room : goal.returns-in_err-added-clause-room
-returns-in_err-added-clause-room g c = λ honest agrees levels holds is.
-    let old = c.args.pages.now in
-    let before = pages_of_map old (g.D.Device.state c.args.device.now).disk.present in
-    let told = rw is at c.from_residual.ensures.1 in
-    let changed_pages = c.in_err-added.ensures.changed_pages honest agrees levels
-    (same_holds _ _ _ _ before levels c.layout-layout.ensures.is c.root-top.ensures holds) in
-    let full : c.insert_entry.result ≡ Err Full = cc told in
-    let unspent : is_spent old ≡ false = false_unless (is_spent old)
-    (λ was. let other : c.insert_entry.result ≡ Err Spent = c.insert_entry.ensures.spent.1 was in cc) in
-    few_left old c.insert_entry.new.pages 42 c.few_free.ensures c.insert_entry.ensures.open
-    c.insert_entry.ensures.committed unspent (c.insert_entry.ensures.full full) changed_pages
-
 pub returns-in-Some-clause-spent : goal.returns-in-Some-clause-spent
 returns-in-Some-clause-spent g c =
     (λ is. never_ok is, λ was. never_ok (sym c.in_ok-added.was ∙ c.insert_entry.ensures.spent.1 was))
@@ -65,24 +46,12 @@ returns-in-Some-clause-spent g c =
 pub returns-in-Some-clause-damaged : goal.returns-in-Some-clause-damaged
 returns-in-Some-clause-damaged g c = λ honest agrees is. never_ok is
 
-pub returns-in-Some-clause-full : goal.returns-in-Some-clause-full
-returns-in-Some-clause-full g c = λ is. never_ok is
-
-pub returns-in-Some-clause-room : goal.returns-in-Some-clause-room
-returns-in-Some-clause-room g c = λ honest agrees levels holds is. never_ok is
-
 pub returns-in-None-clause-spent : goal.returns-in-None-clause-spent
 returns-in-None-clause-spent g c =
     (λ is. never_ok is, λ was. never_ok (sym c.in_ok-added.was ∙ c.insert_entry.ensures.spent.1 was))
 
 pub returns-in-None-clause-damaged : goal.returns-in-None-clause-damaged
 returns-in-None-clause-damaged g c = λ honest agrees is. never_ok is
-
-pub returns-in-None-clause-full : goal.returns-in-None-clause-full
-returns-in-None-clause-full g c = λ is. never_ok is
-
-pub returns-in-None-clause-room : goal.returns-in-None-clause-room
-returns-in-None-clause-room g c = λ honest agrees levels holds is. never_ok is
 
 pub returns-in_err-added-clause-spent : goal.returns-in_err-added-clause-spent
 returns-in_err-added-clause-spent g c = passed c.from_residual.result c.in_err-added.field-0.0 c.from_residual.ensures.1
@@ -128,34 +97,42 @@ returns-in_err-added-clause-edits g c =
     (λ r. EditsPages g.D.Device (r ≡ Err Device) c.args.pages.now c.args.device.now c.insert_entry.new.pages
     c.insert_entry.new.device)
     (edits_where g.D.Device _ _ _ _ _ _ (λ is. still_error is)
-    (edits_by g.D.Device _ _ _ _ _ ins.only ins.committed ins.catalog ins.agrees ins.open))
+    (edits_by g.D.Device _ _ _ _ _ ins.only ins.committed ins.catalog ins.agrees))
 
 pub returns-in-Some-clause-edits : goal.returns-in-Some-clause-edits
 returns-in-Some-clause-edits g c =
     let ins = c.insert_entry.ensures in
     edits_where g.D.Device _ _ _ _ _ _ (λ is. never_ok is)
-    (edits_by g.D.Device _ _ _ _ _ ins.only ins.committed ins.catalog ins.agrees ins.open)
+    (edits_by g.D.Device _ _ _ _ _ ins.only ins.committed ins.catalog ins.agrees)
 
 pub returns-in-None-clause-edits : goal.returns-in-None-clause-edits
 returns-in-None-clause-edits g c =
     let ins = c.insert_entry.ensures in
     edits_where g.D.Device _ _ _ _ _ _ (λ is. never_ok is)
-    (edits_by g.D.Device _ _ _ _ _ ins.only ins.committed ins.catalog ins.agrees ins.open)
+    (edits_by g.D.Device _ _ _ _ _ ins.only ins.committed ins.catalog ins.agrees)
 
 pub returns-in_err-added-clause-few : goal.returns-in_err-added-clause-few
 returns-in_err-added-clause-few g c =
-    few_named g.D.Device 42 c.args.self.now c.layout-layout.result c.root-top.result c.args.pages.now
-    c.insert_entry.new.pages c.args.device.now c.layout-layout.ensures.is c.root-top.ensures
+    let old = c.args.pages.now in
+    takes_few g.D.Device 42 c.args.self.now c.layout-layout.result c.root-top.result old c.insert_entry.new.pages
+    c.args.device.now c.from_residual.result c.layout-layout.ensures.is c.root-top.ensures
     c.insert_entry.ensures.changed_pages c.insert_entry.ensures.filled
+    (λ is. let told = rw is at c.from_residual.ensures.1 in c.in_err-added.ensures.full (cc told))
+    (λ is.
+    let told = rw is at c.from_residual.ensures.1 in
+    let full : c.insert_entry.result ≡ Err Full = cc told in
+    false_unless (is_spent old)
+    (λ was. let other : c.insert_entry.result ≡ Err Spent = c.insert_entry.ensures.spent.1 was in cc))
+    c.few_free.ensures c.insert_entry.ensures.committed
 
 pub returns-in-Some-clause-few : goal.returns-in-Some-clause-few
 returns-in-Some-clause-few g c =
-    few_named g.D.Device 42 c.args.self.now c.layout-layout.result c.root-top.result c.args.pages.now
-    c.insert_entry.new.pages c.args.device.now c.layout-layout.ensures.is c.root-top.ensures
+    takes_few_ok g.D.Device 42 c.args.self.now c.layout-layout.result c.root-top.result c.args.pages.now
+    c.insert_entry.new.pages c.args.device.now true c.layout-layout.ensures.is c.root-top.ensures
     c.insert_entry.ensures.changed_pages c.insert_entry.ensures.filled
 
 pub returns-in-None-clause-few : goal.returns-in-None-clause-few
 returns-in-None-clause-few g c =
-    few_named g.D.Device 42 c.args.self.now c.layout-layout.result c.root-top.result c.args.pages.now
-    c.insert_entry.new.pages c.args.device.now c.layout-layout.ensures.is c.root-top.ensures
+    takes_few_ok g.D.Device 42 c.args.self.now c.layout-layout.result c.root-top.result c.args.pages.now
+    c.insert_entry.new.pages c.args.device.now false c.layout-layout.ensures.is c.root-top.ensures
     c.insert_entry.ensures.changed_pages c.insert_entry.ensures.filled

@@ -195,9 +195,6 @@ returns-in-None-clause-agrees g c = λ honest agrees. c.search_right.ensures.agr
     (c.search.ensures.only.honest.0 honest) (c.search.ensures.agrees honest
     (c.look_near.ensures.keeps.agrees (g.D.Device.state c.args.device.now).disk agrees))
 
-pub returns-then-look_near-clause-open : goal.returns-then-look_near-clause-open
-returns-then-look_near-clause-open g c = c.look_near.ensures.keeps.is_open c.requires.open
-
 pub returns-then-self-eq0-clause-damaged : goal.returns-then-self-eq0-clause-damaged
 returns-then-self-eq0-clause-damaged g c = λ honest agrees told. never_ok told.0
 
@@ -258,9 +255,10 @@ pub returns-in_err-right-clause-spent : goal.returns-in_err-right-clause-spent
 returns-in_err-right-clause-spent g c =
     passed c.from_residual-in_err-right.result c.in_err-right.field-0.0 c.from_residual-in_err-right.ensures.1
     (λ r. (r ≡ Err Spent) ↔ ((is_spent c.args.pages.now ≡ true) × (c.args.self.now.root ≢ 0))) (
-      λ is. let both = c.in_err-right.ensures.spent.0 (still_error is) in (
-        sym c.look_near.ensures.unchanged.committed.spent ∙ sym c.search.ensures.unchanged.committed.spent ∙ both.0,
-        both.1,
+      λ is. (
+        sym c.look_near.ensures.unchanged.committed.spent ∙ sym c.search.ensures.unchanged.committed.spent
+            ∙ c.in_err-right.ensures.spent.0 (still_error is),
+        λ none. c.if-self-eq0.false (ap (λ (t : RootedTree). t.root) c.self.view_is ∙ none),
       ),
       λ both. never_ok
           (sym c.in_ok-end.was ∙ c.search.ensures.spent.1 (c.look_near.ensures.unchanged.committed.spent ∙ both.0)),
@@ -329,10 +327,11 @@ pub search-requires-clause-sectors : goal.search-requires-clause-sectors
 search-requires-clause-sectors g c = sectors_on c.args.pages.now c.look_near.new.pages _ _
     c.look_near.ensures.keeps.committed.volume refl c.requires.sectors
 
-pub search-requires-clause-open : goal.search-requires-clause-open
-search-requires-clause-open g c = c.look_near.ensures.keeps.is_open c.requires.open
-
 pub search_right-requires-clause-sectors : goal.search_right-requires-clause-sectors
 search_right-requires-clause-sectors g c = sectors_on c.args.pages.now c.search.new.pages _ _
     (c.search.ensures.unchanged.committed.volume ∙ c.look_near.ensures.keeps.committed.volume)
     c.search.ensures.only.sectors c.requires.sectors
+
+pub search_right-requires-clause-root : goal.search_right-requires-clause-root
+search_right-requires-clause-root g c =
+    λ none. c.if-self-eq0.false (ap (λ (t : RootedTree). t.root) c.self.view_is ∙ none)

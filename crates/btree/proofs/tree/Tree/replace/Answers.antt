@@ -99,9 +99,6 @@ returns-clause-filled g c =
     let still = c.follow.ensures.unchanged.filled in
     omega (arith, few, count, still)
 
-pub replace_slowly-requires-clause-open : goal.replace_slowly-requires-clause-open
-replace_slowly-requires-clause-open g c = c.set_value_in.ensures.keeps.is_open c.follow.ensures.open
-
 pub replace_slowly-requires-clause-sectors : goal.replace_slowly-requires-clause-sectors
 replace_slowly-requires-clause-sectors g c = sectors_on c.args.pages.now c.set_value_in.new.pages _ _
     (c.set_value_in.ensures.keeps.committed.volume ∙ c.follow.ensures.unchanged.committed.volume)
@@ -249,7 +246,7 @@ returns-then-branch-clause-filled g c =
 pub returns-then-top-eq0-clause-edits : goal.returns-then-top-eq0-clause-edits
 returns-then-top-eq0-clause-edits g c =
     edits_where g.D.Device _ _ _ _ _ _ (λ is. never_ok is)
-    (edits_none g.D.Device c.args.pages.now c.args.device.now c.requires.open)
+    (edits_none g.D.Device c.args.pages.now c.args.device.now)
 
 pub returns-in_err-way-clause-edits : goal.returns-in_err-way-clause-edits
 returns-in_err-way-clause-edits g c =
@@ -258,7 +255,7 @@ returns-in_err-way-clause-edits g c =
     (λ r. EditsPages g.D.Device (r ≡ Err Device) c.args.pages.now c.args.device.now c.follow.new.pages
     c.follow.new.device)
     (edits_where g.D.Device _ _ _ _ _ _ (λ is. still_error is)
-    (edits_read g.D.Device _ _ _ _ _ way.only way.unchanged way.agrees way.open))
+    (edits_read g.D.Device _ _ _ _ _ way.only way.unchanged way.agrees))
 
 pub returns-in_err-set_value_in-clause-edits : goal.returns-in_err-set_value_in-clause-edits
 returns-in_err-set_value_in-clause-edits g c =
@@ -268,13 +265,13 @@ returns-in_err-set_value_in-clause-edits g c =
     (λ r. EditsPages g.D.Device (r ≡ Err Device) c.args.pages.now c.args.device.now c.set_value_in.new.pages
     c.follow.new.device)
     (edits_kept g.D.Device _ _ _ _ _ _ _ (λ is. put_not_device x c.in_err-set_value_in.ensures.cause is)
-    (edits_read g.D.Device _ _ _ _ _ way.only way.unchanged way.agrees way.open) c.set_value_in.ensures.keeps)
+    (edits_read g.D.Device _ _ _ _ _ way.only way.unchanged way.agrees) c.set_value_in.ensures.keeps)
 
 pub returns-then-branch-clause-edits : goal.returns-then-branch-clause-edits
 returns-then-branch-clause-edits g c =
     let way = c.follow.ensures in
     edits_kept g.D.Device _ _ _ _ _ _ _ (λ is. never_ok is)
-    (edits_read g.D.Device _ _ _ _ _ way.only way.unchanged way.agrees way.open) c.set_value_in.ensures.keeps
+    (edits_read g.D.Device _ _ _ _ _ way.only way.unchanged way.agrees) c.set_value_in.ensures.keeps
 
 pub returns-clause-edits : goal.returns-clause-edits
 returns-clause-edits g c =
@@ -282,5 +279,5 @@ returns-clause-edits g c =
     let slow = c.replace_slowly.ensures in
     edits_last g.D.Device _ _ _ _ _ _ _ _ _ (λ is. is)
     (edits_kept g.D.Device _ ⊥ _ _ _ _ _ (λ never. absurd never)
-    (edits_read g.D.Device _ _ _ _ _ way.only way.unchanged way.agrees way.open) c.set_value_in.ensures.keeps)
-    (edits_by g.D.Device _ _ _ _ _ slow.only slow.committed slow.catalog slow.agrees slow.open)
+    (edits_read g.D.Device _ _ _ _ _ way.only way.unchanged way.agrees) c.set_value_in.ensures.keeps)
+    (edits_by g.D.Device _ _ _ _ _ slow.only slow.committed slow.catalog slow.agrees)

@@ -89,9 +89,6 @@ returns-in_err-put_rest-clause-agrees g c =
     λ honest agrees. c.put_rest.ensures.keeps.agrees (g.D.Device.state c.descend.new.device).disk
     (c.descend.ensures.agrees honest agrees)
 
-pub returns-in_err-put_rest-clause-open : goal.returns-in_err-put_rest-clause-open
-returns-in_err-put_rest-clause-open g c = c.put_rest.ensures.keeps.is_open c.descend.ensures.open
-
 pub returns-in_err-put_rest-clause-changed_pages : goal.returns-in_err-put_rest-clause-changed_pages
 returns-in_err-put_rest-clause-changed_pages g c =
     subst (λ (l : List ℕ). length (changed_pages_of c.put_rest.new.pages) ≤ length l + 1)
@@ -110,9 +107,6 @@ pub returns-clause-agrees : goal.returns-clause-agrees
 returns-clause-agrees g c =
     λ honest agrees. c.put_rest.ensures.keeps.agrees (g.D.Device.state c.descend.new.device).disk
     (c.descend.ensures.agrees honest agrees)
-
-pub returns-clause-open : goal.returns-clause-open
-returns-clause-open g c = c.put_rest.ensures.keeps.is_open c.descend.ensures.open
 
 pub returns-clause-changed_pages : goal.returns-clause-changed_pages
 returns-clause-changed_pages g c = subst (λ (l : List ℕ). length (changed_pages_of c.put_rest.new.pages) ≤ length l + 1)

@@ -131,8 +131,8 @@ returns-clause-agrees g c = λ honest agrees. c.search_right.ensures.agrees (c.s
 pub returns-clause-spent : goal.returns-clause-spent
 returns-clause-spent g c = (
   λ is. (
-    sym c.search.ensures.unchanged.committed.spent ∙ (c.search_right.ensures.spent.0 is).0,
-    (c.search_right.ensures.spent.0 is).1,
+    sym c.search.ensures.unchanged.committed.spent ∙ c.search_right.ensures.spent.0 is,
+    λ none. c.if-self-eq0.false (ap (λ (t : RootedTree). t.root) c.self.view_is ∙ none),
   ),
   λ both. never_ok (sym c.in_ok-end.was ∙ c.search.ensures.spent.1 both.0),
 )
@@ -141,3 +141,7 @@ pub search_right-requires-clause-sectors : goal.search_right-requires-clause-sec
 search_right-requires-clause-sectors g c =
     sectors_on c.args.pages.now c.search.new.pages _ _ c.search.ensures.unchanged.committed.volume
     c.search.ensures.only.sectors c.requires.sectors
+
+pub search_right-requires-clause-root : goal.search_right-requires-clause-root
+search_right-requires-clause-root g c =
+    λ none. c.if-self-eq0.false (ap (λ (t : RootedTree). t.root) c.self.view_is ∙ none)

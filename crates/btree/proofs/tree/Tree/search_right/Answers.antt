@@ -1,4 +1,4 @@
-use Rattle.std.proofs.Common.{◌≡◌, Err, refl, sym, ap, subst, ◌∙◌}
+use Rattle.std.proofs.Common.{◌≡◌, Err, refl, sym, subst, ◌∙◌}
 use Rattle.std.specs.Prelude.{IfOk}
 use Rattle.std.proofs.lemmas.Result.{IfOk-weaker}
 use Rattle.pages.specs.declared.error.PagesError.TheVariants.{Damaged}
@@ -8,12 +8,12 @@ use Rattle.btree.specs.Results.{ReturnsDamaged}
 use Rattle.btree.specs.Rooted.{RootedTree}
 use Rattle.btree.specs.Entries.{entries_of_rows, first_entry}
 use Rattle.btree.specs.Propagates.{node_with}
-use Rattle.btree.proofs.Frames.{unchanged_on, rooted_tree}
+use Rattle.btree.proofs.Frames.{unchanged_on, root_there, rooted_tree}
 use Rattle.btree.proofs.Descending.{right_of}
 use Rattle.std.specs.Prelude.{IfErr}
-use Rattle.std.proofs.Common.{◌≢◌, ◌↔◌, inr, true}
+use Rattle.std.proofs.Common.{◌↔◌, inr, true}
 use Rattle.station.specs.Calls.{OnlyReads}
-use Rattle.station.proofs.Calls.{reads_then, reads_nothing}
+use Rattle.station.proofs.Calls.{reads_then}
 use Rattle.pages.specs.Pages.{is_spent}
 use Rattle.pages.specs.declared.error.PagesError.TheVariants.{Device, Spent}
 use Rattle.btree.specs.Reading.{IsSearchRefusal, NoneOfKind}
@@ -40,10 +40,20 @@ returns-in-None-clause-unchanged g c =
     c.entry_at.ensures.unchanged)
     c.right_entry.ensures.unchanged
 
+pub returns-in_err-way-clause-damaged : goal.returns-in_err-way-clause-damaged
+returns-in_err-way-clause-damaged g c = λ honest agrees told levels holds.
+    let tree = rooted_tree c.args.self.now c.self.inside.layout c.self.inside.root
+    (pages_on g.D.Device c.args.pages.now c.args.device.now) levels c.self.view_is
+    (root_there c.args.self.now _ _ c.self.view_is c.requires.root) holds in
+    let damaged = was_error c.from_residual.result c.follow.result c.in_err-way.field-0.0 Damaged
+    c.from_residual.ensures.1 c.in_err-way.was told in
+    c.follow.ensures.damaged honest agrees damaged levels tree
+
 pub returns-in_err-found-clause-damaged : goal.returns-in_err-found-clause-damaged
 returns-in_err-found-clause-damaged g c = λ honest agrees told levels holds.
     let tree = rooted_tree c.args.self.now c.self.inside.layout c.self.inside.root
-    (pages_on g.D.Device c.args.pages.now c.args.device.now) levels c.self.view_is c.if-self-eq0.false holds in
+    (pages_on g.D.Device c.args.pages.now c.args.device.now) levels c.self.view_is
+    (root_there c.args.self.now _ _ c.self.view_is c.requires.root) holds in
     let leads = c.in_ok-way.ensures.way honest agrees levels tree in
     let damaged = was_error c.from_residual-in_err-found.result c.entry_at.result c.in_err-found.field-0.0 Damaged
     c.from_residual-in_err-found.ensures.1 c.in_err-found.was told in
@@ -57,14 +67,16 @@ returns-in-Some-clause-entry g c =
     let way = c.in_ok-way.way in
     found_by g.D.Device _ c.args.pages.now c.follow.new.pages c.args.device.now c.follow.new.device c.args.self.now
     c.self.inside.layout c.self.inside.root c.args.key.now way.path.items way.page way.right c.args.sought
-    c.in_ok-found.field-0 c.in-Some.found c.self.view_is c.if-self-eq0.false c.follow.ensures.unchanged
+    c.in_ok-found.field-0 c.in-Some.found c.self.view_is (root_there c.args.self.now _ _ c.self.view_is c.requires.root)
+    c.follow.ensures.unchanged
     c.follow.ensures.only c.follow.ensures.agrees c.in_ok-way.ensures.way c.in-Some.is c.in_ok-found.ensures.entry
 
 pub returns-in-None-clause-entry : goal.returns-in-None-clause-entry
 returns-in-None-clause-entry g c = λ honest agrees levels holds.
     let way = c.in_ok-way.way in
     let tree = rooted_tree c.args.self.now c.self.inside.layout c.self.inside.root
-    (pages_on g.D.Device c.args.pages.now c.args.device.now) levels c.self.view_is c.if-self-eq0.false holds in
+    (pages_on g.D.Device c.args.pages.now c.args.device.now) levels c.self.view_is
+    (root_there c.args.self.now _ _ c.self.view_is c.requires.root) holds in
     let said = right_of g.D.Device c.args.pages.now c.follow.new.pages c.entry_at.new.pages c.args.device.now
     c.follow.new.device c.entry_at.new.device _ c.args.self.now c.args.key.now levels way.path.items way.page way.right
     c.args.sought c.in_ok-found.field-0 (λ after. IfOk c.right_entry.result (λ entry. entry
@@ -79,7 +91,8 @@ pub returns-in-None-clause-damaged : goal.returns-in-None-clause-damaged
 returns-in-None-clause-damaged g c = λ honest agrees told levels holds.
     let way = c.in_ok-way.way in
     let tree = rooted_tree c.args.self.now c.self.inside.layout c.self.inside.root
-    (pages_on g.D.Device c.args.pages.now c.args.device.now) levels c.self.view_is c.if-self-eq0.false holds in
+    (pages_on g.D.Device c.args.pages.now c.args.device.now) levels c.self.view_is
+    (root_there c.args.self.now _ _ c.self.view_is c.requires.root) holds in
     (right_of g.D.Device c.args.pages.now c.follow.new.pages c.entry_at.new.pages c.args.device.now
     c.follow.new.device c.entry_at.new.device _ c.args.self.now c.args.key.now levels way.path.items way.page way.right
     c.args.sought c.in_ok-found.field-0 (λ after. ⊥)
@@ -87,10 +100,6 @@ returns-in-None-clause-damaged g c = λ honest agrees told levels holds.
     c.entry_at.ensures.unchanged c.entry_at.ensures.only c.entry_at.ensures.agrees c.in-None.is
     c.in_ok-found.ensures.entry (λ h a. c.right_entry.ensures.damaged h a told) honest agrees tree
     (c.in_ok-way.ensures.way honest agrees levels tree)).1
-
-pub returns-then-self-eq0-clause-only : goal.returns-then-self-eq0-clause-only
-returns-then-self-eq0-clause-only g c =
-    reads_where g.D.Device _ _ _ _ (λ is. never_ok is) (reads_nothing g.D.Device c.args.device.now)
 
 pub returns-in_err-way-clause-only : goal.returns-in_err-way-clause-only
 returns-in_err-way-clause-only g c = passed c.from_residual.result c.in_err-way.field-0.0 c.from_residual.ensures.1
@@ -126,47 +135,6 @@ returns-in-None-clause-agrees g c = λ honest agrees.
     c.right_entry.ensures.agrees (c.entry_at.ensures.only.honest.0 (c.follow.ensures.only.honest.0 honest))
     (c.entry_at.ensures.agrees (c.follow.ensures.only.honest.0 honest) (c.follow.ensures.agrees honest agrees))
 
-pub returns-then-self-eq0-clause-spent : goal.returns-then-self-eq0-clause-spent
-returns-then-self-eq0-clause-spent g c = (
-  λ is. never_ok is,
-  λ both. absurd (both.1 (sym (ap (λ (t : RootedTree). t.root) c.self.view_is) ∙ c.if-self-eq0.true)),
-)
-
-pub returns-in_err-way-clause-spent : goal.returns-in_err-way-clause-spent
-returns-in_err-way-clause-spent g c = passed c.from_residual.result c.in_err-way.field-0.0 c.from_residual.ensures.1
-    (λ r. (r ≡ Err Spent) ↔ ((is_spent c.args.pages.now ≡ true) × (c.args.self.now.root ≢ 0))) (
-      λ is. (
-        c.in_err-way.ensures.spent.0 (still_error is),
-        λ none. c.if-self-eq0.false (ap (λ (t : RootedTree). t.root) c.self.view_is ∙ none),
-      ),
-      λ both. still_error (c.in_err-way.ensures.spent.1 both.0),
-    )
-
-pub returns-in_err-found-clause-spent : goal.returns-in_err-found-clause-spent
-returns-in_err-found-clause-spent g c =
-    passed c.from_residual-in_err-found.result c.in_err-found.field-0.0 c.from_residual-in_err-found.ensures.1
-    (λ r. (r ≡ Err Spent) ↔ ((is_spent c.args.pages.now ≡ true) × (c.args.self.now.root ≢ 0))) (
-      λ is. (
-        sym c.follow.ensures.unchanged.committed.spent ∙ c.in_err-found.ensures.spent.0 (still_error is),
-        λ none. c.if-self-eq0.false (ap (λ (t : RootedTree). t.root) c.self.view_is ∙ none),
-      ),
-      λ both. never_ok (sym c.in_ok-way.was ∙ c.follow.ensures.spent.1 both.0),
-    )
-
-pub returns-in-Some-clause-spent : goal.returns-in-Some-clause-spent
-returns-in-Some-clause-spent g c =
-    (λ is. never_ok is, λ both. never_ok (sym c.in_ok-way.was ∙ c.follow.ensures.spent.1 both.0))
-
-pub returns-in-None-clause-spent : goal.returns-in-None-clause-spent
-returns-in-None-clause-spent g c = (
-  λ is. (
-    sym (c.entry_at.ensures.unchanged.committed.spent ∙ c.follow.ensures.unchanged.committed.spent)
-        ∙ c.right_entry.ensures.spent is,
-    λ none. c.if-self-eq0.false (ap (λ (t : RootedTree). t.root) c.self.view_is ∙ none),
-  ),
-  λ both. never_ok (sym c.in_ok-way.was ∙ c.follow.ensures.spent.1 both.0),
-)
-
 pub returns-in_err-way-clause-cause : goal.returns-in_err-way-clause-cause
 returns-in_err-way-clause-cause g c = passed c.from_residual.result c.in_err-way.field-0.0 c.from_residual.ensures.1
     (λ r. IfErr r (IsSearchRefusal c.args.self.now.layout))
@@ -179,9 +147,6 @@ returns-in_err-found-clause-cause g c =
     (λ r. IfErr r (IsSearchRefusal c.args.self.now.layout))
     (read_is_search c.args.self.now.layout c.in_err-found.field-0.0 c.in_err-found.ensures.cause)
 
-pub returns-then-self-eq0-clause-damaged : goal.returns-then-self-eq0-clause-damaged
-returns-then-self-eq0-clause-damaged g c = λ honest agrees is. never_ok is
-
 pub returns-in-Some-clause-damaged : goal.returns-in-Some-clause-damaged
 returns-in-Some-clause-damaged g c = λ honest agrees is. never_ok is
 
@@ -189,7 +154,33 @@ pub entry_at-requires-clause-sectors : goal.entry_at-requires-clause-sectors
 entry_at-requires-clause-sectors g c = sectors_on c.args.pages.now c.follow.new.pages _ _
     c.follow.ensures.unchanged.committed.volume c.follow.ensures.only.sectors c.requires.sectors
 
-pub right_entry-requires-clause-sectors : goal.right_entry-requires-clause-sectors
-right_entry-requires-clause-sectors g c = sectors_on c.args.pages.now c.entry_at.new.pages _ _
-    (c.entry_at.ensures.unchanged.committed.volume ∙ c.follow.ensures.unchanged.committed.volume)
-    (c.entry_at.ensures.only.sectors ∙ c.follow.ensures.only.sectors) c.requires.sectors
+pub right_entry-requires : goal.right_entry-requires
+right_entry-requires g c = record {
+  sectors = sectors_on c.args.pages.now c.entry_at.new.pages _ _
+      (c.entry_at.ensures.unchanged.committed.volume ∙ c.follow.ensures.unchanged.committed.volume)
+      (c.entry_at.ensures.only.sectors ∙ c.follow.ensures.only.sectors) c.requires.sectors;
+}
+
+pub returns-in_err-way-clause-spent : goal.returns-in_err-way-clause-spent
+returns-in_err-way-clause-spent g c = passed c.from_residual.result c.in_err-way.field-0.0 c.from_residual.ensures.1
+    (λ r. (r ≡ Err Spent) ↔ (is_spent c.args.pages.now ≡ true))
+    (λ is. c.in_err-way.ensures.spent.0 (still_error is), λ is. still_error (c.in_err-way.ensures.spent.1 is))
+
+pub returns-in_err-found-clause-spent : goal.returns-in_err-found-clause-spent
+returns-in_err-found-clause-spent g c =
+    passed c.from_residual-in_err-found.result c.in_err-found.field-0.0 c.from_residual-in_err-found.ensures.1
+    (λ r. (r ≡ Err Spent) ↔ (is_spent c.args.pages.now ≡ true)) (
+      λ is. sym c.follow.ensures.unchanged.committed.spent ∙ c.in_err-found.ensures.spent.0 (still_error is),
+      λ is. never_ok (sym c.in_ok-way.was ∙ c.follow.ensures.spent.1 is),
+    )
+
+pub returns-in-Some-clause-spent : goal.returns-in-Some-clause-spent
+returns-in-Some-clause-spent g c =
+    (λ is. never_ok is, λ is. never_ok (sym c.in_ok-way.was ∙ c.follow.ensures.spent.1 is))
+
+pub returns-in-None-clause-spent : goal.returns-in-None-clause-spent
+returns-in-None-clause-spent g c = (
+  λ is. sym (c.entry_at.ensures.unchanged.committed.spent ∙ c.follow.ensures.unchanged.committed.spent)
+      ∙ c.right_entry.ensures.spent is,
+  λ is. never_ok (sym c.in_ok-way.was ∙ c.follow.ensures.spent.1 is),
+)

@@ -2,7 +2,7 @@ use Rattle.std.proofs.Common.{rules, ◌≡◌, List, sym, subst}
 use Rattle.std.specs.Prelude.{IfOk, OnOk}
 use Rattle.std.specs.Option.{option_map}
 use Rattle.records.specs.Rows.{Row}
-use Rattle.records.specs.Stores.{spec_of, bound_at, record_of}
+use Rattle.records.specs.Stores.{spec_of, bound_of, record_of}
 use Rattle.records.specs.Order.{sought_row, found_row as told}
 use Rattle.half_store.proofs.Committed.{held_rows, held_ascend, held_records}
 use Rattle.half_store.proofs.store_calls.HalfStoreStore.seek.Goals as goal
@@ -19,7 +19,7 @@ returns-in-Some-clause-found g c = λ files held stands has.
     let rows = held_rows stands.there c.in-Some.place has c.deref.ensures.value c.deref-2.ensures.value c.index.ensures
     (c.in-Some.ensures.found c.index.result.now) c.deref-in-Some.ensures.value in
     let spec = spec_of c.args.file.now in
-    let b = bound_at c.args.side c.args.value.now c.args.number in
+    let b = bound_of c.args.bound in
     subst (λ (l : List Row). IfOk c.seek_in.result (λ answer. answer
     ≡ option_map (told spec c.args.key l) (sought_row spec c.args.key b l))) (sym rows)
     (c.seek_in.ensures.found (held_ascend stands.there _ has rows))
@@ -29,7 +29,7 @@ returns-in-Some-clause-bytes g c = λ files held stands has.
     let rows = held_rows stands.there c.in-Some.place has c.deref.ensures.value c.deref-2.ensures.value c.index.ensures
     (c.in-Some.ensures.found c.index.result.now) c.deref-in-Some.ensures.value in
     let spec = spec_of c.args.file.now in
-    let b = bound_at c.args.side c.args.value.now c.args.number in
+    let b = bound_of c.args.bound in
     subst (λ (l : List Row). OnOk c.seek_in.result (c.seek_in.new.bytes
     ≡ record_of c.args.bytes.now (sought_row spec c.args.key b l))) (sym rows)
     (c.seek_in.ensures.bytes (held_ascend stands.there _ has rows))

@@ -1,11 +1,20 @@
 use Rattle.std.proofs.Common.{refl}
-use Rattle.pages.proofs.Keeping.{keeps_change}
+use Rattle.pages.proofs.Keeping.{keeps_change, ready_after}
 use Rattle.pages.proofs.page_map.PageMap.change.Goals as goal
+
+pub invariant_of-self-2 : goal.invariant_of-self-2
+invariant_of-self-2 c = record {
+  ready = λ unspent.
+      let self = c.args.self.now in
+      let set = c.set_change.ensures in
+      ready_after self.volume self.changes.items self.changes.items c.set_change.new.changes.items self.places
+      c.set_change.new.places self.mark c.args.page c.set_change.result (self.ready unspent) refl c.requires.page.1
+      set.bounds set.once set.err set.placed;
+}
 
 pub returns-clause-keeps : goal.returns-clause-keeps
 returns-clause-keeps c =
     let set = c.in_ok-set_change.ensures in
     let left = c.forget_page.ensures in
     keeps_change c.args.self.now _ c.args.self.now.changes.items c.args.page
-    (record { volume = refl; mark = refl; spent = refl }) refl refl c.requires.page.1 set.bounds set.once set.placed
-    set.changes_page left.valid.0 left.entries
+    (record { volume = refl; mark = refl; spent = refl }) refl refl set.changes_page left.valid.0 left.entries

@@ -38,7 +38,7 @@ gathered : (g : Over) (c : goal.After-self-2-1 g) (image : List Sector)
     → Gathers (changed_pages c.args.self.now.changes.items) (pages_after (pages_in image c.args.self.now.volume.table)
     c.args.self.now.changes.items) c.args.self.now.cache c.keep_changes.new.cache
 gathered g c image =
-    let ready = c.requires.open c.if-self.false in
+    let ready = c.args.self.now.ready c.if-self.false in
     let table = c.args.self.now.volume.table in
     let changes = c.args.self.now.changes.items in
     let same : c.replace-changes.result.items ≡ changes =

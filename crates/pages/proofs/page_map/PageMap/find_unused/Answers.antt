@@ -8,7 +8,7 @@ use Rattle.pages.proofs.page_map.PageMap.find_unused.Goals as goal
 
 pub unused_page-requires : goal.unused_page-requires
 unused_page-requires c =
-    let ready = c.requires c.if-self.false in
+    let ready = c.args.self.now.ready c.if-self.false in
     let sound = ready.sound in
     let maps : length c.args.self.now.volume.maps.items ≡ (c.args.self.now.volume.sectors + 1023) / 1024 =
     sound.maps_count in

@@ -16,7 +16,7 @@ there image table changes page = get_or (list_after (λ (o : Option Sector). o) 
 
 pub returns-then-page-eq0 : goal.returns-then-page-eq0
 returns-then-page-eq0 c = λ image.
-    let ready = c.requires.open c.requires.unspent in
+    let ready = c.args.self.now.ready c.requires.unspent in
     let table = c.args.self.now.volume.table in
     let changes = c.args.self.now.changes.items in
     let none : get_or (mapped_after table changes) 0 false ≡ false =

@@ -11,13 +11,13 @@ use Rattle.pages.proofs.page_map.PageMap.load.Given.{Over}
 use Rattle.pages.proofs.page_map.PageMap.load.Goals as goal
 
 -- the page wasn't changed
-away : (g : Over) (c : goal.After-load_page g) → Away c.args.page c.args.self.now.changes.items
+away : (g : Over) (c : goal.After-self-2-1 g) → Away c.args.page c.args.self.now.changes.items
 away g c = subst (Away c.args.page) c.deref.ensures.value (none_found c.find_change.result
     (Away c.args.page c.deref.result.now) (sym c.is_some.ensures ∙ c.if-is_some.false) c.find_change.ensures.absent)
 
 pub load_page-requires : goal.load_page-requires
 load_page-requires g c = table_fits c.args.self.now c.entries.result.now (g.D.Device.sectors c.args.device.now)
-    (c.requires.open c.if-self.false) c.entries.ensures c.requires.sectors
+    (c.args.self.now.ready c.if-self.false) c.entries.ensures c.requires.sectors
 
 pub returns-clause-agrees : goal.returns-clause-agrees
 returns-clause-agrees g c = λ honest agrees.
@@ -29,16 +29,6 @@ returns-clause-agrees g c = λ honest agrees.
           c.load_page.new.cache.entries _ _ c.entries.ensures same agrees.cache
           (c.load_page.ensures.right changed (away_changed c.args.self.now.changes.items c.args.page (away g c))
           honest);
-    }
-
-pub returns-clause-open : goal.returns-clause-open
-returns-clause-open g c = λ unspent. let ready = c.requires.open unspent in
-    record {
-      sound = ready.sound;
-      pages = ready.pages;
-      once = ready.once;
-      placed = ready.placed;
-      mark = ready.mark;
     }
 
 pub returns-clause-changed : goal.returns-clause-changed

@@ -11,13 +11,13 @@ use Rattle.pages.proofs.page_map.PageMap.read.Goals as goal
 
 pub recall_page-requires : goal.recall_page-requires
 recall_page-requires g c = table_fits c.args.self.now c.entries.result.now (g.D.Device.sectors c.args.device.now)
-    (c.requires.open c.if-self.false) c.entries.ensures c.requires.sectors
+    (c.args.self.now.ready c.if-self.false) c.entries.ensures c.requires.sectors
 
 pub returns-in-Some-clause-page : goal.returns-in-Some-clause-page
 returns-in-Some-clause-page g c = λ honest agrees. c.bytes.ensures
     ∙ changed_bytes (g.D.Device.state c.args.device.now).disk.present c.args.self.now c.deref.result.now c.args.page
-    c.in-Some.i c.index.result.now (c.requires.open c.if-self.false) c.deref.ensures.value c.in-Some.ensures.found.0
-    c.in-Some.ensures.found.1 c.index.ensures
+    c.in-Some.i c.index.result.now (c.args.self.now.ready c.if-self.false) c.deref.ensures.value
+    c.in-Some.ensures.found.0 c.in-Some.ensures.found.1 c.index.ensures
 
 pub returns-in-None-clause-page : goal.returns-in-None-clause-page
 returns-in-None-clause-page g c = λ honest agrees.

@@ -10,12 +10,12 @@ use Rattle.pages.proofs.page_map.PageMap.read_past.Goals as goal
 
 pub fetch_page-requires : goal.fetch_page-requires
 fetch_page-requires g c = table_fits c.args.self.now c.entries.result.now (g.D.Device.sectors c.args.device.now)
-    (c.requires.open c.if-self.false) c.entries.ensures c.requires.sectors
+    (c.args.self.now.ready c.if-self.false) c.entries.ensures c.requires.sectors
 
 pub returns-in-Some-clause-page : goal.returns-in-Some-clause-page
 returns-in-Some-clause-page g c = λ honest agrees.
     sym (c.view.ensures ∙ changed_bytes (g.D.Device.state c.args.device.now).disk.present c.args.self.now
-    c.deref.result.now c.args.page c.in-Some.i c.index.result.now (c.requires.open c.if-self.false)
+    c.deref.result.now c.args.page c.in-Some.i c.index.result.now (c.args.self.now.ready c.if-self.false)
     c.deref.ensures.value c.in-Some.ensures.found.0 c.in-Some.ensures.found.1 c.index.ensures)
     ∙ c.copy_page.ensures.copied
 

@@ -12,7 +12,7 @@ use Rattle.pages.proofs.page_map.PageMap.view.Goals as goal
 changed_page : (c : goal.After-view) (image : List Sector)
     → option_copied c.view.result ≡ page_of (map_now c.args.self.now image) c.args.page
 changed_page c image = c.view.ensures ∙ changed_bytes image c.args.self.now c.deref.result.now c.args.page c.in-Some.i
-    c.index.result.now (c.requires c.if-self.false) c.deref.ensures.value c.in-Some.ensures.found.0
+    c.index.result.now (c.args.self.now.ready c.if-self.false) c.deref.ensures.value c.in-Some.ensures.found.0
     c.in-Some.ensures.found.1 c.index.ensures
 
 pub returns-in-Some-clause-changed : goal.returns-in-Some-clause-changed

@@ -41,8 +41,8 @@ returns-in_err-value-clause-looks g c =
     (λ r. LooksAt g.D.Device (r ≡ Err Device) c.args.pages.now c.args.device.now c.get.new.pages
     c.read_record.new.device)
     (looks_then g.D.Device _ _ _ _ _ _ _ _ _ (λ is. inr (still_error is))
-    (looks_by g.D.Device _ _ _ _ _ got.only got.unchanged got.agrees got.open)
-    (looks_past g.D.Device _ _ _ _ read.only got.open))
+    (looks_by g.D.Device _ _ _ _ _ got.only got.unchanged got.agrees)
+    (looks_past g.D.Device _ _ _ _ read.only))
 
 pub returns-in_err-value-clause-damaged : goal.returns-in_err-value-clause-damaged
 returns-in_err-value-clause-damaged g c = λ honest agrees planted is told.
@@ -52,7 +52,7 @@ returns-in_err-value-clause-damaged g c = λ honest agrees planted is told.
     let got = c.get.ensures in
     read_whole g.D.Device _ c.args.pages.now c.get.new.pages c.args.device.now c.get.new.device view planted
     c.args.key.now c.in_ok-entry.field-0 c.in-Some.entry c.self.inside.record_bytes c.first_page-first.result _
-    (looks_by g.D.Device _ _ _ _ _ got.only got.unchanged got.agrees got.open) c.read_record.ensures.damaged
+    (looks_by g.D.Device _ _ _ _ _ got.only got.unchanged got.agrees) c.read_record.ensures.damaged
     refl (c.first_page-first.ensures ∙ ap (big_number 4) c.value.ensures) c.if-self-eq0.false
     c.in-Some.is honest agrees (subst (λ (t : ChainedTree). IsRowTree pages t planted) (sym c.self.view_is) is)
     (c.in_ok-entry.ensures.entry honest agrees)
@@ -65,22 +65,22 @@ returns-in_err-extend_from_slice-clause-looks g c =
     let read = c.read_record.ensures in
     looks_then g.D.Device _ _ _ _ _ _ _ _ _
     (λ is. inr (never_device _ c.from_residual-in_err-extend_from_slice.ensures.1 is))
-    (looks_by g.D.Device _ _ _ _ _ got.only got.unchanged got.agrees got.open)
-    (looks_past g.D.Device _ _ _ _ read.only got.open)
+    (looks_by g.D.Device _ _ _ _ _ got.only got.unchanged got.agrees)
+    (looks_past g.D.Device _ _ _ _ read.only)
 
 pub returns-clause-looks : goal.returns-clause-looks
 returns-clause-looks g c =
     let got = c.get.ensures in
     let read = c.read_record.ensures in
     looks_then g.D.Device _ _ _ _ _ _ _ _ _ (λ is. never_ok is)
-    (looks_by g.D.Device _ _ _ _ _ got.only got.unchanged got.agrees got.open)
-    (looks_past g.D.Device _ _ _ _ read.only got.open)
+    (looks_by g.D.Device _ _ _ _ _ got.only got.unchanged got.agrees)
+    (looks_past g.D.Device _ _ _ _ read.only)
 
 pub returns-clause-row : goal.returns-clause-row
 returns-clause-row g c =
     let got = c.get.ensures in
     let bytes = c.in_ok-value.value.items in
-    found_long g.D.Device (looks_by g.D.Device _ _ _ _ _ got.only got.unchanged got.agrees got.open) c.self.view_is
+    found_long g.D.Device (looks_by g.D.Device _ _ _ _ _ got.only got.unchanged got.agrees) c.self.view_is
     c.in_ok-entry.ensures.entry c.in-Some.is c.if-self-eq0.false c.in_ok-value.ensures.long
     (c.first_page-first.ensures ∙ ap (big_number 4) c.value.ensures)
     (value_made bytes c.value-2.result.now _ _ c.in_ok-extend_from_slice.ensures.items c.value-2.ensures)

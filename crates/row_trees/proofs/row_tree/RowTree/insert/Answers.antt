@@ -4,8 +4,8 @@ use Rattle.pages.specs.Pages.{changed_pages_of}
 use Rattle.pages.specs.declared.error.PagesError.TheVariants.{Device}
 use Rattle.btree.specs.Changes.{pages_of_map}
 use Rattle.btree.specs.Refusals.{IsInsertRefusal}
-use Rattle.btree.proofs.Passing.{passed, never_ok, still_error, few_weaker, few_equal, write_not_device}
-use Rattle.btree.proofs.Passing.{committed_on, search_is_insert, write_is_insert, damaged_not_device}
+use Rattle.btree.proofs.Passing.{passed, never_ok, never_err, still_error, few_weaker, few_equal, write_not_device}
+use Rattle.btree.proofs.Passing.{false_not_true, committed_on, search_is_insert, write_is_insert, damaged_not_device}
 use Rattle.row_trees.specs.Calls.{EditsPages}
 use Rattle.row_trees.specs.RowTree.{ChainedTree}
 use Rattle.row_trees.proofs.Among.{chained, viewed, same_chained, stands_among}
@@ -13,38 +13,20 @@ use Rattle.row_trees.proofs.Calling.{looks_by, looks_edits, edits_where, edits_l
 use Rattle.row_trees.proofs.Calling.{refused_by_call}
 use Rattle.row_trees.proofs.LaidRows.{LaysRecord, laid_few, laid_room, laid_never, laid_missing, inserted_on, room_laid}
 use Rattle.row_trees.proofs.Passing.{search_not_full, write_not_damaged, on_err, full_unspent, few_laid, few_first}
-use Rattle.row_trees.proofs.Passing.{room_weaker}
-use Rattle.row_trees.proofs.Short.{inserted_short, some_seen}
+use Rattle.row_trees.proofs.Passing.{never_answered, room_weaker}
+use Rattle.row_trees.proofs.Short.{short_insertion, some_seen}
 use Rattle.row_trees.proofs.row_tree.RowTree.insert.Given.{Over}
 use Rattle.row_trees.proofs.row_tree.RowTree.insert.Goals as goal
 use Rattle.row_trees.proofs.row_tree.RowTree.insert.Goals.{After-insert-2}
 
 -- The tree has its records itself.
-pub returns-then-self-eq0-clause-inserted : goal.returns-then-self-eq0-clause-inserted
-returns-then-self-eq0-clause-inserted g c = λ honest agrees left right entries is ok.
-    let image = (g.D.Device.state c.args.device.now).disk.present in
-    let before = pages_of_map c.args.pages.now image in
-    let view = chained c.self.inside.tree c.self.inside.record_bytes in
-    let own = viewed before left right view _ entries c.self.view_is is in
-    inserted_short before (pages_of_map c.insert.new.pages image) left right view _ entries own c.args.key.now
-    c.args.value.now c.if-self-eq0.true c.insert.ensures.layout refl (c.insert.ensures.inserted honest agrees
-    own.planted.levels (stands_among before left right view entries own).tree ok)
-
-pub returns-then-self-eq0-clause-there : goal.returns-then-self-eq0-clause-there
-returns-then-self-eq0-clause-there g c = λ honest agrees left right entries is no.
-    let before = pages_of_map c.args.pages.now (g.D.Device.state c.args.device.now).disk.present in
-    let view = chained c.self.inside.tree c.self.inside.record_bytes in
-    let own = viewed before left right view _ entries c.self.view_is is in
-    some_seen before left right view entries own c.args.key.now (c.insert.ensures.there honest agrees
-    own.planted.levels (stands_among before left right view entries own).tree no)
-
-pub returns-then-self-eq0-clause-damaged : goal.returns-then-self-eq0-clause-damaged
-returns-then-self-eq0-clause-damaged g c = λ honest agrees left right entries is told.
-    let before = pages_of_map c.args.pages.now (g.D.Device.state c.args.device.now).disk.present in
-    let view = chained c.self.inside.tree c.self.inside.record_bytes in
-    let own = viewed before left right view _ entries c.self.view_is is in
-    c.insert.ensures.damaged honest agrees told own.planted.levels
-    (stands_among before left right view entries own).tree
+pub returns-then-self-eq0-clause-answers : goal.returns-then-self-eq0-clause-answers
+returns-then-self-eq0-clause-answers g c =
+    short_insertion g.D.Device c.args.pages.now c.insert.new.pages c.args.device.now
+    (chained c.self.inside.tree c.self.inside.record_bytes) c.args.self.now
+    (chained c.insert.new.self c.self.inside.record_bytes) c.args.key.now c.args.value.now c.insert.result
+    c.self.view_is c.if-self-eq0.true c.insert.ensures.layout refl c.insert.ensures.inserted c.insert.ensures.there
+    c.insert.ensures.damaged
 
 pub returns-then-self-eq0-clause-changed_pages : goal.returns-then-self-eq0-clause-changed_pages
 returns-then-self-eq0-clause-changed_pages g c = λ honest agrees left right entries is.
@@ -59,7 +41,7 @@ returns-then-self-eq0-clause-room g c = λ honest agrees left right entries is f
     let before = pages_of_map c.args.pages.now (g.D.Device.state c.args.device.now).disk.present in
     let view = chained c.self.inside.tree c.self.inside.record_bytes in
     let own = viewed before left right view _ entries c.self.view_is is in
-    room_weaker _ _ 42 _ (c.insert.ensures.room honest agrees own.planted.levels
+    room_weaker _ _ 42 _ (c.insert.ensures.few.room honest agrees own.planted.levels
     (stands_among before left right view entries own).tree full)
 
 pub returns-then-self-eq0-clause-same : goal.returns-then-self-eq0-clause-same
@@ -80,15 +62,20 @@ returns-in_err-held-clause-edits g c =
     passed c.from_residual.result c.in_err-held.field-0.0 c.from_residual.ensures.1
     (λ r. EditsPages g.D.Device (r ≡ Err Device) c.args.pages.now c.args.device.now c.get.new.pages c.get.new.device)
     (edits_where g.D.Device _ _ _ _ _ _ (λ is. still_error is)
-    (looks_edits g.D.Device _ _ _ _ _ (looks_by g.D.Device _ _ _ _ _ got.only got.unchanged got.agrees got.open)))
+    (looks_edits g.D.Device _ _ _ _ _ (looks_by g.D.Device _ _ _ _ _ got.only got.unchanged got.agrees)))
 
-pub returns-in_err-held-clause-damaged : goal.returns-in_err-held-clause-damaged
-returns-in_err-held-clause-damaged g c = λ honest agrees left right entries is told.
-    let before = pages_of_map c.args.pages.now (g.D.Device.state c.args.device.now).disk.present in
-    let view = chained c.self.inside.tree c.self.inside.record_bytes in
-    let own = viewed before left right view _ entries c.self.view_is is in
-    c.get.ensures.damaged honest agrees (refused_by_call c.in_err-held.was c.from_residual.ensures.1 told)
-    own.planted.levels (stands_among before left right view entries own).tree
+pub returns-in_err-held-clause-answers : goal.returns-in_err-held-clause-answers
+returns-in_err-held-clause-answers g c = let residual = c.from_residual in
+    record {
+      inserted = λ honest agrees left right entries is ok. never_answered residual.result _ residual.ensures.1 ok;
+      there = λ honest agrees left right entries is no. never_answered residual.result _ residual.ensures.1 no;
+      damaged = λ honest agrees left right entries is told.
+          let before = pages_of_map c.args.pages.now (g.D.Device.state c.args.device.now).disk.present in
+          let view = chained c.self.inside.tree c.self.inside.record_bytes in
+          let own = viewed before left right view _ entries c.self.view_is is in
+          c.get.ensures.damaged honest agrees (refused_by_call c.in_err-held.was residual.ensures.1 told)
+          own.planted.levels (stands_among before left right view entries own).tree;
+    }
 
 pub returns-in_err-held-clause-changed_pages : goal.returns-in_err-held-clause-changed_pages
 returns-in_err-held-clause-changed_pages g c = λ honest agrees left right entries is.
@@ -109,16 +96,20 @@ pub returns-then-is_some-clause-edits : goal.returns-then-is_some-clause-edits
 returns-then-is_some-clause-edits g c =
     let got = c.get.ensures in
     edits_where g.D.Device _ _ _ _ _ _ (λ is. never_ok is)
-    (looks_edits g.D.Device _ _ _ _ _ (looks_by g.D.Device _ _ _ _ _ got.only got.unchanged got.agrees got.open))
+    (looks_edits g.D.Device _ _ _ _ _ (looks_by g.D.Device _ _ _ _ _ got.only got.unchanged got.agrees))
 
-pub returns-then-is_some-clause-there : goal.returns-then-is_some-clause-there
-returns-then-is_some-clause-there g c = λ honest agrees left right entries is no.
-    let before = pages_of_map c.args.pages.now (g.D.Device.state c.args.device.now).disk.present in
-    let view = chained c.self.inside.tree c.self.inside.record_bytes in
-    let own = viewed before left right view _ entries c.self.view_is is in
-    some_seen before left right view entries own c.args.key.now (subst IsSome (c.in_ok-held.ensures.entry honest agrees
-    own.planted.levels (stands_among before left right view entries own).tree)
-    (sym c.is_some.ensures ∙ c.if-is_some.true))
+pub returns-then-is_some-clause-answers : goal.returns-then-is_some-clause-answers
+returns-then-is_some-clause-answers g c = record {
+  inserted = λ honest agrees left right entries is ok. false_not_true ok;
+  there = λ honest agrees left right entries is no.
+      let before = pages_of_map c.args.pages.now (g.D.Device.state c.args.device.now).disk.present in
+      let view = chained c.self.inside.tree c.self.inside.record_bytes in
+      let own = viewed before left right view _ entries c.self.view_is is in
+      some_seen before left right view entries own c.args.key.now (subst IsSome (c.in_ok-held.ensures.entry honest
+      agrees own.planted.levels (stands_among before left right view entries own).tree)
+      (sym c.is_some.ensures ∙ c.if-is_some.true));
+  damaged = λ honest agrees left right entries is told. never_ok told;
+}
 
 pub returns-then-is_some-clause-changed_pages : goal.returns-then-is_some-clause-changed_pages
 returns-then-is_some-clause-changed_pages g c = λ honest agrees left right entries is.
@@ -136,12 +127,17 @@ returns-in_err-first-clause-edits g c =
     passed c.from_residual-in_err-first.result x c.from_residual-in_err-first.ensures.1
     (λ r. EditsPages g.D.Device (r ≡ Err Device) c.args.pages.now c.args.device.now c.lay.new.pages c.get.new.device)
     (edits_kept g.D.Device _ _ _ _ _ _ _ (λ is. write_not_device x c.in_err-first.ensures.cause is)
-    (looks_edits g.D.Device _ _ _ _ _ (looks_by g.D.Device _ _ _ _ _ got.only got.unchanged got.agrees got.open))
+    (looks_edits g.D.Device _ _ _ _ _ (looks_by g.D.Device _ _ _ _ _ got.only got.unchanged got.agrees))
     c.lay.ensures.keeps)
 
-pub returns-in_err-first-clause-damaged : goal.returns-in_err-first-clause-damaged
-returns-in_err-first-clause-damaged g c = λ honest agrees left right entries is told.
-    write_not_damaged _ _ c.from_residual-in_err-first.ensures.1 c.in_err-first.ensures.cause told
+pub returns-in_err-first-clause-answers : goal.returns-in_err-first-clause-answers
+returns-in_err-first-clause-answers g c = let residual = c.from_residual-in_err-first in
+    record {
+      inserted = λ honest agrees left right entries is ok. never_answered residual.result _ residual.ensures.1 ok;
+      there = λ honest agrees left right entries is no. never_answered residual.result _ residual.ensures.1 no;
+      damaged = λ honest agrees left right entries is told.
+          write_not_damaged _ _ residual.ensures.1 c.in_err-first.ensures.cause told;
+    }
 
 pub returns-in_err-first-clause-changed_pages : goal.returns-in_err-first-clause-changed_pages
 returns-in_err-first-clause-changed_pages g c = λ honest agrees left right entries is.
@@ -155,7 +151,7 @@ returns-in_err-first-clause-room g c = λ honest agrees left right entries is fu
     let told = refused_by_call c.in_err-first.was c.from_residual-in_err-first.ensures.1 full in
     let same = committed_on _ _ _ got.unchanged.committed c.lay.ensures.keeps.committed in
     let size = c.split_at.ensures.front_len ∙ ap (λ (t : ChainedTree). t.record_bytes) c.self.view_is in
-    room_laid c.args.pages.now c.lay.new.pages _ 42 c.few_free.ensures (c.lay.ensures.keeps.is_open got.open) same
+    room_laid c.args.pages.now c.lay.new.pages _ 42 c.few_free.ensures same
     (full_unspent c.lay.result (length c.split_at.result.0.now) c.args.pages.now c.get.new.pages
     got.unchanged.committed c.lay.ensures.spent (λ none. c.if-self-eq0.false (sym c.split_at.ensures.front_len ∙ none))
     told) (c.lay.ensures.full told)
@@ -179,7 +175,7 @@ lays : (g : Over) (c : After-insert-2 g) → LaysRecord g.D.Device (c.get.result
     (chained c.self.inside.tree c.self.inside.record_bytes) c.split_at.result.0.now c.in_ok-first.first
 lays g c = let got = c.get.ensures in
     record {
-      looks = looks_by g.D.Device _ _ _ _ _ got.only got.unchanged got.agrees got.open;
+      looks = looks_by g.D.Device _ _ _ _ _ got.only got.unchanged got.agrees;
       laid = c.in_ok-first.ensures.laid;
       keeps = c.lay.ensures.keeps;
       few = c.lay.ensures.changed_pages;
@@ -195,14 +191,18 @@ returns-in_err-added-clause-edits g c =
     c.insert-2.new.device)
     (edits_last g.D.Device _ _ _ _ _ _ _ _ _ (λ is. still_error is)
     (edits_kept g.D.Device _ ⊥ _ _ _ _ _ (λ never. absurd never)
-    (looks_edits g.D.Device _ _ _ _ _ (looks_by g.D.Device _ _ _ _ _ got.only got.unchanged got.agrees got.open))
+    (looks_edits g.D.Device _ _ _ _ _ (looks_by g.D.Device _ _ _ _ _ got.only got.unchanged got.agrees))
     c.lay.ensures.keeps)
     ins.edits)
 
-pub returns-in_err-added-clause-damaged : goal.returns-in_err-added-clause-damaged
-returns-in_err-added-clause-damaged g c =
-    laid_never g.D.Device (lays g (goal.at.returns-in_err-added-clause-damaged g c).After-insert-2) c.self.view_is
-    c.insert-2.ensures.damaged (refused_by_call c.in_err-added.was c.from_residual-in_err-added.ensures.1)
+pub returns-in_err-added-clause-answers : goal.returns-in_err-added-clause-answers
+returns-in_err-added-clause-answers g c = let residual = c.from_residual-in_err-added in
+    record {
+      inserted = λ honest agrees left right entries is ok. never_answered residual.result _ residual.ensures.1 ok;
+      there = λ honest agrees left right entries is no. never_answered residual.result _ residual.ensures.1 no;
+      damaged = laid_never g.D.Device (lays g (goal.at.returns-in_err-added-clause-answers g c).After-insert-2)
+          c.self.view_is c.insert-2.ensures.damaged (refused_by_call c.in_err-added.was residual.ensures.1);
+    }
 
 pub returns-in_err-added-clause-changed_pages : goal.returns-in_err-added-clause-changed_pages
 returns-in_err-added-clause-changed_pages g c =
@@ -213,7 +213,7 @@ returns-in_err-added-clause-changed_pages g c =
 pub returns-in_err-added-clause-room : goal.returns-in_err-added-clause-room
 returns-in_err-added-clause-room g c =
     laid_room g.D.Device _ c.insert-2.result c.from_residual-in_err-added.result
-    (lays g (goal.at.returns-in_err-added-clause-room g c).After-insert-2) c.self.view_is c.insert-2.ensures.room
+    (lays g (goal.at.returns-in_err-added-clause-room g c).After-insert-2) c.self.view_is c.insert-2.ensures.few.room
     (refused_by_call c.in_err-added.was c.from_residual-in_err-added.ensures.1)
 
 pub returns-in_err-added-clause-refused : goal.returns-in_err-added-clause-refused
@@ -233,16 +233,20 @@ returns-then-not-added-clause-edits g c =
     let ins = c.insert-2.ensures in
     edits_last g.D.Device _ _ _ _ _ _ _ _ _ (λ is. damaged_not_device is)
     (edits_kept g.D.Device _ ⊥ _ _ _ _ _ (λ never. absurd never)
-    (looks_edits g.D.Device _ _ _ _ _ (looks_by g.D.Device _ _ _ _ _ got.only got.unchanged got.agrees got.open))
+    (looks_edits g.D.Device _ _ _ _ _ (looks_by g.D.Device _ _ _ _ _ got.only got.unchanged got.agrees))
     c.lay.ensures.keeps)
     ins.edits
 
-pub returns-then-not-added-clause-damaged : goal.returns-then-not-added-clause-damaged
-returns-then-not-added-clause-damaged g c = λ honest agrees left right entries is told.
-    laid_missing g.D.Device c.args.key.now _ (lays g (goal.at.returns-then-not-added-clause-damaged g c).After-insert-2)
-    c.self.view_is c.in_ok-held.ensures.entry (sym c.is_some.ensures ∙ c.if-is_some.false)
-    (λ h a levels tree. c.insert-2.ensures.there h a levels tree (c.in_ok-added.was ∙ ap Ok c.if-not-added.true))
-    honest agrees left right entries is
+pub returns-then-not-added-clause-answers : goal.returns-then-not-added-clause-answers
+returns-then-not-added-clause-answers g c = record {
+  inserted = λ honest agrees left right entries is ok. never_err ok;
+  there = λ honest agrees left right entries is no. never_err no;
+  damaged = λ honest agrees left right entries is told. laid_missing g.D.Device c.args.key.now _
+      (lays g (goal.at.returns-then-not-added-clause-answers g c).After-insert-2)
+      c.self.view_is c.in_ok-held.ensures.entry (sym c.is_some.ensures ∙ c.if-is_some.false)
+      (λ h a levels tree. c.insert-2.ensures.there h a levels tree (c.in_ok-added.was ∙ ap Ok c.if-not-added.true))
+      honest agrees left right entries is;
+}
 
 pub returns-then-not-added-clause-changed_pages : goal.returns-then-not-added-clause-changed_pages
 returns-then-not-added-clause-changed_pages g c =
@@ -262,17 +266,20 @@ returns-clause-edits g c =
     let ins = c.insert-2.ensures in
     edits_last g.D.Device _ _ _ _ _ _ _ _ _ (λ is. never_ok is)
     (edits_kept g.D.Device _ ⊥ _ _ _ _ _ (λ never. absurd never)
-    (looks_edits g.D.Device _ _ _ _ _ (looks_by g.D.Device _ _ _ _ _ got.only got.unchanged got.agrees got.open))
+    (looks_edits g.D.Device _ _ _ _ _ (looks_by g.D.Device _ _ _ _ _ got.only got.unchanged got.agrees))
     c.lay.ensures.keeps)
     ins.edits
 
-pub returns-clause-inserted : goal.returns-clause-inserted
-returns-clause-inserted g c =
-    inserted_on g.D.Device c.insert-2.new.pages (lays g (goal.at.returns-clause-inserted g c).After-insert-2)
-    c.self.view_is
-    (λ h a levels tree. c.insert-2.ensures.inserted h a levels tree (c.in_ok-added.was ∙ ap Ok c.if-not-added.false))
-    (c.bytes.ensures ∙ c.new-stored.ensures) c.if-self-eq0.false (omega arith) (sym c.split_at.ensures.by_index.0)
-    c.insert-2.ensures.layout refl
+pub returns-clause-answers : goal.returns-clause-answers
+returns-clause-answers g c = record {
+  inserted = inserted_on g.D.Device c.insert-2.new.pages
+      (lays g (goal.at.returns-clause-answers g c).After-insert-2) c.self.view_is
+      (λ h a levels tree. c.insert-2.ensures.inserted h a levels tree (c.in_ok-added.was ∙ ap Ok c.if-not-added.false))
+      (c.bytes.ensures ∙ c.new-stored.ensures) c.if-self-eq0.false (omega arith) (sym c.split_at.ensures.by_index.0)
+      c.insert-2.ensures.layout refl;
+  there = λ honest agrees left right entries is no. false_not_true (sym no);
+  damaged = λ honest agrees left right entries is told. never_ok told;
+}
 
 pub returns-clause-changed_pages : goal.returns-clause-changed_pages
 returns-clause-changed_pages g c =

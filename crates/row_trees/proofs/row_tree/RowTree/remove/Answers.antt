@@ -70,7 +70,7 @@ returns-in_err-entry-clause-edits g c =
     passed c.from_residual.result c.in_err-entry.field-0.0 c.from_residual.ensures.1
     (λ r. EditsPages g.D.Device (r ≡ Err Device) c.args.pages.now c.args.device.now c.get.new.pages c.get.new.device)
     (edits_where g.D.Device _ _ _ _ _ _ (λ is. still_error is)
-    (looks_edits g.D.Device _ _ _ _ _ (looks_by g.D.Device _ _ _ _ _ got.only got.unchanged got.agrees got.open)))
+    (looks_edits g.D.Device _ _ _ _ _ (looks_by g.D.Device _ _ _ _ _ got.only got.unchanged got.agrees)))
 
 pub returns-in_err-entry-clause-damaged : goal.returns-in_err-entry-clause-damaged
 returns-in_err-entry-clause-damaged g c = λ honest agrees left right entries is told.
@@ -92,7 +92,7 @@ pub returns-in-None-clause-edits : goal.returns-in-None-clause-edits
 returns-in-None-clause-edits g c =
     let got = c.get.ensures in
     edits_where g.D.Device _ _ _ _ _ _ (λ is. never_ok is)
-    (looks_edits g.D.Device _ _ _ _ _ (looks_by g.D.Device _ _ _ _ _ got.only got.unchanged got.agrees got.open))
+    (looks_edits g.D.Device _ _ _ _ _ (looks_by g.D.Device _ _ _ _ _ got.only got.unchanged got.agrees))
 
 pub returns-in-None-clause-missing : goal.returns-in-None-clause-missing
 returns-in-None-clause-missing g c = λ honest agrees left right entries is no.
@@ -116,7 +116,7 @@ returns-in_err-removed-clause-edits g c =
     (λ r. EditsPages g.D.Device (r ≡ Err Device) c.args.pages.now c.args.device.now c.remove-2.new.pages
     c.remove-2.new.device)
     (edits_last g.D.Device _ _ _ _ _ _ _ _ _ (λ is. still_error is)
-    (looks_edits g.D.Device _ _ _ _ _ (looks_by g.D.Device _ _ _ _ _ got.only got.unchanged got.agrees got.open))
+    (looks_edits g.D.Device _ _ _ _ _ (looks_by g.D.Device _ _ _ _ _ got.only got.unchanged got.agrees))
     cut.edits)
 
 pub returns-in_err-removed-clause-damaged : goal.returns-in_err-removed-clause-damaged
@@ -127,7 +127,7 @@ returns-in_err-removed-clause-damaged g c = λ honest agrees left right entries 
     let own = viewed before left right view _ entries c.self.view_is is in
     let stands = stands_among before left right view entries own in
     let got = c.get.ensures in
-    let looks = looks_by g.D.Device _ _ _ _ _ got.only got.unchanged got.agrees got.open in
+    let looks = looks_by g.D.Device _ _ _ _ _ got.only got.unchanged got.agrees in
     let damaged = refused_by_call c.in_err-removed.was c.from_residual-in_err-removed.ensures.1 told in
     read_tells g.D.Device _ c.args.pages.now c.get.new.pages c.args.device.now c.get.new.device view
     own.planted.levels (λ levels. ⊥) looks honest agrees stands
@@ -143,7 +143,7 @@ returns-then-not-removed-clause-edits g c =
     let got = c.get.ensures in
     let cut = c.remove-2.ensures in
     edits_last g.D.Device _ _ _ _ _ _ _ _ _ (λ is. damaged_not_device is)
-    (looks_edits g.D.Device _ _ _ _ _ (looks_by g.D.Device _ _ _ _ _ got.only got.unchanged got.agrees got.open))
+    (looks_edits g.D.Device _ _ _ _ _ (looks_by g.D.Device _ _ _ _ _ got.only got.unchanged got.agrees))
     cut.edits
 
 pub returns-then-not-removed-clause-damaged : goal.returns-then-not-removed-clause-damaged
@@ -154,7 +154,7 @@ returns-then-not-removed-clause-damaged g c = λ honest agrees left right entrie
     let own = viewed before left right view _ entries c.self.view_is is in
     let stands = stands_among before left right view entries own in
     let got = c.get.ensures in
-    let looks = looks_by g.D.Device _ _ _ _ _ got.only got.unchanged got.agrees got.open in
+    let looks = looks_by g.D.Device _ _ _ _ _ got.only got.unchanged got.agrees in
     let none = read_tells g.D.Device _ c.args.pages.now c.get.new.pages c.args.device.now c.get.new.device view
     own.planted.levels (λ levels. entry_with (stored_in view levels) c.args.key.now ≡ None) looks honest agrees stands
     (λ h a levels tree. c.remove-2.ensures.missing h a levels tree (c.in_ok-removed.was ∙ ap Ok c.if-not-removed.true))
@@ -171,7 +171,7 @@ takes g c = let got = c.get.ensures in
     let cut = c.remove-2.ensures in
     let done = c.in_ok-removed.was ∙ ap Ok c.if-not-removed.false in
     record {
-      looks = looks_by g.D.Device _ _ _ _ _ got.only got.unchanged got.agrees got.open;
+      looks = looks_by g.D.Device _ _ _ _ _ got.only got.unchanged got.agrees;
       found = λ h a levels tree. sym (c.in_ok-entry.ensures.entry h a levels tree) ∙ c.in-Some.is;
       taken = λ h a levels tree. cut.removed h a levels tree done;
       edits = cut.edits;
@@ -189,9 +189,9 @@ returns-in_err-release-clause-edits g c =
     c.release.new.device)
     (edits_last g.D.Device _ _ _ _ _ _ _ _ _ (λ is. still_error is)
     (edits_last g.D.Device _ _ ⊥ _ _ _ _ _ _ (λ never. absurd never)
-    (looks_edits g.D.Device _ _ _ _ _ (looks_by g.D.Device _ _ _ _ _ got.only got.unchanged got.agrees got.open))
+    (looks_edits g.D.Device _ _ _ _ _ (looks_by g.D.Device _ _ _ _ _ got.only got.unchanged got.agrees))
     cut.edits)
-    (edits_by g.D.Device _ _ _ _ _ end.only end.committed end.catalog end.agrees end.open))
+    (edits_by g.D.Device _ _ _ _ _ end.only end.committed end.catalog end.agrees))
 
 pub returns-in_err-release-clause-damaged : goal.returns-in_err-release-clause-damaged
 returns-in_err-release-clause-damaged g c =
@@ -211,9 +211,9 @@ returns-clause-edits g c =
     let end = c.release.ensures in
     edits_last g.D.Device _ _ _ _ _ _ _ _ _ (λ is. never_ok is)
     (edits_last g.D.Device _ _ ⊥ _ _ _ _ _ _ (λ never. absurd never)
-    (looks_edits g.D.Device _ _ _ _ _ (looks_by g.D.Device _ _ _ _ _ got.only got.unchanged got.agrees got.open))
+    (looks_edits g.D.Device _ _ _ _ _ (looks_by g.D.Device _ _ _ _ _ got.only got.unchanged got.agrees))
     cut.edits)
-    (edits_by g.D.Device _ _ _ _ _ end.only end.committed end.catalog end.agrees end.open)
+    (edits_by g.D.Device _ _ _ _ _ end.only end.committed end.catalog end.agrees)
 
 pub returns-clause-removed : goal.returns-clause-removed
 returns-clause-removed g c =
@@ -225,5 +225,5 @@ pub returns-clause-changed_pages : goal.returns-clause-changed_pages
 returns-clause-changed_pages g c =
     let got = c.get.ensures in
     taken_few g.D.Device c.remove-2.new.pages c.release.new.pages _
-    (looks_by g.D.Device _ _ _ _ _ got.only got.unchanged got.agrees got.open) c.self.view_is
+    (looks_by g.D.Device _ _ _ _ _ got.only got.unchanged got.agrees) c.self.view_is
     c.in_ok-removed.ensures.few.changed_pages c.release.ensures.changed_pages

@@ -49,7 +49,7 @@ returns-in_err-entry-clause-edits g c =
     passed c.from_residual.result c.in_err-entry.field-0.0 c.from_residual.ensures.1
     (λ r. EditsPages g.D.Device (r ≡ Err Device) c.args.pages.now c.args.device.now c.get.new.pages c.get.new.device)
     (edits_where g.D.Device _ _ _ _ _ _ (λ is. still_error is)
-    (looks_edits g.D.Device _ _ _ _ _ (looks_by g.D.Device _ _ _ _ _ got.only got.unchanged got.agrees got.open)))
+    (looks_edits g.D.Device _ _ _ _ _ (looks_by g.D.Device _ _ _ _ _ got.only got.unchanged got.agrees)))
 
 pub returns-in_err-entry-clause-damaged : goal.returns-in_err-entry-clause-damaged
 returns-in_err-entry-clause-damaged g c = λ honest agrees left right entries is told.
@@ -70,7 +70,7 @@ pub returns-in-None-clause-edits : goal.returns-in-None-clause-edits
 returns-in-None-clause-edits g c =
     let got = c.get.ensures in
     edits_where g.D.Device _ _ _ _ _ _ (λ is. never_ok is)
-    (looks_edits g.D.Device _ _ _ _ _ (looks_by g.D.Device _ _ _ _ _ got.only got.unchanged got.agrees got.open))
+    (looks_edits g.D.Device _ _ _ _ _ (looks_by g.D.Device _ _ _ _ _ got.only got.unchanged got.agrees))
 
 pub returns-in-None-clause-missing : goal.returns-in-None-clause-missing
 returns-in-None-clause-missing g c = λ honest agrees left right entries is no.
@@ -123,8 +123,8 @@ returns-in_err-rewrite-clause-edits g c =
     (λ r. EditsPages g.D.Device (r ≡ Err Device) c.args.pages.now c.args.device.now c.rewrite.new.pages
     c.rewrite.new.device)
     (edits_last g.D.Device _ _ _ _ _ _ _ _ _ (λ is. still_error is)
-    (looks_edits g.D.Device _ _ _ _ _ (looks_by g.D.Device _ _ _ _ _ got.only got.unchanged got.agrees got.open))
-    (edits_by g.D.Device _ _ _ _ _ put.only put.committed put.catalog put.agrees put.open))
+    (looks_edits g.D.Device _ _ _ _ _ (looks_by g.D.Device _ _ _ _ _ got.only got.unchanged got.agrees))
+    (edits_by g.D.Device _ _ _ _ _ put.only put.committed put.catalog put.agrees))
 
 pub returns-in_err-rewrite-clause-damaged : goal.returns-in_err-rewrite-clause-damaged
 returns-in_err-rewrite-clause-damaged g c = λ honest agrees left right entries is told.
@@ -134,7 +134,7 @@ returns-in_err-rewrite-clause-damaged g c = λ honest agrees left right entries 
     let own = viewed before left right view _ entries c.self.view_is is in
     let stands = stands_among before left right view entries own in
     let got = c.get.ensures in
-    let looks = looks_by g.D.Device _ _ _ _ _ got.only got.unchanged got.agrees got.open in
+    let looks = looks_by g.D.Device _ _ _ _ _ got.only got.unchanged got.agrees in
     let found = sym (c.in_ok-entry.ensures.entry honest agrees own.planted.levels stands.tree) ∙ c.in-Some.is in
     let first_is = c.first_page-first.ensures ∙ ap (big_number 4) c.value.ensures in
     rewrite_never g.D.Device _ c.args.pages.now c.get.new.pages c.args.device.now c.get.new.device view
@@ -161,10 +161,10 @@ writes : (g : Over) (c : After-eq-is_same g) → RewritesFound g.D.Device (c.get
 writes g c = let got = c.get.ensures in
     let put = c.rewrite.ensures in
     record {
-      looks = looks_by g.D.Device _ _ _ _ _ got.only got.unchanged got.agrees got.open;
+      looks = looks_by g.D.Device _ _ _ _ _ got.only got.unchanged got.agrees;
       found = λ h a levels tree. sym (c.in_ok-entry.ensures.entry h a levels tree) ∙ c.in-Some.is;
       rewritten = c.in_ok-rewrite.ensures.rewritten;
-      edits = edits_by g.D.Device _ _ _ _ _ put.only put.committed put.catalog put.agrees put.open;
+      edits = edits_by g.D.Device _ _ _ _ _ put.only put.committed put.catalog put.agrees;
       first_is = c.first_page-first.ensures ∙ ap (big_number 4) c.value.ensures;
       many = c.split_at.ensures.front_len;
       long = c.if-self-eq0.false;
@@ -175,8 +175,8 @@ returns-then-is_same-clause-edits g c =
     let got = c.get.ensures in
     let put = c.rewrite.ensures in
     edits_last g.D.Device _ _ _ _ _ _ _ _ _ (λ is. never_ok is)
-    (looks_edits g.D.Device _ _ _ _ _ (looks_by g.D.Device _ _ _ _ _ got.only got.unchanged got.agrees got.open))
-    (edits_by g.D.Device _ _ _ _ _ put.only put.committed put.catalog put.agrees put.open)
+    (looks_edits g.D.Device _ _ _ _ _ (looks_by g.D.Device _ _ _ _ _ got.only got.unchanged got.agrees))
+    (edits_by g.D.Device _ _ _ _ _ put.only put.committed put.catalog put.agrees)
 
 pub returns-then-is_same-clause-replaced : goal.returns-then-is_same-clause-replaced
 returns-then-is_same-clause-replaced g c =
@@ -203,8 +203,8 @@ returns-in_err-replaced-clause-edits g c =
     c.replace-2.new.device)
     (edits_last g.D.Device _ _ _ _ _ _ _ _ _ (λ is. still_error is)
     (edits_last g.D.Device _ _ ⊥ _ _ _ _ _ _ (λ never. absurd never)
-    (looks_edits g.D.Device _ _ _ _ _ (looks_by g.D.Device _ _ _ _ _ got.only got.unchanged got.agrees got.open))
-    (edits_by g.D.Device _ _ _ _ _ put.only put.committed put.catalog put.agrees put.open))
+    (looks_edits g.D.Device _ _ _ _ _ (looks_by g.D.Device _ _ _ _ _ got.only got.unchanged got.agrees))
+    (edits_by g.D.Device _ _ _ _ _ put.only put.committed put.catalog put.agrees))
     end.edits)
 
 pub returns-in_err-replaced-clause-damaged : goal.returns-in_err-replaced-clause-damaged
@@ -237,8 +237,8 @@ returns-then-not-replaced-clause-edits g c =
     let end = c.replace-2.ensures in
     edits_last g.D.Device _ _ _ _ _ _ _ _ _ (λ is. damaged_not_device is)
     (edits_last g.D.Device _ _ ⊥ _ _ _ _ _ _ (λ never. absurd never)
-    (looks_edits g.D.Device _ _ _ _ _ (looks_by g.D.Device _ _ _ _ _ got.only got.unchanged got.agrees got.open))
-    (edits_by g.D.Device _ _ _ _ _ put.only put.committed put.catalog put.agrees put.open))
+    (looks_edits g.D.Device _ _ _ _ _ (looks_by g.D.Device _ _ _ _ _ got.only got.unchanged got.agrees))
+    (edits_by g.D.Device _ _ _ _ _ put.only put.committed put.catalog put.agrees))
     end.edits
 
 pub returns-then-not-replaced-clause-damaged : goal.returns-then-not-replaced-clause-damaged
@@ -269,8 +269,8 @@ returns-clause-edits g c =
     let end = c.replace-2.ensures in
     edits_last g.D.Device _ _ _ _ _ _ _ _ _ (λ is. never_ok is)
     (edits_last g.D.Device _ _ ⊥ _ _ _ _ _ _ (λ never. absurd never)
-    (looks_edits g.D.Device _ _ _ _ _ (looks_by g.D.Device _ _ _ _ _ got.only got.unchanged got.agrees got.open))
-    (edits_by g.D.Device _ _ _ _ _ put.only put.committed put.catalog put.agrees put.open))
+    (looks_edits g.D.Device _ _ _ _ _ (looks_by g.D.Device _ _ _ _ _ got.only got.unchanged got.agrees))
+    (edits_by g.D.Device _ _ _ _ _ put.only put.committed put.catalog put.agrees))
     end.edits
 
 pub returns-clause-replaced : goal.returns-clause-replaced

@@ -10,7 +10,7 @@ use Rattle.alternate_keys.proofs.Rooting.{placed_by}
 use Rattle.alternate_keys.proofs.Passing.{memory_is_write, never_ok, passed}
 use Rattle.alternate_keys.proofs.Faults.{never_full_memory, never_spent, refused_by_call}
 use Rattle.alternate_keys.specs.Faults.{IsWriteFault}
-use Rattle.alternate_keys.proofs.row_moves.move_row.Goals as goal
+use Rattle.alternate_keys.proofs.move_row.move_row.Goals as goal
 
 pub returns-in_err-roots-clause-room : goal.returns-in_err-roots-clause-room
 returns-in_err-roots-clause-room g c = λ honest agrees held after generation left right m full.

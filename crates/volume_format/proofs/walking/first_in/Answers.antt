@@ -2,7 +2,7 @@ use Rattle.std.proofs.Common.{◌≡◌, Err, sym, ap, ◌∙◌}
 use Rattle.pages.specs.declared.error.PagesError.TheVariants as pages
 use Rattle.records.specs.declared.fault.StoreFault.TheVariants.{Damaged}
 use Rattle.volume_format.proofs.Faults.{damaged_back}
-use Rattle.alternate_keys.proofs.counting.first_in.Goals as goal
+use Rattle.volume_format.proofs.walking.first_in.Goals as goal
 
 pub returns-in-Err-clause-damaged : goal.returns-in-Err-clause-damaged
 returns-in-Err-clause-damaged g c = λ honest agrees levels holds is.

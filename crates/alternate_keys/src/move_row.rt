@@ -1,6 +1,6 @@
 //! The trees of a file after a change of a row.
 ghost use Rattle.std.specs.Prelude.{◌≡◌, ◌≤◌, ◌<◌, ◌+◌, ◌*◌, true, Err, length, OnOk, IfOk, IfErr};
-ghost use Rattle.pages.specs.Pages.{is_spent, committed_of, sectors_of, changed_pages_of, IsOpen};
+ghost use Rattle.pages.specs.Pages.{is_spent, committed_of, sectors_of, changed_pages_of};
 ghost use Rattle.pages.specs.Use.{free_count};
 ghost use Rattle.btree.specs.Calls.{pages_on};
 ghost use Rattle.btree.specs.Results.{FewChanged};
@@ -28,7 +28,6 @@ pub(crate) fn move_row<D: Device>(
     row_move: RowMove<'_>,
     root: u32,
 ) -> Result<Vec<u8>, StoreFault>
-    requires open { IsOpen pages.old }
     requires sectors { sectors_of pages.old ≤ D.sectors device.old }
     requires listing { length listing.now ≡ 83 }
     requires values { HasValues row_move.verb (spec_of file.now) row_move.old_value.now
