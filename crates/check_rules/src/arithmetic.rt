@@ -4,7 +4,7 @@ ghost use Rattle.std.specs.Prelude.{◌≡◌, ◌++◌};
 ghost use Rattle.entry_rules.specs.Checks.{IsFirstBreach};
 ghost use Rattle.source_tree.specs.Broken.{each};
 ghost use Rattle.source_tree.specs.ArithmeticRules as spec;
-ghost use Rattle.declarations.specs.Named.{IsDeclared, items_in};
+ghost use Rattle.declarations.specs.Named.{items_in};
 ghost use Rattle.check_rules.specs.Operations.{receiver_rules, operands_rules, receivers_rules};
 
 use crate::asked::Asked;
@@ -15,7 +15,6 @@ use source_tree::{Operand, Operation, Receiver};
 impl<'a> Checker<'a> {
     /// Receivers, of which the same is asked, in order.
     fn results_rules(&self, asked: Asked, all: &[Receiver]) -> Result<(), BrokenRule>
-        requires { IsDeclared self.now.declarations.now }
         ensures { IsFirstBreach result
             (each (receiver_rules (items_in self.now.declarations.now) asked) all.now) }
     {
@@ -27,7 +26,6 @@ impl<'a> Checker<'a> {
 
     /// Receivers whose own number has a part in the result.
     fn updated_rules(&self, receivers: &[Receiver]) -> Result<(), BrokenRule>
-        requires { IsDeclared self.now.declarations.now }
         ensures { IsFirstBreach result
             (spec.updated_rules (items_in self.now.declarations.now) receivers.now) }
     {
@@ -36,7 +34,6 @@ impl<'a> Checker<'a> {
 
     /// Receivers after GIVING and COMPUTE.
     fn given_rules(&self, receivers: &[Receiver]) -> Result<(), BrokenRule>
-        requires { IsDeclared self.now.declarations.now }
         ensures { IsFirstBreach result
             (spec.given_rules (items_in self.now.declarations.now) receivers.now) }
     {
@@ -45,7 +42,6 @@ impl<'a> Checker<'a> {
 
     /// Two operands that are numbers.
     fn pair_rules(&self, first: &Operand, second: &Operand) -> Result<(), BrokenRule>
-        requires { IsDeclared self.now.declarations.now }
         ensures { IsFirstBreach result (spec.number_rules (items_in self.now.declarations.now)
             first.now ++ spec.number_rules (items_in self.now.declarations.now) second.now) }
     {
@@ -55,7 +51,6 @@ impl<'a> Checker<'a> {
 
     /// The operands in front of the receivers; those of COMPUTE follow them.
     fn operands_rules(&self, one: &Operation) -> Result<(), BrokenRule>
-        requires { IsDeclared self.now.declarations.now }
         ensures { IsFirstBreach result
             (operands_rules (items_in self.now.declarations.now) one.now) }
     {
@@ -82,7 +77,6 @@ impl<'a> Checker<'a> {
 
     /// The receivers, and of COMPUTE the expression after them.
     fn receivers_of_rules(&self, one: &Operation) -> Result<(), BrokenRule>
-        requires { IsDeclared self.now.declarations.now }
         ensures { IsFirstBreach result
             (receivers_rules (items_in self.now.declarations.now) one.now) }
     {
@@ -113,7 +107,6 @@ impl<'a> Checker<'a> {
     /// What an arithmetic statement computes, in the order of writing.
     #[tactic(auto, using(crate::proofs::Operations::operation_parts))]
     pub fn operation_rules(&self, one: &Operation) -> Result<(), BrokenRule>
-        requires { IsDeclared self.now.declarations.now }
         ensures { IsFirstBreach result
             (spec.operation_rules (items_in self.now.declarations.now) one.now) }
     {

@@ -5,7 +5,7 @@ ghost use Rattle.std.specs.Prelude.{◌≡◌};
 ghost use Rattle.entry_rules.specs.Checks.{IsFirstBreach};
 ghost use Rattle.source_tree.specs.Broken.{each};
 ghost use Rattle.source_tree.specs.ConditionRules as spec;
-ghost use Rattle.declarations.specs.Named.{IsDeclared, items_in};
+ghost use Rattle.declarations.specs.Named.{items_in};
 ghost use Rattle.check_rules.specs.Comparing.{condition_named_rules};
 
 use crate::asked::Asked;
@@ -17,7 +17,6 @@ use source_tree::{Condition, Reference};
 impl<'a> Checker<'a> {
     /// The name of a condition, which has as many subscripts as its item has dimensions, and no part.
     pub(crate) fn condition_named_rules(&self, one: &Reference) -> Result<(), BrokenRule>
-        requires { IsDeclared self.now.declarations.now }
         ensures { IsFirstBreach result
             (condition_named_rules (items_in self.now.declarations.now) one.now) }
     {
@@ -30,7 +29,6 @@ impl<'a> Checker<'a> {
 
     /// A condition name, with the numbers in its parentheses.
     pub(crate) fn condition_name_rules(&self, one: &Reference) -> Result<(), BrokenRule>
-        requires { IsDeclared self.now.declarations.now }
         ensures { IsFirstBreach result
             (spec.condition_name_rules (items_in self.now.declarations.now) one.now) }
     {
@@ -42,7 +40,6 @@ impl<'a> Checker<'a> {
     #[cycle(condition)]
     #[tactic(auto, using(crate::proofs::ConditionLayers::forms))]
     pub fn condition_rules(&self, one: &Condition) -> Result<(), BrokenRule>
-        requires { IsDeclared self.now.declarations.now }
         ensures { IsFirstBreach result
             (spec.condition_rules (items_in self.now.declarations.now) one.now) }
     {
@@ -60,7 +57,6 @@ impl<'a> Checker<'a> {
     /// Conditions, in order.
     #[cycle(condition)]
     fn conditions_rules(&self, all: &[Condition]) -> Result<(), BrokenRule>
-        requires { IsDeclared self.now.declarations.now }
         ensures { IsFirstBreach result
             (each (spec.condition_rules (items_in self.now.declarations.now)) all.now) }
     {

@@ -8,7 +8,7 @@ ghost use Rattle.source_tree.specs.Broken.{each};
 ghost use Rattle.source_tree.specs.ConditionRules.{condition_rules};
 ghost use Rattle.source_tree.specs.Evaluate.{value_within};
 ghost use Rattle.source_tree.specs.EvaluateRules as spec;
-ghost use Rattle.declarations.specs.Named.{IsDeclared, items_in};
+ghost use Rattle.declarations.specs.Named.{items_in};
 ghost use Rattle.declarations.specs.Resolved.{condition_meant, question_meant, is_fit, broken_in};
 
 use crate::checker::Checker;
@@ -20,7 +20,6 @@ impl<'a> Checker<'a> {
     /// A condition that is asked.
     #[tactic(auto, using(crate::proofs::QuestionLayers::name_told_is))]
     fn asked_condition_rules(&self, one: AskedCondition<'_>) -> Result<(), BrokenRule>
-        requires { IsDeclared self.now.declarations.now }
         ensures { IsFirstBreach result
             (condition_rules (items_in self.now.declarations.now) (condition_meant one.entry)) }
     {
@@ -38,7 +37,6 @@ impl<'a> Checker<'a> {
         first: &Side,
         last: &Option<Side>,
     ) -> Result<(), BrokenRule>
-        requires { IsDeclared self.now.declarations.now }
         ensures { IsFirstBreach result (condition_rules (items_in self.now.declarations.now)
             (value_within value.now first.now last.now)) }
     {
@@ -52,7 +50,6 @@ impl<'a> Checker<'a> {
     /// What an object asks of its subject.
     #[tactic(auto, using(crate::proofs::QuestionLayers::forms))]
     fn question_rules(&self, one: Question<'_>) -> Result<(), BrokenRule>
-        requires { IsDeclared self.now.declarations.now }
         ensures { IsFirstBreach result
             (condition_rules (items_in self.now.declarations.now) (question_meant one.entry)) }
     {
@@ -73,7 +70,6 @@ impl<'a> Checker<'a> {
 
     /// An object and its subject.
     fn object_rules(&self, subject: &Subject, object: &Object) -> Result<(), BrokenRule>
-        requires { IsDeclared self.now.declarations.now }
         ensures { IsFirstBreach result
             (spec.object_rules (items_in self.now.declarations.now) subject.now object.now) }
     {
@@ -85,7 +81,6 @@ impl<'a> Checker<'a> {
     /// Objects, subject by subject.
     #[tactic(auto, using(crate::proofs::QuestionLayers::none_left))]
     fn objects_rules(&self, subjects: &[Subject], objects: &[Object]) -> Result<(), BrokenRule>
-        requires { IsDeclared self.now.declarations.now }
         ensures { IsFirstBreach result
             (spec.objects_rules (items_in self.now.declarations.now) subjects.now objects.now) }
     {
@@ -104,7 +99,6 @@ impl<'a> Checker<'a> {
 
     /// A WHEN: it has as many objects as there are subjects.
     fn when_rules(&self, subjects: &[Subject], one: &When) -> Result<(), BrokenRule>
-        requires { IsDeclared self.now.declarations.now }
         ensures { IsFirstBreach result
             (spec.when_rules (items_in self.now.declarations.now) subjects.now one.now) }
     {
@@ -115,7 +109,6 @@ impl<'a> Checker<'a> {
 
     /// WHENs, in order.
     pub(crate) fn whens_rules(&self, subjects: &[Subject], all: &[When]) -> Result<(), BrokenRule>
-        requires { IsDeclared self.now.declarations.now }
         ensures { IsFirstBreach result
             (each (spec.when_rules (items_in self.now.declarations.now) subjects.now) all.now) }
     {
@@ -127,7 +120,6 @@ impl<'a> Checker<'a> {
 
     /// A subject: a value by itself, or a condition.
     fn subject_rules(&self, one: &Subject) -> Result<(), BrokenRule>
-        requires { IsDeclared self.now.declarations.now }
         ensures { IsFirstBreach result
             (spec.subject_rules (items_in self.now.declarations.now) one.now) }
     {
@@ -140,7 +132,6 @@ impl<'a> Checker<'a> {
 
     /// Subjects, in order.
     pub(crate) fn subjects_rules(&self, all: &[Subject]) -> Result<(), BrokenRule>
-        requires { IsDeclared self.now.declarations.now }
         ensures { IsFirstBreach result
             (each (spec.subject_rules (items_in self.now.declarations.now)) all.now) }
     {

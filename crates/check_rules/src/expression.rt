@@ -5,7 +5,7 @@ ghost use Rattle.std.specs.Prelude.{◌≡◌};
 ghost use Rattle.entry_rules.specs.Checks.{IsFirstBreach};
 ghost use Rattle.source_tree.specs.Broken.{each};
 ghost use Rattle.source_tree.specs.ArithmeticRules as spec;
-ghost use Rattle.declarations.specs.Named.{IsDeclared, items_in};
+ghost use Rattle.declarations.specs.Named.{items_in};
 ghost use Rattle.declarations.specs.Chains.{further_rules};
 
 use crate::asked::Asked;
@@ -17,7 +17,6 @@ use source_tree::{Expression, Figurative, LiteralValue, Operand, Operator};
 impl<'a> Checker<'a> {
     /// An operand that is a number: a numeric item, a numeric literal or ZERO.
     pub fn number_rules(&self, one: &Operand) -> Result<(), BrokenRule>
-        requires { IsDeclared self.now.declarations.now }
         ensures { IsFirstBreach result
             (spec.number_rules (items_in self.now.declarations.now) one.now) }
     {
@@ -32,7 +31,6 @@ impl<'a> Checker<'a> {
 
     /// Operands that are numbers, in order.
     pub(crate) fn numbers_rules(&self, all: &[Operand]) -> Result<(), BrokenRule>
-        requires { IsDeclared self.now.declarations.now }
         ensures { IsFirstBreach result
             (each (spec.number_rules (items_in self.now.declarations.now)) all.now) }
     {
@@ -46,7 +44,6 @@ impl<'a> Checker<'a> {
     #[cycle(expression)]
     #[tactic(auto, using(declarations::proofs::Layers::operand_is, declarations::proofs::Layers::negated_is, declarations::proofs::Layers::chain_is))]
     pub fn expression_rules(&self, one: &Expression) -> Result<(), BrokenRule>
-        requires { IsDeclared self.now.declarations.now }
         ensures { IsFirstBreach result
             (spec.expression_rules (items_in self.now.declarations.now) one.now) }
     {
@@ -63,7 +60,6 @@ impl<'a> Checker<'a> {
     /// Operands after operators, in order.
     #[cycle(expression)]
     fn further_rules(&self, all: &[(Operator, Expression)]) -> Result<(), BrokenRule>
-        requires { IsDeclared self.now.declarations.now }
         ensures { IsFirstBreach result
             (each (further_rules (items_in self.now.declarations.now)) all.now) }
     {

@@ -11,7 +11,7 @@ ghost use Rattle.source_tree.specs.Places.{LocatedItem};
 ghost use Rattle.file_descriptions.specs.Files.{file_in, place_at};
 ghost use Rattle.check_rules.specs.Filed as filed;
 ghost use Rattle.check_rules.specs.References.{named_rules};
-ghost use Rattle.declarations.specs.Named.{IsDeclared, files_in, items_in};
+ghost use Rattle.declarations.specs.Named.{files_in, items_in};
 
 use crate::asked::Asked;
 use crate::checker::Checker;
@@ -34,7 +34,6 @@ use std::slice;
 impl<'a> Checker<'a> {
     /// The item of RELATIVE KEY.
     fn relative_key(&self, file: &ProgramFile<'_>) -> Option<&PlacedItem>
-        requires { IsDeclared self.now.declarations.now }
         ensures { filed.IsPlaced
             (place_at (items_in self.now.declarations.now) file.now.relative_key) result }
     {
@@ -44,7 +43,6 @@ impl<'a> Checker<'a> {
 
     /// A file of OPEN: only sequential files are extended.
     fn opening_rules(&self, one: &Opening) -> Result<(), BrokenRule>
-        requires { IsDeclared self.now.declarations.now }
         ensures { IsFirstBreach result (spec.open_rules (items_in self.now.declarations.now)
             (files_in self.now.declarations.now) one.now) }
     {
@@ -54,7 +52,6 @@ impl<'a> Checker<'a> {
     }
 
     fn openings_rules(&self, all: &[Opening]) -> Result<(), BrokenRule>
-        requires { IsDeclared self.now.declarations.now }
         ensures { IsFirstBreach result (each (spec.open_rules (items_in self.now.declarations.now)
             (files_in self.now.declarations.now)) all.now) }
     {
@@ -65,7 +62,6 @@ impl<'a> Checker<'a> {
     }
 
     fn closing_rules(&self, one: &Name) -> Result<(), BrokenRule>
-        requires { IsDeclared self.now.declarations.now }
         ensures { IsFirstBreach result (spec.close_rules (items_in self.now.declarations.now)
             (files_in self.now.declarations.now) one.now) }
     {
@@ -74,7 +70,6 @@ impl<'a> Checker<'a> {
     }
 
     fn closings_rules(&self, all: &[Name]) -> Result<(), BrokenRule>
-        requires { IsDeclared self.now.declarations.now }
         ensures { IsFirstBreach result (each (spec.close_rules (items_in self.now.declarations.now)
             (files_in self.now.declarations.now)) all.now) }
     {
@@ -86,7 +81,6 @@ impl<'a> Checker<'a> {
 
     /// The item of KEY of READ, which is a key of the file.
     fn read_key_item_rules(&self, file: &ProgramFile<'_>, key: &Reference) -> Result<(), BrokenRule>
-        requires { IsDeclared self.now.declarations.now }
         ensures { IsFirstBreach result (clause_item (items_in self.now.declarations.now)
             (spec.read_key_item (file_in (items_in self.now.declarations.now) file.now)) key.now) }
     {
@@ -103,7 +97,6 @@ impl<'a> Checker<'a> {
         file: &ProgramFile<'_>,
         key: &Option<Reference>,
     ) -> Result<(), BrokenRule>
-        requires { IsDeclared self.now.declarations.now }
         ensures { IsFirstBreach result (spec.read_key_rules
             (items_in self.now.declarations.now) (files_in self.now.declarations.now) in_sequence
             (file_in (items_in self.now.declarations.now) file.now) key.now) }
@@ -117,7 +110,6 @@ impl<'a> Checker<'a> {
 
     /// INTO, to which what the file sends may be moved.
     fn into_rules(&self, file: &ProgramFile<'_>, into: &Option<Reference>) -> Result<(), BrokenRule>
-        requires { IsDeclared self.now.declarations.now }
         ensures { IsFirstBreach result (spec.into_rules
             (items_in self.now.declarations.now) (files_in self.now.declarations.now)
             (file_in (items_in self.now.declarations.now) file.now) into.now) }
@@ -136,7 +128,6 @@ impl<'a> Checker<'a> {
         place: Place,
         phrases: &FilePhrases<Statement>,
     ) -> Result<(), BrokenRule>
-        requires { IsDeclared self.now.declarations.now }
         ensures { IsFirstBreach result (filed.read_file_rules place next phrases.now
             (file_in (items_in self.now.declarations.now) file.now)) }
     {
@@ -155,7 +146,6 @@ impl<'a> Checker<'a> {
         key: &Option<Reference>,
         phrases: &FilePhrases<Statement>,
     ) -> Result<(), BrokenRule>
-        requires { IsDeclared self.now.declarations.now }
         ensures { IsFirstBreach result (spec.read_rules (items_in self.now.declarations.now)
             (files_in self.now.declarations.now) place next into.now key.now phrases.now
             (file_in (items_in self.now.declarations.now) file.now)) }
@@ -173,7 +163,6 @@ impl<'a> Checker<'a> {
         key: &Option<Reference>,
         phrases: &FilePhrases<Statement>,
     ) -> Result<(), BrokenRule>
-        requires { IsDeclared self.now.declarations.now }
         ensures { IsFirstBreach result (spec.file_named_rules (items_in self.now.declarations.now)
             (files_in self.now.declarations.now) name.now (spec.read_rules
             (items_in self.now.declarations.now) (files_in self.now.declarations.now) name.now.place
@@ -191,7 +180,6 @@ impl<'a> Checker<'a> {
         area: u32,
         phrases: &FilePhrases<Statement>,
     ) -> Result<(), BrokenRule>
-        requires { IsDeclared self.now.declarations.now }
         ensures { (one : LocatedItem)
             → slice_get (items_in self.now.declarations.now) number ≡ Some one → area ≡ one.area
             → IsFirstBreach result (spec.record_item (items_in self.now.declarations.now)
@@ -208,7 +196,6 @@ impl<'a> Checker<'a> {
         one: &Reference,
         phrases: &FilePhrases<Statement>,
     ) -> Result<(), BrokenRule>
-        requires { IsDeclared self.now.declarations.now }
         ensures { IsFirstBreach result (named_rules (items_in self.now.declarations.now)
             (filed.whole_record (items_in self.now.declarations.now)
             (files_in self.now.declarations.now) phrases.now one.now) one.now) }
@@ -221,7 +208,6 @@ impl<'a> Checker<'a> {
 
     /// FROM, which is moved to the record.
     fn from_rules(&self, to: &Reference, from: &Option<Reference>) -> Result<(), BrokenRule>
-        requires { IsDeclared self.now.declarations.now }
         ensures { IsFirstBreach result (spec.from_rules (items_in self.now.declarations.now)
             (files_in self.now.declarations.now) to.now from.now) }
     {
@@ -237,7 +223,6 @@ impl<'a> Checker<'a> {
         from: &Option<Reference>,
         phrases: &FilePhrases<Statement>,
     ) -> Result<(), BrokenRule>
-        requires { IsDeclared self.now.declarations.now }
         ensures { IsFirstBreach result (spec.record_rules (items_in self.now.declarations.now)
             (files_in self.now.declarations.now) one.now from.now phrases.now) }
     {
@@ -247,7 +232,6 @@ impl<'a> Checker<'a> {
     }
 
     fn delete_rules(&self, name: &Name, phrases: &FilePhrases<Statement>) -> Result<(), BrokenRule>
-        requires { IsDeclared self.now.declarations.now }
         ensures { IsFirstBreach result (spec.file_named_rules
             (items_in self.now.declarations.now) (files_in self.now.declarations.now)
             name.now (spec.delete_rules (items_in self.now.declarations.now)
@@ -260,7 +244,6 @@ impl<'a> Checker<'a> {
 
     /// The item of KEY of START.
     fn start_item_rules(&self, file: &ProgramFile<'_>, key: &Reference) -> Result<(), BrokenRule>
-        requires { IsDeclared self.now.declarations.now }
         ensures { IsFirstBreach result (clause_item (items_in self.now.declarations.now)
             (spec.start_key_item (file_in (items_in self.now.declarations.now) file.now)) key.now) }
     {
@@ -275,7 +258,6 @@ impl<'a> Checker<'a> {
         file: &ProgramFile<'_>,
         key: &Option<StartKey>,
     ) -> Result<(), BrokenRule>
-        requires { IsDeclared self.now.declarations.now }
         ensures { IsFirstBreach result (spec.start_key_rules
             (items_in self.now.declarations.now) (files_in self.now.declarations.now)
             (file_in (items_in self.now.declarations.now) file.now) key.now) }
@@ -289,7 +271,6 @@ impl<'a> Checker<'a> {
 
     /// START stands not on sequential files, not with random access, and on relative files with RELATIVE KEY alone.
     fn start_file_rules(&self, file: &ProgramFile<'_>, place: Place) -> Result<(), BrokenRule>
-        requires { IsDeclared self.now.declarations.now }
         ensures { IsFirstBreach result
             (filed.start_file_rules place (file_in (items_in self.now.declarations.now) file.now)) }
     {
@@ -307,7 +288,6 @@ impl<'a> Checker<'a> {
         key: &Option<StartKey>,
         phrases: &FilePhrases<Statement>,
     ) -> Result<(), BrokenRule>
-        requires { IsDeclared self.now.declarations.now }
         ensures { IsFirstBreach result (spec.start_rules (items_in self.now.declarations.now)
             (files_in self.now.declarations.now) place key.now phrases.now
             (file_in (items_in self.now.declarations.now) file.now)) }
@@ -323,7 +303,6 @@ impl<'a> Checker<'a> {
         key: &Option<StartKey>,
         phrases: &FilePhrases<Statement>,
     ) -> Result<(), BrokenRule>
-        requires { IsDeclared self.now.declarations.now }
         ensures { IsFirstBreach result (spec.file_named_rules
             (items_in self.now.declarations.now) (files_in self.now.declarations.now)
             name.now (spec.start_rules (items_in self.now.declarations.now)
@@ -335,7 +314,6 @@ impl<'a> Checker<'a> {
 
     /// A file statement without those in its phrases.
     pub fn filing_rules(&self, one: &FileStatement<Statement>) -> Result<(), BrokenRule>
-        requires { IsDeclared self.now.declarations.now }
         ensures { IsFirstBreach result (spec.filing_rules (items_in self.now.declarations.now)
             (files_in self.now.declarations.now) one.now) }
     {

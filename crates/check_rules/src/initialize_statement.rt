@@ -2,7 +2,7 @@
 
 ghost use Rattle.entry_rules.specs.Checks.{IsFirstBreach};
 ghost use Rattle.source_tree.specs.SettingRules as spec;
-ghost use Rattle.declarations.specs.Named.{IsDeclared, items_in};
+ghost use Rattle.declarations.specs.Named.{items_in};
 
 use crate::asked::Asked;
 use crate::checker::Checker;
@@ -12,7 +12,6 @@ use source_tree::Reference;
 impl<'a> Checker<'a> {
     /// INITIALIZE of items, of which nothing is asked.
     pub fn initialize_rules(&self, receivers: &[Reference]) -> Result<(), BrokenRule>
-        requires { IsDeclared self.now.declarations.now }
         ensures { IsFirstBreach result
             (spec.initialize_rules (items_in self.now.declarations.now) receivers.now) }
     {

@@ -9,7 +9,7 @@ ghost use Rattle.source_tree.specs.LookUp.{items_named};
 ghost use Rattle.source_tree.specs.Converting.{convert_rules};
 ghost use Rattle.source_tree.specs.InspectRules as spec;
 ghost use Rattle.check_rules.specs.TextSizes.{text_size_of};
-ghost use Rattle.declarations.specs.Named.{IsDeclared, items_in};
+ghost use Rattle.declarations.specs.Named.{items_in};
 
 use crate::asked::Asked;
 use crate::checker::Checker;
@@ -25,7 +25,6 @@ use source_tree::{
 impl<'a> Checker<'a> {
     /// A text.
     fn inspected_rules(&self, one: &Operand) -> Result<(), BrokenRule>
-        requires { IsDeclared self.now.declarations.now }
         ensures { IsFirstBreach result
             (spec.inspected_rules (items_in self.now.declarations.now) one.now) }
     {
@@ -37,7 +36,6 @@ impl<'a> Checker<'a> {
 
     /// The size of what a reference shows; any, where its name doesn't name one item.
     fn size_shown(&self, one: &Reference) -> TextSize
-        requires { IsDeclared self.now.declarations.now }
         ensures { text_size_of result ≡ spec.only_size one.now.part
             (items_named (items_in self.now.declarations.now) one.now.item) }
     {
@@ -49,7 +47,6 @@ impl<'a> Checker<'a> {
 
     /// The characters of a text.
     fn size_of(&self, one: &Operand) -> TextSize
-        requires { IsDeclared self.now.declarations.now }
         ensures { spec.inspected_rules (items_in self.now.declarations.now) one.now ≡ []
             → text_size_of result ≡ spec.size_of (items_in self.now.declarations.now) one.now }
     {
@@ -61,7 +58,6 @@ impl<'a> Checker<'a> {
 
     /// The characters of a replacing text.
     fn replacing_size(&self, one: &Operand) -> TextSize
-        requires { IsDeclared self.now.declarations.now }
         ensures { spec.inspected_rules (items_in self.now.declarations.now) one.now ≡ []
             → text_size_of result
             ≡ spec.replacing_size (items_in self.now.declarations.now) one.now }
@@ -74,7 +70,6 @@ impl<'a> Checker<'a> {
 
     /// What replaces a text of that size.
     fn by_rules(&self, size: TextSize, by: &Operand) -> Result<(), BrokenRule>
-        requires { IsDeclared self.now.declarations.now }
         ensures { IsFirstBreach result
             (spec.by_rules (items_in self.now.declarations.now) (text_size_of size) by.now) }
     {
@@ -84,7 +79,6 @@ impl<'a> Checker<'a> {
     }
 
     fn limit_rules(&self, one: &Option<Operand>) -> Result<(), BrokenRule>
-        requires { IsDeclared self.now.declarations.now }
         ensures { IsFirstBreach result
             (spec.limit_rules (items_in self.now.declarations.now) one.now) }
     {
@@ -99,7 +93,6 @@ impl<'a> Checker<'a> {
         first: &Option<Operand>,
         second: &Option<Operand>,
     ) -> Result<(), BrokenRule>
-        requires { IsDeclared self.now.declarations.now }
         ensures { IsFirstBreach result
             (spec.two_limits (items_in self.now.declarations.now) first.now second.now) }
     {
@@ -109,7 +102,6 @@ impl<'a> Checker<'a> {
 
     /// BEFORE and AFTER, as they stand.
     fn limits_rules(&self, one: &Limits) -> Result<(), BrokenRule>
-        requires { IsDeclared self.now.declarations.now }
         ensures { IsFirstBreach result
             (spec.limits_rules (items_in self.now.declarations.now) one.now) }
     {
@@ -121,7 +113,6 @@ impl<'a> Checker<'a> {
     }
 
     fn tallied_text_rules(&self, one: &TalliedText) -> Result<(), BrokenRule>
-        requires { IsDeclared self.now.declarations.now }
         ensures { IsFirstBreach result
             (spec.tallied_text_rules (items_in self.now.declarations.now) one.now) }
     {
@@ -130,7 +121,6 @@ impl<'a> Checker<'a> {
     }
 
     fn tallied_texts_rules(&self, all: &[TalliedText]) -> Result<(), BrokenRule>
-        requires { IsDeclared self.now.declarations.now }
         ensures { IsFirstBreach result
             (each (spec.tallied_text_rules (items_in self.now.declarations.now)) all.now) }
     {
@@ -141,7 +131,6 @@ impl<'a> Checker<'a> {
     }
 
     fn tallied_rules(&self, one: &Tallied) -> Result<(), BrokenRule>
-        requires { IsDeclared self.now.declarations.now }
         ensures { IsFirstBreach result
             (spec.tallied_rules (items_in self.now.declarations.now) one.now) }
     {
@@ -152,7 +141,6 @@ impl<'a> Checker<'a> {
     }
 
     fn all_tallied_rules(&self, all: &[Tallied]) -> Result<(), BrokenRule>
-        requires { IsDeclared self.now.declarations.now }
         ensures { IsFirstBreach result
             (each (spec.tallied_rules (items_in self.now.declarations.now)) all.now) }
     {
@@ -164,7 +152,6 @@ impl<'a> Checker<'a> {
 
     /// A counter, and what it counts.
     fn tallying_rules(&self, one: &Tallying) -> Result<(), BrokenRule>
-        requires { IsDeclared self.now.declarations.now }
         ensures { IsFirstBreach result
             (spec.tallying_rules (items_in self.now.declarations.now) one.now) }
     {
@@ -173,7 +160,6 @@ impl<'a> Checker<'a> {
     }
 
     fn counters_rules(&self, all: &[Tallying]) -> Result<(), BrokenRule>
-        requires { IsDeclared self.now.declarations.now }
         ensures { IsFirstBreach result
             (each (spec.tallying_rules (items_in self.now.declarations.now)) all.now) }
     {
@@ -184,7 +170,6 @@ impl<'a> Checker<'a> {
     }
 
     fn replaced_text_rules(&self, one: &ReplacedText) -> Result<(), BrokenRule>
-        requires { IsDeclared self.now.declarations.now }
         ensures { IsFirstBreach result
             (spec.replaced_text_rules (items_in self.now.declarations.now) one.now) }
     {
@@ -194,7 +179,6 @@ impl<'a> Checker<'a> {
     }
 
     fn replaced_texts_rules(&self, all: &[ReplacedText]) -> Result<(), BrokenRule>
-        requires { IsDeclared self.now.declarations.now }
         ensures { IsFirstBreach result
             (each (spec.replaced_text_rules (items_in self.now.declarations.now)) all.now) }
     {
@@ -205,7 +189,6 @@ impl<'a> Checker<'a> {
     }
 
     fn replacing_rules(&self, one: &Replacing) -> Result<(), BrokenRule>
-        requires { IsDeclared self.now.declarations.now }
         ensures { IsFirstBreach result
             (spec.replacing_rules (items_in self.now.declarations.now) one.now) }
     {
@@ -219,7 +202,6 @@ impl<'a> Checker<'a> {
     }
 
     fn all_replacing_rules(&self, all: &[Replacing]) -> Result<(), BrokenRule>
-        requires { IsDeclared self.now.declarations.now }
         ensures { IsFirstBreach result
             (each (spec.replacing_rules (items_in self.now.declarations.now)) all.now) }
     {
@@ -231,7 +213,6 @@ impl<'a> Checker<'a> {
 
     /// INSPECT: its subject, its counters with what they count, and what is replaced.
     pub fn inspect_rules(&self, one: &InspectStatement) -> Result<(), BrokenRule>
-        requires { IsDeclared self.now.declarations.now }
         ensures { IsFirstBreach result
             (spec.inspect_rules (items_in self.now.declarations.now) one.now) }
     {
@@ -242,7 +223,6 @@ impl<'a> Checker<'a> {
 
     /// INSPECT CONVERTING: its subject, and the texts, of which the second has the size of the first.
     pub fn convert_rules(&self, one: &Converting) -> Result<(), BrokenRule>
-        requires { IsDeclared self.now.declarations.now }
         ensures { IsFirstBreach result
             (convert_rules (items_in self.now.declarations.now) one.now) }
     {

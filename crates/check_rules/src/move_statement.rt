@@ -6,7 +6,7 @@ ghost use Rattle.source_tree.specs.Broken.{each};
 ghost use Rattle.source_tree.specs.declared.expression.Operand.TheVariants.{Item};
 ghost use Rattle.source_tree.specs.NameRules as names;
 ghost use Rattle.source_tree.specs.MoveRules as spec;
-ghost use Rattle.declarations.specs.Named.{IsDeclared, items_in};
+ghost use Rattle.declarations.specs.Named.{items_in};
 ghost use Rattle.check_rules.specs.Asking.{asks, asked_by};
 
 use crate::asked::Asked;
@@ -19,7 +19,6 @@ use source_tree::{Operand, Reference};
 impl<'a> Checker<'a> {
     /// An operand: a reference, of whose item nothing is asked, or a literal that has its form.
     pub fn operand_rules(&self, one: &Operand) -> Result<(), BrokenRule>
-        requires { IsDeclared self.now.declarations.now }
         ensures { IsFirstBreach result
             (names.operand_rules (items_in self.now.declarations.now) one.now) }
     {
@@ -31,7 +30,6 @@ impl<'a> Checker<'a> {
 
     /// What an item asks of receivers; nothing where its name doesn't name one item.
     fn asked_by_item(&self, sender: &Reference) -> Asked
-        requires { IsDeclared self.now.declarations.now }
         ensures { result
             ≡ asked_by (spec.sent_by (items_in self.now.declarations.now) (Item sender.now)) }
     {
@@ -43,7 +41,6 @@ impl<'a> Checker<'a> {
 
     /// What a sender asks of receivers.
     fn asked_by(&self, sender: &Operand) -> Asked
-        requires { IsDeclared self.now.declarations.now }
         ensures { result ≡ asked_by (spec.sent_by (items_in self.now.declarations.now) sender.now) }
     {
         match sender {
@@ -54,7 +51,6 @@ impl<'a> Checker<'a> {
 
     /// Receivers, of which the same is asked, in order.
     pub(crate) fn receivers_rules(&self, asked: Asked, all: &[Reference]) -> Result<(), BrokenRule>
-        requires { IsDeclared self.now.declarations.now }
         ensures { IsFirstBreach result (each
             (names.reference_rules (items_in self.now.declarations.now) (asks asked)) all.now) }
     {
@@ -70,7 +66,6 @@ impl<'a> Checker<'a> {
         sender: &Reference,
         receivers: &[Reference],
     ) -> Result<(), BrokenRule>
-        requires { IsDeclared self.now.declarations.now }
         ensures { IsFirstBreach result
             (spec.move_rules (items_in self.now.declarations.now) (Item sender.now) receivers.now) }
     {
@@ -80,7 +75,6 @@ impl<'a> Checker<'a> {
 
     /// MOVE of a sender to receivers.
     pub fn move_rules(&self, sender: &Operand, receivers: &[Reference]) -> Result<(), BrokenRule>
-        requires { IsDeclared self.now.declarations.now }
         ensures { IsFirstBreach result
             (spec.move_rules (items_in self.now.declarations.now) sender.now receivers.now) }
     {

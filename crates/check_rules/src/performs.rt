@@ -5,7 +5,7 @@ ghost use Rattle.source_tree.specs.Procedures.{paragraphs_in, paragraphs_or_one,
 ghost use Rattle.source_tree.specs.Recursion as spec;
 ghost use Rattle.source_tree.specs.Filing.{phrases_of};
 ghost use Rattle.source_tree.specs.Recursion.{each_performs, file_phrases_performs, performs_from, phrases_performs, selected_performs};
-ghost use Rattle.declarations.specs.Named.{IsDeclared, procedures_in};
+ghost use Rattle.declarations.specs.Named.{procedures_in};
 ghost use Rattle.check_rules.specs.Performs.{AppendsPerforms, AddsPhrase, in_paragraph};
 
 use crate::checker::Checker;
@@ -54,7 +54,6 @@ impl<'a> Checker<'a> {
         last: &Option<Name>,
         all: &mut Performs,
     ) -> Result<(), AllocError>
-        requires { IsDeclared self.now.declarations.now }
         ensures { OnOk result (AppendsPerforms all.old
             all.new (in_paragraph number (spec.range_performs first.now.place
             (range_of (procedures_in self.now.declarations.now) first.now last.now)))) }
@@ -78,7 +77,6 @@ impl<'a> Checker<'a> {
         one: &Statement,
         all: &mut Performs,
     ) -> Result<(), AllocError>
-        requires { IsDeclared self.now.declarations.now }
         ensures { OnOk result (AppendsPerforms all.old all.new (in_paragraph number
             (spec.statement_performs (procedures_in self.now.declarations.now) one.now))) }
     {
@@ -115,7 +113,6 @@ impl<'a> Checker<'a> {
         statements: &[Statement],
         all: &mut Performs,
     ) -> Result<(), AllocError>
-        requires { IsDeclared self.now.declarations.now }
         ensures { OnOk result (AppendsPerforms all.old all.new (in_paragraph number (each_performs
             (spec.statement_performs (procedures_in self.now.declarations.now)) statements.now))) }
     {
@@ -133,7 +130,6 @@ impl<'a> Checker<'a> {
         phrase: &Option<Items<Statement>>,
         all: &mut Performs,
     ) -> Result<(), AllocError>
-        requires { IsDeclared self.now.declarations.now }
         ensures { OnOk result (AddsPhrase (procedures_in self.now.declarations.now) number all.old
             all.new phrase.now) }
     {
@@ -151,7 +147,6 @@ impl<'a> Checker<'a> {
         pair: &Phrases<Statement>,
         all: &mut Performs,
     ) -> Result<(), AllocError>
-        requires { IsDeclared self.now.declarations.now }
         ensures { OnOk
             result (AppendsPerforms all.old all.new (in_paragraph number (phrases_performs
             (spec.statement_performs (procedures_in self.now.declarations.now)) pair.now))) }
@@ -168,7 +163,6 @@ impl<'a> Checker<'a> {
         phrases: &FilePhrases<Statement>,
         all: &mut Performs,
     ) -> Result<(), AllocError>
-        requires { IsDeclared self.now.declarations.now }
         ensures { OnOk result
             (AppendsPerforms all.old all.new (in_paragraph number (file_phrases_performs
             (spec.statement_performs (procedures_in self.now.declarations.now)) phrases.now))) }
@@ -188,7 +182,6 @@ impl<'a> Checker<'a> {
         one: &FileStatement<Statement>,
         all: &mut Performs,
     ) -> Result<(), AllocError>
-        requires { IsDeclared self.now.declarations.now }
         ensures { OnOk result (AppendsPerforms all.old
             all.new (in_paragraph number (file_phrases_performs (spec.statement_performs
             (procedures_in self.now.declarations.now)) (phrases_of one.now)))) }
@@ -220,7 +213,6 @@ impl<'a> Checker<'a> {
         performed: &Performed<Statement>,
         all: &mut Performs,
     ) -> Result<(), AllocError>
-        requires { IsDeclared self.now.declarations.now }
         ensures { OnOk result (AppendsPerforms all.old all.new
             (in_paragraph number (spec.performed_performs (procedures_in self.now.declarations.now)
             (spec.statement_performs (procedures_in self.now.declarations.now)) performed.now))) }
@@ -241,7 +233,6 @@ impl<'a> Checker<'a> {
         selections: &[Selected<Statement>],
         all: &mut Performs,
     ) -> Result<(), AllocError>
-        requires { IsDeclared self.now.declarations.now }
         ensures { OnOk result
             (AppendsPerforms all.old all.new (in_paragraph number (each_performs (selected_performs
             (spec.statement_performs (procedures_in self.now.declarations.now))) selections.now))) }
@@ -260,7 +251,6 @@ impl<'a> Checker<'a> {
         one: &Evaluate<Statement>,
         all: &mut Performs,
     ) -> Result<(), AllocError>
-        requires { IsDeclared self.now.declarations.now }
         ensures { OnOk result
             (AppendsPerforms all.old all.new (in_paragraph number (spec.evaluate_performs
             (spec.statement_performs (procedures_in self.now.declarations.now)) one.now))) }
@@ -276,7 +266,6 @@ impl<'a> Checker<'a> {
         sentences: &[Sentence],
         all: &mut Performs,
     ) -> Result<(), AllocError>
-        requires { IsDeclared self.now.declarations.now }
         ensures { OnOk result (AppendsPerforms all.old all.new (in_paragraph number (each_performs
             (spec.sentence_performs (procedures_in self.now.declarations.now)) sentences.now))) }
     {
@@ -293,7 +282,6 @@ impl<'a> Checker<'a> {
         paragraphs: &[Paragraph],
         all: &mut Performs,
     ) -> Result<(), AllocError>
-        requires declared { IsDeclared self.now.declarations.now }
         requires numbers { first + length paragraphs.now < 2 ^ 64 }
         ensures { OnOk result (AppendsPerforms all.old all.new
             (performs_from (procedures_in self.now.declarations.now) first paragraphs.now)) }
@@ -311,7 +299,6 @@ impl<'a> Checker<'a> {
         one: &Section,
         all: &mut Performs,
     ) -> Result<usize, AllocError>
-        requires { IsDeclared self.now.declarations.now }
         ensures next { IfOk result
             (λ next. next ≡ first + length (paragraphs_or_one one.now.paragraphs)) }
         ensures added { OnOk result (AppendsPerforms all.old all.new (performs_from (procedures_in
@@ -331,7 +318,6 @@ impl<'a> Checker<'a> {
         sections: &[Section],
         all: &mut Performs,
     ) -> Result<usize, AllocError>
-        requires { IsDeclared self.now.declarations.now }
         ensures count { IfOk result (λ count. count ≡ length (paragraphs_in sections.now)) }
         ensures added { OnOk result (AppendsPerforms all.old all.new (performs_from
             (procedures_in self.now.declarations.now) 0 (paragraphs_in sections.now))) }

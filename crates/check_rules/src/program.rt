@@ -5,7 +5,7 @@ ghost use Rattle.source_tree.specs.Recursion.{HasOrder};
 ghost use Rattle.source_tree.specs.Rules.{program_rules};
 ghost use Rattle.entry_rules.specs.Checks.{fault_of};
 ghost use Rattle.declarations.specs.Declaring.{declaration_rules};
-ghost use Rattle.declarations.specs.Named.{Declares, IsDeclared};
+ghost use Rattle.declarations.specs.Named.{Declares};
 ghost use Rattle.check_rules.specs.Refusals.{IsFirstFault};
 
 use crate::checker::Checker;
@@ -39,7 +39,6 @@ pub fn check(alloc: Global, program: &Program) -> Result<Checked<'_>, CheckError
 impl<'a> Checker<'a> {
     /// The rules of the statements, 56, 69 of their number, and 54, of the program that declares this and breaks none before them.
     fn procedure_division_rules(&self, alloc: Global, program: &Program) -> Result<(), CheckError>
-        requires declared { IsDeclared self.now.declarations.now }
         requires program { Declares program.now self.now.declarations.now }
         requires kept { declaration_rules program.now ≡ [] }
         ensures kept { OnOk result (program_rules program.now ≡ []) }

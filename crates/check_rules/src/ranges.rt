@@ -4,7 +4,7 @@ ghost use Rattle.std.specs.Prelude.{◌≡◌};
 ghost use Rattle.entry_rules.specs.Checks.{IsFirstBreach};
 ghost use Rattle.source_tree.specs.PerformRules as spec;
 ghost use Rattle.source_tree.specs.Rules.{all_permitted};
-ghost use Rattle.declarations.specs.Named.{IsDeclared, procedures_in};
+ghost use Rattle.declarations.specs.Named.{procedures_in};
 
 use crate::checker::Checker;
 use entry_rules::{BrokenRule, Rule};
@@ -13,7 +13,6 @@ use source_tree::Name;
 impl<'a> Checker<'a> {
     /// What is performed from one procedure to the end of another, or of the same: rule 55 where that is backwards.
     pub(crate) fn range_rules(&self, first: &Name, last: &Option<Name>) -> Result<(), BrokenRule>
-        requires { IsDeclared self.now.declarations.now }
         ensures { IsFirstBreach result (spec.range_rules all_permitted
             (procedures_in self.now.declarations.now) first.now last.now) }
     {

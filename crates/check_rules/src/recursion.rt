@@ -5,7 +5,7 @@ ghost use Rattle.perform_graph.specs.Order.{marks};
 ghost use Rattle.source_tree.specs.Recursion.{HasOrder};
 ghost use Rattle.source_tree.specs.Rules.{sections_rules, all_permitted};
 ghost use Rattle.entry_rules.specs.Checks.{fault_of};
-ghost use Rattle.declarations.specs.Named.{Declares, IsDeclared, scope_in};
+ghost use Rattle.declarations.specs.Named.{Declares, scope_in};
 ghost use Rattle.check_rules.specs.Refusals.{IsBack};
 ghost use Rattle.check_rules.specs.Performs.{PerformsWithin, HasNext, IsFirstWithin};
 
@@ -20,7 +20,6 @@ impl<'a> Checker<'a> {
     /// No PERFORM of the program that declares this leads back. Where one does, the answer is at the first that stands in one of some paragraphs that
     /// perform one another, and performs one of them.
     pub(crate) fn recursion_rules(&self, alloc: Global, program: &Program) -> Result<(), CheckError>
-        requires declared { IsDeclared self.now.declarations.now }
         requires program { Declares program.now self.now.declarations.now }
         requires kept { sections_rules (scope_in self.now.declarations.now) all_permitted
             program.now.sections ≡ [] }

@@ -4,7 +4,7 @@ ghost use Rattle.std.specs.Prelude.{◌≡◌};
 ghost use Rattle.entry_rules.specs.Checks.{IsFirstBreach};
 ghost use Rattle.source_tree.specs.Broken.{each};
 ghost use Rattle.source_tree.specs.NameRules as spec;
-ghost use Rattle.declarations.specs.Named.{IsDeclared, items_in};
+ghost use Rattle.declarations.specs.Named.{items_in};
 ghost use Rattle.check_rules.specs.References as parts;
 ghost use Rattle.check_rules.specs.Asking.{asks};
 
@@ -19,7 +19,6 @@ use source_tree::{BoxedPart, Part, QualifiedName, Reference, Subscript};
 impl<'a> Checker<'a> {
     /// The item of a subscript is an integer, and has no subscripts.
     fn subscript_item_rules(&self, item: &QualifiedName) -> Result<(), BrokenRule>
-        requires { IsDeclared self.now.declarations.now }
         ensures { IsFirstBreach result
             (parts.subscript_rules_of (items_in self.now.declarations.now) item.now) }
     {
@@ -31,7 +30,6 @@ impl<'a> Checker<'a> {
 
     /// A subscript.
     fn subscript_rules(&self, one: &Subscript) -> Result<(), BrokenRule>
-        requires { IsDeclared self.now.declarations.now }
         ensures { IsFirstBreach result
             (spec.subscript_rules (items_in self.now.declarations.now) one.now) }
     {
@@ -46,7 +44,6 @@ impl<'a> Checker<'a> {
 
     /// Subscripts, in order.
     fn subscripts_rules(&self, all: &[Subscript]) -> Result<(), BrokenRule>
-        requires { IsDeclared self.now.declarations.now }
         ensures { IsFirstBreach result
             (each (spec.subscript_rules (items_in self.now.declarations.now)) all.now) }
     {
@@ -57,7 +54,6 @@ impl<'a> Checker<'a> {
     }
 
     fn length_rules(&self, length: &Option<Subscript>) -> Result<(), BrokenRule>
-        requires { IsDeclared self.now.declarations.now }
         ensures { IsFirstBreach result
             (spec.length_rules (items_in self.now.declarations.now) length.now) }
     {
@@ -69,7 +65,6 @@ impl<'a> Checker<'a> {
 
     /// The numbers of a part.
     fn part_rules(&self, part: &Option<BoxedPart>) -> Result<(), BrokenRule>
-        requires { IsDeclared self.now.declarations.now }
         ensures { IsFirstBreach result
             (spec.part_rules (items_in self.now.declarations.now) part.now) }
     {
@@ -81,7 +76,6 @@ impl<'a> Checker<'a> {
 
     /// The first place of a part, and its length.
     fn place_rules(&self, one: &Part) -> Result<(), BrokenRule>
-        requires { IsDeclared self.now.declarations.now }
         ensures { IsFirstBreach result
             (spec.part_rules (items_in self.now.declarations.now) (Some one.now)) }
     {
@@ -91,7 +85,6 @@ impl<'a> Checker<'a> {
 
     /// The numbers in parentheses after a name: subscripts, and then those of a part.
     pub(crate) fn parenthesized_rules(&self, one: &Reference) -> Result<(), BrokenRule>
-        requires { IsDeclared self.now.declarations.now }
         ensures { IsFirstBreach result
             (spec.number_rules_of (items_in self.now.declarations.now) one.now) }
     {
@@ -101,7 +94,6 @@ impl<'a> Checker<'a> {
 
     /// The item of a reference, its number of subscripts, whether it may have a part, and what is asked of it.
     fn named_rules(&self, asked: Asked, one: &Reference) -> Result<(), BrokenRule>
-        requires { IsDeclared self.now.declarations.now }
         ensures { IsFirstBreach result
             (parts.named_rules (items_in self.now.declarations.now) (asks asked) one.now) }
     {
@@ -112,7 +104,6 @@ impl<'a> Checker<'a> {
 
     /// A reference, and what is asked of its item.
     pub(crate) fn item_rules(&self, asked: Asked, one: &Reference) -> Result<(), BrokenRule>
-        requires { IsDeclared self.now.declarations.now }
         ensures { IsFirstBreach result
             (spec.reference_rules (items_in self.now.declarations.now) (asks asked) one.now) }
     {

@@ -4,7 +4,7 @@ ghost use Rattle.std.specs.Prelude.{◌≡◌, [], ◌∷◌};
 ghost use Rattle.entry_rules.specs.Checks.{IsFirstBreach, broken_of};
 ghost use Rattle.source_tree.specs.LookUp.{items_named, conditions_named};
 ghost use Rattle.source_tree.specs.SettingRules as spec;
-ghost use Rattle.declarations.specs.Named.{IsDeclared, items_in};
+ghost use Rattle.declarations.specs.Named.{items_in};
 
 use crate::checker::Checker;
 use entry_rules::{BrokenRule, Rule};
@@ -14,7 +14,6 @@ use source_tree::{QualifiedName, Reference};
 impl<'a> Checker<'a> {
     /// What a name breaks that no condition name has: 68 where items have it, else 40.
     fn no_condition(&self, name: &QualifiedName) -> BrokenRule
-        requires { IsDeclared self.now.declarations.now }
         ensures { spec.no_condition name.now.name.place
             (items_named (items_in self.now.declarations.now) name.now) ≡ broken_of result ∷ [] }
     {
@@ -29,7 +28,6 @@ impl<'a> Checker<'a> {
 
     /// The name of a condition, which has as many subscripts as its item has dimensions, and no part.
     fn set_name_rules(&self, one: &Reference) -> Result<(), BrokenRule>
-        requires { IsDeclared self.now.declarations.now }
         ensures { IsFirstBreach result (spec.set_name one.now.item.name.place
             one.now (items_named (items_in self.now.declarations.now) one.now.item)
             (conditions_named (items_in self.now.declarations.now) one.now.item)) }
@@ -43,7 +41,6 @@ impl<'a> Checker<'a> {
 
     /// The name of a condition, with the numbers in its parentheses.
     fn set_one_rules(&self, one: &Reference) -> Result<(), BrokenRule>
-        requires { IsDeclared self.now.declarations.now }
         ensures { IsFirstBreach result (spec.set_one (items_in self.now.declarations.now) one.now) }
     {
         self.set_name_rules(one)?;
@@ -52,7 +49,6 @@ impl<'a> Checker<'a> {
 
     /// SET of condition names TO TRUE.
     pub fn set_rules(&self, conditions: &[Reference]) -> Result<(), BrokenRule>
-        requires { IsDeclared self.now.declarations.now }
         ensures { IsFirstBreach result
             (spec.set_rules (items_in self.now.declarations.now) conditions.now) }
     {

@@ -4,7 +4,7 @@ ghost use Rattle.std.specs.Prelude.{◌≡◌, Some};
 ghost use Rattle.entry_rules.specs.Checks.{IsFirstBreach};
 ghost use Rattle.source_tree.specs.Conditions as tree;
 ghost use Rattle.source_tree.specs.ConditionRules as spec;
-ghost use Rattle.declarations.specs.Named.{IsDeclared, items_in};
+ghost use Rattle.declarations.specs.Named.{items_in};
 ghost use Rattle.check_rules.specs.Comparing.{side_kind_of};
 
 use crate::checker::Checker;
@@ -59,7 +59,6 @@ fn side_place(one: &Side) -> Place
 impl<'a> Checker<'a> {
     /// A side by itself: an operand alone of any kind, or numbers.
     pub(crate) fn side_rules(&self, one: &Side) -> Result<(), BrokenRule>
-        requires { IsDeclared self.now.declarations.now }
         ensures { IsFirstBreach result
             (spec.side_rules (items_in self.now.declarations.now) one.now) }
     {
@@ -74,7 +73,6 @@ impl<'a> Checker<'a> {
 
     /// What an operand is beside another.
     fn operand_compared(&self, one: &Operand) -> SideKind
-        requires { IsDeclared self.now.declarations.now }
         ensures { side_kind_of result
             ≡ spec.compared_alone (items_in self.now.declarations.now) (Some one.now) }
     {
@@ -89,7 +87,6 @@ impl<'a> Checker<'a> {
 
     /// What a side is beside another.
     fn side_compared(&self, one: &Side) -> SideKind
-        requires { IsDeclared self.now.declarations.now }
         ensures { side_kind_of result
             ≡ spec.compared_alone (items_in self.now.declarations.now) (tree.alone_side one.now) }
     {
@@ -104,7 +101,6 @@ impl<'a> Checker<'a> {
 
     /// Two sides, which can be compared: not two literals, not a number with decimals or in another usage beside characters.
     pub fn relation_rules(&self, left: &Side, right: &Side) -> Result<(), BrokenRule>
-        requires { IsDeclared self.now.declarations.now }
         ensures { IsFirstBreach result
             (spec.relation_rules (items_in self.now.declarations.now) left.now right.now) }
     {

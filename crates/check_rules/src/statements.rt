@@ -8,7 +8,7 @@ ghost use Rattle.source_tree.specs.Filing.{phrases_of};
 ghost use Rattle.source_tree.specs.FilingRules.{filing_rules};
 ghost use Rattle.source_tree.specs.Rules as spec;
 ghost use Rattle.source_tree.specs.Rules.{all_permitted};
-ghost use Rattle.declarations.specs.Named.{IsDeclared, files_in, items_in, scope_in};
+ghost use Rattle.declarations.specs.Named.{files_in, items_in, scope_in};
 
 use crate::checker::Checker;
 use entry_rules::BrokenRule;
@@ -21,7 +21,6 @@ use sqlite_items::Items;
 
 impl<'a> Checker<'a> {
     fn moving_rules(&self, one: &DataStatement) -> Result<(), BrokenRule>
-        requires { IsDeclared self.now.declarations.now }
         ensures { IsFirstBreach result
             (spec.moving_rules (items_in self.now.declarations.now) one.now) }
     {
@@ -36,7 +35,6 @@ impl<'a> Checker<'a> {
     }
 
     fn text_rules(&self, one: &TextStatement) -> Result<(), BrokenRule>
-        requires { IsDeclared self.now.declarations.now }
         ensures { IsFirstBreach result
             (spec.text_rules (items_in self.now.declarations.now) one.now) }
     {
@@ -53,7 +51,6 @@ impl<'a> Checker<'a> {
     #[cycle(statement)]
     #[tactic(auto, using(declarations::proofs::RuleLayers::statement_is))]
     pub fn statement_rules(&self, one: &Statement) -> Result<(), BrokenRule>
-        requires { IsDeclared self.now.declarations.now }
         ensures { IsFirstBreach result
             (spec.statement_rules (scope_in self.now.declarations.now) all_permitted one.now) }
     {
@@ -97,7 +94,6 @@ impl<'a> Checker<'a> {
     /// Statements, in order.
     #[cycle(statement)]
     fn statements_rules(&self, all: &[Statement]) -> Result<(), BrokenRule>
-        requires { IsDeclared self.now.declarations.now }
         ensures { IsFirstBreach result (each
             (spec.statement_rules (scope_in self.now.declarations.now) all_permitted) all.now) }
     {
@@ -110,7 +106,6 @@ impl<'a> Checker<'a> {
     /// The statements of a phrase, if it stands.
     #[cycle(statement)]
     fn phrase_rules(&self, phrase: &Option<Items<Statement>>) -> Result<(), BrokenRule>
-        requires { IsDeclared self.now.declarations.now }
         ensures { IsFirstBreach result (spec.phrase_rules
             (spec.statement_rules (scope_in self.now.declarations.now) all_permitted) phrase.now) }
     {
@@ -123,7 +118,6 @@ impl<'a> Checker<'a> {
     /// The statements of a phrase and its opposite.
     #[cycle(statement)]
     fn opposite_rules(&self, pair: &Phrases<Statement>) -> Result<(), BrokenRule>
-        requires { IsDeclared self.now.declarations.now }
         ensures { IsFirstBreach result (spec.phrases_rules
             (spec.statement_rules (scope_in self.now.declarations.now) all_permitted) pair.now) }
     {
@@ -134,7 +128,6 @@ impl<'a> Checker<'a> {
     /// Those of the phrases of a file statement.
     #[cycle(statement)]
     fn file_phrases_rules(&self, phrases: &FilePhrases<Statement>) -> Result<(), BrokenRule>
-        requires { IsDeclared self.now.declarations.now }
         ensures { IsFirstBreach result (spec.file_phrases_rules
             (spec.statement_rules (scope_in self.now.declarations.now) all_permitted) phrases.now) }
     {
@@ -148,7 +141,6 @@ impl<'a> Checker<'a> {
     /// The statements in a file statement.
     #[cycle(statement)]
     fn filed_rules(&self, one: &FileStatement<Statement>) -> Result<(), BrokenRule>
-        requires { IsDeclared self.now.declarations.now }
         ensures { IsFirstBreach result (spec.file_phrases_rules (spec.statement_rules
             (scope_in self.now.declarations.now) all_permitted) (phrases_of one.now)) }
     {
@@ -166,7 +158,6 @@ impl<'a> Checker<'a> {
     /// A file statement, with those in its phrases.
     #[cycle(statement)]
     fn file_statement_rules(&self, one: &FileStatement<Statement>) -> Result<(), BrokenRule>
-        requires { IsDeclared self.now.declarations.now }
         ensures { IsFirstBreach result (filing_rules (items_in self.now.declarations.now) (files_in
             self.now.declarations.now) one.now ++ spec.file_phrases_rules (spec.statement_rules
             (scope_in self.now.declarations.now) all_permitted) (phrases_of one.now)) }
@@ -182,7 +173,6 @@ impl<'a> Checker<'a> {
         subjects: &[Subject],
         one: &Selected<Statement>,
     ) -> Result<(), BrokenRule>
-        requires { IsDeclared self.now.declarations.now }
         ensures { IsFirstBreach result (selected_rules (items_in self.now.declarations.now)
             (spec.statement_rules (scope_in self.now.declarations.now) all_permitted) subjects.now
             one.now) }
@@ -198,7 +188,6 @@ impl<'a> Checker<'a> {
         subjects: &[Subject],
         all: &[Selected<Statement>],
     ) -> Result<(), BrokenRule>
-        requires { IsDeclared self.now.declarations.now }
         ensures { IsFirstBreach result (each (selected_rules (items_in self.now.declarations.now)
             (spec.statement_rules (scope_in self.now.declarations.now) all_permitted) subjects.now)
             all.now) }
@@ -212,7 +201,6 @@ impl<'a> Checker<'a> {
     /// EVALUATE: its subjects, its WHENs with their statements, and those of OTHER.
     #[cycle(statement)]
     fn evaluate_rules(&self, one: &Evaluate<Statement>) -> Result<(), BrokenRule>
-        requires { IsDeclared self.now.declarations.now }
         ensures { IsFirstBreach result (spec.evaluate_rules (items_in self.now.declarations.now)
             (spec.statement_rules (scope_in self.now.declarations.now) all_permitted) one.now) }
     {
@@ -223,7 +211,6 @@ impl<'a> Checker<'a> {
     }
 
     fn sentence_rules(&self, one: &Sentence) -> Result<(), BrokenRule>
-        requires { IsDeclared self.now.declarations.now }
         ensures { IsFirstBreach result
             (spec.sentence_rules (scope_in self.now.declarations.now) all_permitted one.now) }
     {
@@ -231,7 +218,6 @@ impl<'a> Checker<'a> {
     }
 
     fn sentences_rules(&self, all: &[Sentence]) -> Result<(), BrokenRule>
-        requires { IsDeclared self.now.declarations.now }
         ensures { IsFirstBreach result (each
             (spec.sentence_rules (scope_in self.now.declarations.now) all_permitted) all.now) }
     {
@@ -242,7 +228,6 @@ impl<'a> Checker<'a> {
     }
 
     fn paragraph_rules(&self, one: &Paragraph) -> Result<(), BrokenRule>
-        requires { IsDeclared self.now.declarations.now }
         ensures { IsFirstBreach result
             (spec.paragraph_rules (scope_in self.now.declarations.now) all_permitted one.now) }
     {
@@ -250,7 +235,6 @@ impl<'a> Checker<'a> {
     }
 
     fn paragraphs_rules(&self, all: &[Paragraph]) -> Result<(), BrokenRule>
-        requires { IsDeclared self.now.declarations.now }
         ensures { IsFirstBreach result (each
             (spec.paragraph_rules (scope_in self.now.declarations.now) all_permitted) all.now) }
     {
@@ -261,7 +245,6 @@ impl<'a> Checker<'a> {
     }
 
     fn section_rules(&self, one: &Section) -> Result<(), BrokenRule>
-        requires { IsDeclared self.now.declarations.now }
         ensures { IsFirstBreach result
             (spec.section_rules (scope_in self.now.declarations.now) all_permitted one.now) }
     {
@@ -270,7 +253,6 @@ impl<'a> Checker<'a> {
 
     /// The statements of sections, in order.
     pub fn sections_rules(&self, all: &[Section]) -> Result<(), BrokenRule>
-        requires { IsDeclared self.now.declarations.now }
         ensures { IsFirstBreach result
             (spec.sections_rules (scope_in self.now.declarations.now) all_permitted all.now) }
     {

@@ -6,7 +6,7 @@ ghost use Rattle.entry_rules.specs.Checks.{IsFirstBreach};
 ghost use Rattle.source_tree.specs.Broken.{each};
 ghost use Rattle.source_tree.specs.Parts.{items_referred};
 ghost use Rattle.source_tree.specs.StringRules as spec;
-ghost use Rattle.declarations.specs.Named.{IsDeclared, items_in};
+ghost use Rattle.declarations.specs.Named.{items_in};
 
 use crate::asked::Asked;
 use crate::checker::Checker;
@@ -16,7 +16,6 @@ use source_tree::{Literal, LiteralValue, Operand, Reference, Sending, Statement,
 impl<'a> Checker<'a> {
     /// A sender or a delimiter.
     fn sent_rules(&self, one: &Operand) -> Result<(), BrokenRule>
-        requires { IsDeclared self.now.declarations.now }
         ensures { IsFirstBreach result
             (spec.sent_rules (items_in self.now.declarations.now) one.now) }
     {
@@ -28,7 +27,6 @@ impl<'a> Checker<'a> {
 
     /// Senders, in order.
     fn senders_rules(&self, all: &[Operand]) -> Result<(), BrokenRule>
-        requires { IsDeclared self.now.declarations.now }
         ensures { IsFirstBreach result
             (each (spec.sent_rules (items_in self.now.declarations.now)) all.now) }
     {
@@ -39,7 +37,6 @@ impl<'a> Checker<'a> {
     }
 
     fn delimiter_rules(&self, delimiter: &Option<Operand>) -> Result<(), BrokenRule>
-        requires { IsDeclared self.now.declarations.now }
         ensures { IsFirstBreach result
             (spec.delimiter_rules (items_in self.now.declarations.now) delimiter.now) }
     {
@@ -51,7 +48,6 @@ impl<'a> Checker<'a> {
 
     /// Senders, and the delimiter after them.
     fn sending_rules(&self, one: &Sending) -> Result<(), BrokenRule>
-        requires { IsDeclared self.now.declarations.now }
         ensures { IsFirstBreach result
             (spec.sending_rules (items_in self.now.declarations.now) one.now) }
     {
@@ -60,7 +56,6 @@ impl<'a> Checker<'a> {
     }
 
     fn sendings_rules(&self, all: &[Sending]) -> Result<(), BrokenRule>
-        requires { IsDeclared self.now.declarations.now }
         ensures { IsFirstBreach result
             (each (spec.sending_rules (items_in self.now.declarations.now)) all.now) }
     {
@@ -72,7 +67,6 @@ impl<'a> Checker<'a> {
 
     /// The bytes of what a reference shows; 0 where its name doesn't name one item.
     fn length_shown(&self, one: &Reference) -> u32
-        requires { IsDeclared self.now.declarations.now }
         ensures { result
             ≡ spec.only_length (items_referred (items_in self.now.declarations.now) one.now) }
     {
@@ -84,7 +78,6 @@ impl<'a> Checker<'a> {
 
     /// A pointer for a receiver of so many bytes.
     fn pointer_rules(&self, size: u32, pointer: &Option<Reference>) -> Result<(), BrokenRule>
-        requires { IsDeclared self.now.declarations.now }
         ensures { IsFirstBreach result
             (spec.pointer_rules (items_in self.now.declarations.now) size pointer.now) }
     {
@@ -96,7 +89,6 @@ impl<'a> Checker<'a> {
 
     /// STRING without its phrases.
     pub fn string_rules(&self, one: &StringStatement<Statement>) -> Result<(), BrokenRule>
-        requires { IsDeclared self.now.declarations.now }
         ensures { IsFirstBreach result
             (spec.string_rules (items_in self.now.declarations.now) one.now) }
     {

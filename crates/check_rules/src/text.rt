@@ -3,7 +3,7 @@
 ghost use Rattle.std.specs.Prelude.{◌≡◌};
 ghost use Rattle.entry_rules.specs.Checks.{IsFirstBreach};
 ghost use Rattle.source_tree.specs.TextRules as spec;
-ghost use Rattle.declarations.specs.Named.{IsDeclared, items_in};
+ghost use Rattle.declarations.specs.Named.{items_in};
 
 use crate::asked::Asked;
 use crate::checker::Checker;
@@ -14,7 +14,6 @@ use source_tree::{LiteralValue, Operand, Reference};
 impl<'a> Checker<'a> {
     /// An operand that is shown: ALL with a literal isn't.
     fn shown_rules(&self, one: &Operand) -> Result<(), BrokenRule>
-        requires { IsDeclared self.now.declarations.now }
         ensures { IsFirstBreach result
             (spec.shown_rules (items_in self.now.declarations.now) one.now) }
     {
@@ -29,7 +28,6 @@ impl<'a> Checker<'a> {
 
     /// DISPLAY of operands.
     pub fn display_rules(&self, operands: &[Operand]) -> Result<(), BrokenRule>
-        requires { IsDeclared self.now.declarations.now }
         ensures { IsFirstBreach result
             (spec.display_rules (items_in self.now.declarations.now) operands.now) }
     {
@@ -41,7 +39,6 @@ impl<'a> Checker<'a> {
 
     /// ACCEPT of a console line.
     pub fn accept_line_rules(&self, receiver: &Reference) -> Result<(), BrokenRule>
-        requires { IsDeclared self.now.declarations.now }
         ensures { IsFirstBreach result
             (spec.accept_line_rules (items_in self.now.declarations.now) receiver.now) }
     {
@@ -50,7 +47,6 @@ impl<'a> Checker<'a> {
 
     /// ACCEPT FROM DATE: a MOVE of six digits.
     pub fn accept_date_rules(&self, receiver: &Reference) -> Result<(), BrokenRule>
-        requires { IsDeclared self.now.declarations.now }
         ensures { IsFirstBreach result
             (spec.accept_date_rules (items_in self.now.declarations.now) receiver.now) }
     {

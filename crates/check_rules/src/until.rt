@@ -5,7 +5,7 @@ ghost use Rattle.std.specs.Prelude.{◌≡◌, Some};
 ghost use Rattle.entry_rules.specs.Checks.{IsFirstBreach};
 ghost use Rattle.source_tree.specs.ConditionRules as spec;
 ghost use Rattle.source_tree.specs.Rules as rules;
-ghost use Rattle.declarations.specs.Named.{IsDeclared, items_in};
+ghost use Rattle.declarations.specs.Named.{items_in};
 
 use crate::asked::Asked;
 use crate::checker::Checker;
@@ -16,7 +16,6 @@ use std::slice;
 impl<'a> Checker<'a> {
     /// VARYING: FROM is a number that is moved, and BY one that is added.
     fn varying_rules(&self, one: &Varying) -> Result<(), BrokenRule>
-        requires { IsDeclared self.now.declarations.now }
         ensures { IsFirstBreach result
             (spec.varying_rules (items_in self.now.declarations.now) (Some one.now)) }
     {
@@ -28,7 +27,6 @@ impl<'a> Checker<'a> {
 
     /// UNTIL, with VARYING or without.
     pub fn until_rules(&self, one: &Until) -> Result<(), BrokenRule>
-        requires { IsDeclared self.now.declarations.now }
         ensures { IsFirstBreach result
             (spec.until_rules (items_in self.now.declarations.now) one.now) }
     {
@@ -40,7 +38,6 @@ impl<'a> Checker<'a> {
 
     /// How often a PERFORM turns.
     pub(crate) fn turns_rules(&self, one: &Repetition) -> Result<(), BrokenRule>
-        requires { IsDeclared self.now.declarations.now }
         ensures { IsFirstBreach result
             (rules.turns_rules (items_in self.now.declarations.now) one.now) }
     {

@@ -12,7 +12,7 @@ use Rattle.source_tree.specs.Rules.{all_permitted, sections_rules}
 use Rattle.source_tree.specs.Setting.{Scope, scope}
 use Rattle.code_image.specs.declared.code.Code.{Code}
 use Rattle.declarations.specs.declared.declarations.Declarations.{Declarations}
-use Rattle.declarations.specs.Named.{Declares, IsDeclared, data_in, files_in, items_in, scope_in}
+use Rattle.declarations.specs.Named.{Declares, data_in, files_in, items_in, scope_in}
 use Rattle.declarations.proofs.Declared.{same_scope}
 use Rattle.codegen.specs.Layout.{code_of, end_fragment, section_fragment, storage_code, storage_with}
 use Rattle.codegen.specs.Fragments.{in_order, append}
@@ -22,11 +22,11 @@ module _ (program : Program) (all : Declarations) (h : Declares program all) whe
   pub entries_by : entry_rules program.storage ≡ [] → entry_rules all.storage.now ≡ []
   entries_by kept = ap entry_rules h.storage ∙ kept
 
-  pub descriptions_by : IsDeclared all → descriptions_rules program.storage program.files ≡ []
-  descriptions_by declared =
+  pub descriptions_by : descriptions_rules program.storage program.files ≡ []
+  descriptions_by =
       ap (λ (l : List Entry). descriptions_rules l program.files) (sym h.storage)
       ∙ ap (λ (l : List FileDescription). descriptions_rules all.storage.now l) (sym h.descriptions)
-      ∙ descriptions_kept (items_in all) (data_in all) declared.file_rules
+      ∙ descriptions_kept (items_in all) (data_in all) all.declared.file_rules
 
   pub sections_by : (sections : List Section) → sections ≡ program.sections
       → sections_rules (scope program) all_permitted program.sections ≡ []

@@ -2,7 +2,7 @@
 
 ghost use Rattle.std.specs.Prelude.{◌≡◌, [], ◌∷◌, OnOk};
 ghost use Rattle.source_tree.specs.TextRules.{accept_line_rules, accept_date_rules};
-ghost use Rattle.declarations.specs.Named.{IsDeclared, items_in};
+ghost use Rattle.declarations.specs.Named.{items_in};
 ghost use Rattle.codegen.specs.Fragments.{append};
 ghost use Rattle.codegen.specs.DataCode as spec;
 
@@ -18,7 +18,6 @@ impl<'a> Emitter<'a> {
         code: &mut Code,
         receiver: &Reference,
     ) -> Result<(), AllocError>
-        requires declared { IsDeclared self.now.declarations.now }
         requires rules { accept_line_rules (items_in self.now.declarations.now) receiver.now ≡ [] }
         ensures { OnOk result (code.new ≡ append code.old
             (spec.accept_fragment (items_in self.now.declarations.now) receiver.now code.old)) }
@@ -30,7 +29,6 @@ impl<'a> Emitter<'a> {
 
     /// ACCEPT FROM DATE, after its `tick`.
     pub(crate) fn emit_date(&self, code: &mut Code, receiver: &Reference) -> Result<(), AllocError>
-        requires declared { IsDeclared self.now.declarations.now }
         requires rules { accept_date_rules (items_in self.now.declarations.now) receiver.now ≡ [] }
         ensures { OnOk result (code.new ≡ append code.old
             (spec.date_fragment (items_in self.now.declarations.now) receiver.now code.old)) }

@@ -7,7 +7,7 @@ ghost use Rattle.source_tree.specs.ArithmeticRules.{number_receiver, number_rule
 ghost use Rattle.data_instructions.specs.ArithmeticCodes as codes;
 ghost use Rattle.data_instructions.specs.declared.calculation.Calculation.TheVariants as c;
 ghost use Rattle.data_instructions.specs.declared.instruction.DataInstruction.TheVariants as i;
-ghost use Rattle.declarations.specs.Named.{IsDeclared, items_in};
+ghost use Rattle.declarations.specs.Named.{items_in};
 ghost use Rattle.codegen.specs.Fragments.{append, sequence};
 ghost use Rattle.codegen.specs.DataCode.{work_fragment, works_fragment};
 ghost use Rattle.codegen.specs.ArithmeticCode as spec;
@@ -62,7 +62,6 @@ impl<'a> Emitter<'a> {
         rounded: bool,
         item: &Reference,
     ) -> Result<(), AllocError>
-        requires declared { IsDeclared self.now.declarations.now }
         requires rules { number_rules_of (items_in self.now.declarations.now) item.now ≡ [] }
         ensures { OnOk result
             (code.new ≡ append code.old (spec.store_fragment (items_in self.now.declarations.now)
@@ -80,7 +79,6 @@ impl<'a> Emitter<'a> {
         rounded: bool,
         item: &Reference,
     ) -> Result<(), AllocError>
-        requires declared { IsDeclared self.now.declarations.now }
         requires rules { number_rules_of (items_in self.now.declarations.now) item.now ≡ [] }
         ensures { OnOk result
             (code.new ≡ append code.old (spec.update_fragment (items_in self.now.declarations.now)
@@ -98,7 +96,6 @@ impl<'a> Emitter<'a> {
         operator: Operator,
         all: &[Receiver],
     ) -> Result<(), AllocError>
-        requires declared { IsDeclared self.now.declarations.now }
         requires rules { updated_rules (items_in self.now.declarations.now) all.now ≡ [] }
         ensures { OnOk result (code.new ≡ append code.old (spec.updates_fragment
             (items_in self.now.declarations.now) keep operator all.now code.old)) }
@@ -117,7 +114,6 @@ impl<'a> Emitter<'a> {
         operator: Operator,
         all: &Items<Receiver>,
     ) -> Result<(), AllocError>
-        requires declared { IsDeclared self.now.declarations.now }
         requires rules { updated_rules (items_in self.now.declarations.now) all.now ≡ [] }
         ensures { OnOk result (code.new ≡ append code.old (sequence (spec.updates_fragment (items_in
             self.now.declarations.now) keep operator all.now) parts.discard_fragment code.old)) }
@@ -128,7 +124,6 @@ impl<'a> Emitter<'a> {
 
     /// A receiver becomes the newest number, which stays.
     fn emit_give(&self, code: &mut Code, keep: bool, one: &Receiver) -> Result<(), AllocError>
-        requires declared { IsDeclared self.now.declarations.now }
         requires rules { number_rules_of (items_in self.now.declarations.now) one.now.item ≡ [] }
         ensures { OnOk result (code.new ≡ append code.old
             (spec.give_fragment (items_in self.now.declarations.now) keep one.now code.old)) }
@@ -138,7 +133,6 @@ impl<'a> Emitter<'a> {
     }
 
     fn emit_gives(&self, code: &mut Code, keep: bool, all: &[Receiver]) -> Result<(), AllocError>
-        requires declared { IsDeclared self.now.declarations.now }
         requires rules { given_rules (items_in self.now.declarations.now) all.now ≡ [] }
         ensures { OnOk result (code.new ≡ append code.old
             (spec.gives_fragment (items_in self.now.declarations.now) keep all.now code.old)) }
@@ -156,7 +150,6 @@ impl<'a> Emitter<'a> {
         keep: bool,
         all: &Items<Receiver>,
     ) -> Result<(), AllocError>
-        requires declared { IsDeclared self.now.declarations.now }
         requires rules { given_rules (items_in self.now.declarations.now) all.now ≡ [] }
         ensures { OnOk result (code.new ≡ append code.old (sequence (spec.gives_fragment
             (items_in self.now.declarations.now) keep all.now) parts.discard_fragment code.old)) }
@@ -172,7 +165,6 @@ impl<'a> Emitter<'a> {
         keep: bool,
         all: &Items<Receiver>,
     ) -> Result<(), AllocError>
-        requires declared { IsDeclared self.now.declarations.now }
         requires rules { given_rules (items_in self.now.declarations.now) all.now ≡ [] }
         ensures { OnOk result (code.new ≡ append code.old
             (sequence (works_fragment (codes.duplicate 1 ∷ i.Calculate c.Subtract ∷ []))
@@ -191,7 +183,6 @@ impl<'a> Emitter<'a> {
         keep: bool,
         all: &Items<Receiver>,
     ) -> Result<(), AllocError>
-        requires declared { IsDeclared self.now.declarations.now }
         requires rules { given_rules (items_in self.now.declarations.now) all.now ≡ [] }
         ensures { OnOk result (code.new ≡ append code.old
             (sequence (work_fragment (i.Calculate c.Multiply)) (sequence (spec.gives_fragment
@@ -208,7 +199,6 @@ impl<'a> Emitter<'a> {
         keep: bool,
         all: &Items<Receiver>,
     ) -> Result<(), AllocError>
-        requires declared { IsDeclared self.now.declarations.now }
         requires rules { given_rules (items_in self.now.declarations.now) all.now ≡ [] }
         ensures { OnOk result (code.new ≡ append
             code.old (sequence (work_fragment (i.Calculate c.Divide)) (sequence (spec.gives_fragment
@@ -226,7 +216,6 @@ impl<'a> Emitter<'a> {
         order: DivisionOrder,
         all: &Items<Receiver>,
     ) -> Result<(), AllocError>
-        requires declared { IsDeclared self.now.declarations.now }
         requires rules { given_rules (items_in self.now.declarations.now) all.now ≡ [] }
         ensures { OnOk result (code.new ≡ append code.old (spec.division_fragment order
             (sequence (work_fragment (i.Calculate c.Divide)) (sequence (spec.gives_fragment
@@ -250,7 +239,6 @@ impl<'a> Emitter<'a> {
         quotient: &Receiver,
         remainder: &Reference,
     ) -> Result<(), AllocError>
-        requires declared { IsDeclared self.now.declarations.now }
         requires rules { reference_rules (items_in self.now.declarations.now) number_receiver
             quotient.now.item ++ reference_rules (items_in self.now.declarations.now)
             number_receiver remainder.now ≡ [] }
@@ -276,7 +264,6 @@ impl<'a> Emitter<'a> {
         quotient: &Receiver,
         remainder: &Reference,
     ) -> Result<(), AllocError>
-        requires declared { IsDeclared self.now.declarations.now }
         requires rules { reference_rules (items_in self.now.declarations.now) number_receiver
             quotient.now.item ++ reference_rules (items_in self.now.declarations.now)
             number_receiver remainder.now ≡ [] }
@@ -300,7 +287,6 @@ impl<'a> Emitter<'a> {
         first: &Operand,
         second: &Operand,
     ) -> Result<(), AllocError>
-        requires declared { IsDeclared self.now.declarations.now }
         requires rules { number_rules (items_in self.now.declarations.now) first.now
             ++ number_rules (items_in self.now.declarations.now) second.now ≡ [] }
         ensures { OnOk result (code.new ≡ append
@@ -317,7 +303,6 @@ impl<'a> Emitter<'a> {
         all: &[Operand],
         minuend: &Operand,
     ) -> Result<(), AllocError>
-        requires declared { IsDeclared self.now.declarations.now }
         requires rules { each (number_rules (items_in self.now.declarations.now)) all.now
             ++ number_rules (items_in self.now.declarations.now) minuend.now ≡ [] }
         ensures { OnOk result (code.new ≡ append
@@ -330,7 +315,6 @@ impl<'a> Emitter<'a> {
 
     /// The values that an operation begins with, on the stack of numbers.
     fn emit_values(&self, code: &mut Code, one: &Operation) -> Result<(), AllocError>
-        requires declared { IsDeclared self.now.declarations.now }
         requires rules { parts.values_rules (items_in self.now.declarations.now) one.now ≡ [] }
         ensures { OnOk result (code.new ≡ append code.old
             (parts.values_fragment (items_in self.now.declarations.now) one.now code.old)) }
@@ -355,7 +339,6 @@ impl<'a> Emitter<'a> {
 
     /// What comes of those values, which are taken.
     fn emit_results(&self, code: &mut Code, keep: bool, one: &Operation) -> Result<(), AllocError>
-        requires declared { IsDeclared self.now.declarations.now }
         requires rules { parts.results_rules (items_in self.now.declarations.now) one.now ≡ [] }
         ensures { OnOk result (code.new ≡ append code.old
             (parts.results_fragment (items_in self.now.declarations.now) keep one.now code.old)) }
@@ -396,7 +379,6 @@ impl<'a> Emitter<'a> {
     /// What an operation computes and stores.
     #[tactic(auto, using(crate::proofs::Operations::operation_parts))]
     fn emit_operation(&self, code: &mut Code, keep: bool, one: &Operation) -> Result<(), AllocError>
-        requires declared { IsDeclared self.now.declarations.now }
         requires rules { operation_rules (items_in self.now.declarations.now) one.now ≡ [] }
         ensures { OnOk result (code.new ≡ append code.old
             (spec.operation_fragment (items_in self.now.declarations.now) keep one.now code.old)) }
@@ -412,7 +394,6 @@ impl<'a> Emitter<'a> {
         keep: bool,
         one: &Operation,
     ) -> Result<(), AllocError>
-        requires declared { IsDeclared self.now.declarations.now }
         requires rules { operation_rules (items_in self.now.declarations.now) one.now ≡ [] }
         ensures { OnOk result (code.new ≡ append code.old
             (spec.arithmetic_fragment (items_in self.now.declarations.now) keep one.now code.old)) }

@@ -9,7 +9,7 @@ ghost use Rattle.source_tree.specs.Broken.{each};
 ghost use Rattle.source_tree.specs.EntryRules.{entry_rules};
 ghost use Rattle.source_tree.specs.ConditionRules.{relation_rules, condition_rules};
 ghost use Rattle.source_tree.specs.Evaluate as meaning;
-ghost use Rattle.declarations.specs.Named.{IsDeclared, items_in};
+ghost use Rattle.declarations.specs.Named.{items_in};
 ghost use Rattle.declarations.specs.Resolved.{condition_meant, values_meant, question_meant};
 ghost use Rattle.codegen.specs.Fragments.{append, sequence, in_order};
 ghost use Rattle.codegen.specs.ConditionCode as spec;
@@ -32,7 +32,6 @@ impl<'a> Emitter<'a> {
         code: &mut Code,
         one: AskedCondition<'_>,
     ) -> Result<(), AllocError>
-        requires declared { IsDeclared self.now.declarations.now }
         requires entries { entry_rules self.now.declarations.now.storage.now ≡ [] }
         requires rules { condition_rules (items_in self.now.declarations.now) (condition_meant one)
             ≡ [] }
@@ -56,7 +55,6 @@ impl<'a> Emitter<'a> {
         first: &Side,
         last: &Side,
     ) -> Result<(), AllocError>
-        requires declared { IsDeclared self.now.declarations.now }
         requires first { relation_rules (items_in self.now.declarations.now) value.now first.now
             ≡ [] }
         requires last { relation_rules (items_in self.now.declarations.now) value.now last.now
@@ -81,7 +79,6 @@ impl<'a> Emitter<'a> {
         first: &Side,
         last: &Option<Side>,
     ) -> Result<(), AllocError>
-        requires declared { IsDeclared self.now.declarations.now }
         requires rules { condition_rules (items_in self.now.declarations.now)
             (meaning.value_within value.now first.now last.now) ≡ [] }
         ensures { OnOk result (code.new
@@ -101,7 +98,6 @@ impl<'a> Emitter<'a> {
         value: &Side,
         wanted: ObjectRange<'_>,
     ) -> Result<(), AllocError>
-        requires declared { IsDeclared self.now.declarations.now }
         requires rules { condition_rules (items_in self.now.declarations.now)
             (meaning.value_condition value.now (values_meant wanted)) ≡ [] }
         ensures { OnOk result (code.new
@@ -119,7 +115,6 @@ impl<'a> Emitter<'a> {
         truth: bool,
         one: AskedCondition<'_>,
     ) -> Result<(), AllocError>
-        requires declared { IsDeclared self.now.declarations.now }
         requires entries { entry_rules self.now.declarations.now.storage.now ≡ [] }
         requires rules { condition_rules (items_in self.now.declarations.now) (condition_meant one)
             ≡ [] }
@@ -139,7 +134,6 @@ impl<'a> Emitter<'a> {
         one: AskedCondition<'_>,
         other: AskedCondition<'_>,
     ) -> Result<(), AllocError>
-        requires declared { IsDeclared self.now.declarations.now }
         requires entries { entry_rules self.now.declarations.now.storage.now ≡ [] }
         requires one { condition_rules (items_in self.now.declarations.now) (condition_meant one)
             ≡ [] }
@@ -164,7 +158,6 @@ impl<'a> Emitter<'a> {
         one: AskedCondition<'_>,
         other: AskedCondition<'_>,
     ) -> Result<(), AllocError>
-        requires declared { IsDeclared self.now.declarations.now }
         requires entries { entry_rules self.now.declarations.now.storage.now ≡ [] }
         requires one { condition_rules (items_in self.now.declarations.now) (condition_meant one)
             ≡ [] }
@@ -193,7 +186,6 @@ impl<'a> Emitter<'a> {
 
     /// What an object asks of its subject, once both are looked up.
     fn emit_question(&self, code: &mut Code, one: Question<'_>) -> Result<(), AllocError>
-        requires declared { IsDeclared self.now.declarations.now }
         requires entries { entry_rules self.now.declarations.now.storage.now ≡ [] }
         requires rules { condition_rules (items_in self.now.declarations.now) (question_meant one)
             ≡ [] }
@@ -217,7 +209,6 @@ impl<'a> Emitter<'a> {
         subject: &Subject,
         choice: &Choice,
     ) -> Result<(), AllocError>
-        requires declared { IsDeclared self.now.declarations.now }
         requires entries { entry_rules self.now.declarations.now.storage.now ≡ [] }
         requires rules { condition_rules (items_in self.now.declarations.now)
             (meaning.selection_condition (items_in self.now.declarations.now) subject.now
@@ -237,7 +228,6 @@ impl<'a> Emitter<'a> {
         subject: &Subject,
         choice: &Choice,
     ) -> Result<(), AllocError>
-        requires declared { IsDeclared self.now.declarations.now }
         requires entries { entry_rules self.now.declarations.now.storage.now ≡ [] }
         requires rules { condition_rules (items_in self.now.declarations.now)
             (meaning.selection_condition (items_in self.now.declarations.now) subject.now
@@ -260,7 +250,6 @@ impl<'a> Emitter<'a> {
         subjects: &[Subject],
         objects: &[Object],
     ) -> Result<(), AllocError>
-        requires declared { IsDeclared self.now.declarations.now }
         requires entries { entry_rules self.now.declarations.now.storage.now ≡ [] }
         requires rules { each (condition_rules (items_in self.now.declarations.now))
             (meaning.object_conditions (items_in self.now.declarations.now) subjects.now
@@ -290,7 +279,6 @@ impl<'a> Emitter<'a> {
         subjects: &[Subject],
         objects: &[Object],
     ) -> Result<(), AllocError>
-        requires declared { IsDeclared self.now.declarations.now }
         requires entries { entry_rules self.now.declarations.now.storage.now ≡ [] }
         requires rules { each (condition_rules (items_in self.now.declarations.now))
             (meaning.object_conditions (items_in self.now.declarations.now) subjects.now
@@ -316,7 +304,6 @@ impl<'a> Emitter<'a> {
         subjects: &[Subject],
         one: &When,
     ) -> Result<(), AllocError>
-        requires declared { IsDeclared self.now.declarations.now }
         requires entries { entry_rules self.now.declarations.now.storage.now ≡ [] }
         requires rules { each (condition_rules (items_in self.now.declarations.now))
             (meaning.object_conditions (items_in self.now.declarations.now) subjects.now
@@ -338,7 +325,6 @@ impl<'a> Emitter<'a> {
         subjects: &[Subject],
         more: &[When],
     ) -> Result<(), AllocError>
-        requires declared { IsDeclared self.now.declarations.now }
         requires entries { entry_rules self.now.declarations.now.storage.now ≡ [] }
         requires rules { each (λ (one : When).
             each (condition_rules (items_in self.now.declarations.now)) (meaning.object_conditions
@@ -361,7 +347,6 @@ impl<'a> Emitter<'a> {
         subjects: &[Subject],
         whens: &[When],
     ) -> Result<(), AllocError>
-        requires declared { IsDeclared self.now.declarations.now }
         requires entries { entry_rules self.now.declarations.now.storage.now ≡ [] }
         requires rules { each (λ (one : When).
             each (condition_rules (items_in self.now.declarations.now)) (meaning.object_conditions

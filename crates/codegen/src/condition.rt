@@ -15,7 +15,7 @@ ghost use Rattle.source_tree.specs.ValueRules.{has_form};
 ghost use Rattle.data_instructions.specs.ConditionCodes.{negation};
 ghost use Rattle.data_instructions.specs.declared.test.Test.TheVariants as t;
 ghost use Rattle.data_instructions.specs.declared.instruction.DataInstruction.TheVariants as i;
-ghost use Rattle.declarations.specs.Named.{IsDeclared, items_in};
+ghost use Rattle.declarations.specs.Named.{items_in};
 ghost use Rattle.codegen.specs.Fragments.{append, sequence, in_order};
 ghost use Rattle.codegen.specs.DataCode.{sender_fragment, work_fragment, works_fragment, number_fragment, take_fragment};
 ghost use Rattle.codegen.specs.ArithmeticCode.{zero_number, value_fragment, expression_fragment};
@@ -116,7 +116,6 @@ impl<'a> Emitter<'a> {
 
     /// An operand alone, taken as the sender.
     fn emit_taken(&self, code: &mut Code, one: Alone<'_>) -> Result<(), AllocError>
-        requires declared { IsDeclared self.now.declarations.now }
         requires rules { operand_rules (items_in self.now.declarations.now) (operand_of one) ≡ [] }
         ensures { OnOk result (code.new ≡ append code.old (sender_fragment
             (items_in self.now.declarations.now) (operand_of one.entry) code.old)) }
@@ -134,7 +133,6 @@ impl<'a> Emitter<'a> {
         relation: Relation,
         one: Alone<'_>,
     ) -> Result<(), AllocError>
-        requires declared { IsDeclared self.now.declarations.now }
         requires rules { operand_rules (items_in self.now.declarations.now) (operand_of one) ≡ [] }
         ensures { OnOk result (code.new ≡ append code.old (spec.compared_fragment
             (items_in self.now.declarations.now) relation (operand_of one.entry) code.old)) }
@@ -150,7 +148,6 @@ impl<'a> Emitter<'a> {
 
     /// The number of an operand alone.
     fn emit_number_alone(&self, code: &mut Code, one: Alone<'_>) -> Result<(), AllocError>
-        requires declared { IsDeclared self.now.declarations.now }
         requires rules { operand_rules (items_in self.now.declarations.now) (operand_of one) ≡ [] }
         ensures { OnOk result (code.new ≡ append code.old
             (value_fragment (items_in self.now.declarations.now) (operand_of one.entry) code.old)) }
@@ -163,7 +160,6 @@ impl<'a> Emitter<'a> {
 
     /// A side as a number.
     fn emit_side(&self, code: &mut Code, side: &Side) -> Result<(), AllocError>
-        requires declared { IsDeclared self.now.declarations.now }
         requires rules { side_rules (items_in self.now.declarations.now) side.now ≡ [] }
         ensures { OnOk result (code.new ≡ append code.old
             (spec.side_fragment (items_in self.now.declarations.now) side.now code.old)) }
@@ -185,7 +181,6 @@ impl<'a> Emitter<'a> {
         relation: Relation,
         right: &Side,
     ) -> Result<(), AllocError>
-        requires declared { IsDeclared self.now.declarations.now }
         requires left { side_rules (items_in self.now.declarations.now) left.now ≡ [] }
         requires right { side_rules (items_in self.now.declarations.now) right.now ≡ [] }
         ensures { OnOk result (code.new ≡ append code.old (spec.numbers_fragment
@@ -207,7 +202,6 @@ impl<'a> Emitter<'a> {
         relation: Relation,
         other: Alone<'_>,
     ) -> Result<(), AllocError>
-        requires declared { IsDeclared self.now.declarations.now }
         requires left { operand_rules (items_in self.now.declarations.now) (operand_of one) ≡ [] }
         requires right { operand_rules (items_in self.now.declarations.now) (operand_of other)
             ≡ [] }
@@ -221,7 +215,6 @@ impl<'a> Emitter<'a> {
 
     /// An operand alone is taken, for the sake of its fault: it is compared with ZERO.
     fn emit_look(&self, code: &mut Code, one: Alone<'_>) -> Result<(), AllocError>
-        requires declared { IsDeclared self.now.declarations.now }
         requires rules { operand_rules (items_in self.now.declarations.now) (operand_of one) ≡ [] }
         ensures { OnOk result
             (code.new ≡ append code.old (spec.pair_fragment (items_in self.now.declarations.now)
@@ -233,7 +226,6 @@ impl<'a> Emitter<'a> {
 
     /// An operand alone is a numeric item, and no part of one.
     pub(crate) fn is_numeric_operand(&self, one: Alone<'_>) -> bool
-        requires { IsDeclared self.now.declarations.now }
         ensures { result
             ≡ spec.is_numeric_operand (items_in self.now.declarations.now) (operand_of one.entry) }
     {
@@ -253,7 +245,6 @@ impl<'a> Emitter<'a> {
 
     /// An operand alone is a literal, or an item without subscripts and part.
     pub(crate) fn is_operand_at_hand(&self, one: Alone<'_>) -> bool
-        requires { IsDeclared self.now.declarations.now }
         ensures { result
             ≡ spec.is_operand_at_hand (items_in self.now.declarations.now) (operand_of one.entry) }
     {
@@ -274,7 +265,6 @@ impl<'a> Emitter<'a> {
     /// Of two operands alone the left one is taken before the subscripts of the right one: it is a numeric item, and the
     /// right one is not at hand.
     fn takes_first(&self, one: Alone<'_>, other: Alone<'_>) -> bool
-        requires { IsDeclared self.now.declarations.now }
         ensures { result
             ≡ (spec.is_numeric_operand (items_in self.now.declarations.now) (operand_of one.entry)
             && not (spec.is_operand_at_hand (items_in self.now.declarations.now)
@@ -292,7 +282,6 @@ impl<'a> Emitter<'a> {
         relation: Relation,
         right: &Side,
     ) -> Result<(), AllocError>
-        requires declared { IsDeclared self.now.declarations.now }
         requires rules { relation_rules (items_in self.now.declarations.now) left.now right.now
             ≡ [] }
         ensures { OnOk result (code.new ≡ append code.old (spec.relation_fragment
@@ -321,7 +310,6 @@ impl<'a> Emitter<'a> {
         negated: bool,
         sign: SignTest,
     ) -> Result<(), AllocError>
-        requires declared { IsDeclared self.now.declarations.now }
         requires rules { expression_rules (items_in self.now.declarations.now) value.now ≡ [] }
         ensures { OnOk result (code.new ≡ append
             code.old (sequence (expression_fragment (items_in self.now.declarations.now) value.now)
@@ -345,7 +333,6 @@ impl<'a> Emitter<'a> {
         negated: bool,
         class: Class,
     ) -> Result<(), AllocError>
-        requires declared { IsDeclared self.now.declarations.now }
         requires rules { reference_rules (items_in self.now.declarations.now) any_item item.now
             ≡ [] }
         ensures { OnOk result (code.new
@@ -359,7 +346,6 @@ impl<'a> Emitter<'a> {
     /// A condition, with those in it.
     #[cycle(condition)]
     pub(crate) fn emit_condition(&self, code: &mut Code, one: &Condition) -> Result<(), AllocError>
-        requires declared { IsDeclared self.now.declarations.now }
         requires entries { entry_rules self.now.declarations.now.storage.now ≡ [] }
         requires rules { condition_rules (items_in self.now.declarations.now) one.now ≡ [] }
         ensures { OnOk result (code.new ≡ append code.old
@@ -394,7 +380,6 @@ impl<'a> Emitter<'a> {
     /// Conditions with AND between.
     #[cycle(condition)]
     fn emit_all(&self, code: &mut Code, parts: &[Condition]) -> Result<(), AllocError>
-        requires declared { IsDeclared self.now.declarations.now }
         requires entries { entry_rules self.now.declarations.now.storage.now ≡ [] }
         requires rules { each (condition_rules (items_in self.now.declarations.now)) parts.now
             ≡ [] }
@@ -417,7 +402,6 @@ impl<'a> Emitter<'a> {
     /// Conditions with OR between.
     #[cycle(condition)]
     fn emit_any(&self, code: &mut Code, parts: &[Condition]) -> Result<(), AllocError>
-        requires declared { IsDeclared self.now.declarations.now }
         requires entries { entry_rules self.now.declarations.now.storage.now ≡ [] }
         requires rules { each (condition_rules (items_in self.now.declarations.now)) parts.now
             ≡ [] }
@@ -434,7 +418,6 @@ impl<'a> Emitter<'a> {
     /// The further conditions after AND.
     #[cycle(condition)]
     fn emit_each_and(&self, code: &mut Code, more: &[Condition]) -> Result<(), AllocError>
-        requires declared { IsDeclared self.now.declarations.now }
         requires entries { entry_rules self.now.declarations.now.storage.now ≡ [] }
         requires rules { each (condition_rules (items_in self.now.declarations.now)) more.now ≡ [] }
         ensures { OnOk result (code.new ≡ append code.old (in_order (λ (one : Condition).
@@ -450,7 +433,6 @@ impl<'a> Emitter<'a> {
     /// The further conditions after OR.
     #[cycle(condition)]
     fn emit_each_or(&self, code: &mut Code, more: &[Condition]) -> Result<(), AllocError>
-        requires declared { IsDeclared self.now.declarations.now }
         requires entries { entry_rules self.now.declarations.now.storage.now ≡ [] }
         requires rules { each (condition_rules (items_in self.now.declarations.now)) more.now ≡ [] }
         ensures { OnOk result (code.new ≡ append code.old (in_order (λ (one : Condition).
@@ -466,7 +448,6 @@ impl<'a> Emitter<'a> {
     /// A condition after AND: it is asked where the truth is true so far.
     #[cycle(condition)]
     fn emit_and(&self, code: &mut Code, one: &Condition) -> Result<(), AllocError>
-        requires declared { IsDeclared self.now.declarations.now }
         requires entries { entry_rules self.now.declarations.now.storage.now ≡ [] }
         requires rules { condition_rules (items_in self.now.declarations.now) one.now ≡ [] }
         ensures { OnOk result (code.new ≡ append code.old (spec.and_fragment
@@ -481,7 +462,6 @@ impl<'a> Emitter<'a> {
     /// A condition after OR: it is asked where the truth is false so far.
     #[cycle(condition)]
     fn emit_or(&self, code: &mut Code, one: &Condition) -> Result<(), AllocError>
-        requires declared { IsDeclared self.now.declarations.now }
         requires entries { entry_rules self.now.declarations.now.storage.now ≡ [] }
         requires rules { condition_rules (items_in self.now.declarations.now) one.now ≡ [] }
         ensures { OnOk result (code.new ≡ append code.old (spec.or_fragment

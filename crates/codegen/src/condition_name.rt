@@ -3,7 +3,7 @@
 ghost use Rattle.std.specs.Prelude.{◌≡◌, [], OnOk, IfOk};
 ghost use Rattle.source_tree.specs.EntryRules.{entry_rules};
 ghost use Rattle.source_tree.specs.ConditionRules.{condition_name_rules};
-ghost use Rattle.declarations.specs.Named.{IsDeclared, items_in};
+ghost use Rattle.declarations.specs.Named.{items_in};
 ghost use Rattle.codegen.specs.Fragments.{append};
 ghost use Rattle.codegen.specs.ConditionCode as spec;
 ghost use Rattle.codegen.specs.Values.{HasForms, AreFormedValues};
@@ -20,7 +20,6 @@ use std::alloc::{AllocError, Global};
 impl<'a> Emitter<'a> {
     /// The number of the condition name that a name names.
     pub(crate) fn condition_number(&self, name: &QualifiedName) -> usize
-        requires { IsDeclared self.now.declarations.now }
         ensures { result ≡ spec.condition_number (items_in self.now.declarations.now) name.now }
     {
         match self.declarations.conditions.names.look_up(name) {
@@ -31,7 +30,6 @@ impl<'a> Emitter<'a> {
 
     /// The item of the condition name that a name names.
     pub(crate) fn condition_item(&self, name: &QualifiedName) -> Result<ItemIndex, AllocError>
-        requires { IsDeclared self.now.declarations.now }
         ensures { IfOk result
             (λ index. index ≡ spec.condition_item (items_in self.now.declarations.now) name.now) }
     {
@@ -46,7 +44,6 @@ impl<'a> Emitter<'a> {
 
     /// The values of the condition name that a name names.
     pub(crate) fn values_named(&self, name: &QualifiedName) -> &[ValueRange]
-        requires { IsDeclared self.now.declarations.now }
         ensures { result.now ≡ spec.values_named (items_in self.now.declarations.now) name.now }
     {
         let number = self.condition_number(name);
@@ -62,7 +59,6 @@ impl<'a> Emitter<'a> {
         code: &mut Code,
         one: &Reference,
     ) -> Result<(), AllocError>
-        requires declared { IsDeclared self.now.declarations.now }
         requires entries { entry_rules self.now.declarations.now.storage.now ≡ [] }
         requires rules { condition_name_rules (items_in self.now.declarations.now) one.now ≡ [] }
         ensures { OnOk result (code.new ≡ append code.old

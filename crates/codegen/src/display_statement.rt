@@ -2,7 +2,7 @@
 
 ghost use Rattle.std.specs.Prelude.{◌≡◌, [], OnOk};
 ghost use Rattle.source_tree.specs.TextRules.{shown_rules, display_rules};
-ghost use Rattle.declarations.specs.Named.{IsDeclared, items_in};
+ghost use Rattle.declarations.specs.Named.{items_in};
 ghost use Rattle.codegen.specs.Fragments.{append};
 ghost use Rattle.codegen.specs.DataCode as spec;
 
@@ -47,7 +47,6 @@ fn emit_show(code: &mut Code) -> Result<(), AllocError>
 impl<'a> Emitter<'a> {
     /// An operand, added to the line.
     fn emit_operand(&self, code: &mut Code, one: &Operand) -> Result<(), AllocError>
-        requires declared { IsDeclared self.now.declarations.now }
         requires rules { shown_rules (items_in self.now.declarations.now) one.now ≡ [] }
         ensures { OnOk result (code.new ≡ append code.old
             (spec.operand_fragment (items_in self.now.declarations.now) one.now code.old)) }
@@ -62,7 +61,6 @@ impl<'a> Emitter<'a> {
 
     /// Operands, in order.
     fn emit_operands(&self, code: &mut Code, all: &[Operand]) -> Result<(), AllocError>
-        requires declared { IsDeclared self.now.declarations.now }
         requires rules { display_rules (items_in self.now.declarations.now) all.now ≡ [] }
         ensures { OnOk result (code.new ≡ append code.old
             (spec.operands_fragment (items_in self.now.declarations.now) all.now code.old)) }
@@ -80,7 +78,6 @@ impl<'a> Emitter<'a> {
         operands: &[Operand],
         advancing: bool,
     ) -> Result<(), AllocError>
-        requires declared { IsDeclared self.now.declarations.now }
         requires rules { display_rules (items_in self.now.declarations.now) operands.now ≡ [] }
         ensures { OnOk result (code.new ≡ append code.old (spec.display_fragment
             (items_in self.now.declarations.now) operands.now advancing code.old)) }

@@ -7,7 +7,7 @@ ghost use Rattle.source_tree.specs.EntryRules.{entry_rules};
 ghost use Rattle.source_tree.specs.Procedures.{range_of};
 ghost use Rattle.source_tree.specs.Rules as rules;
 ghost use Rattle.source_tree.specs.Rules.{all_permitted};
-ghost use Rattle.declarations.specs.Named.{IsDeclared, items_in, scope_in};
+ghost use Rattle.declarations.specs.Named.{items_in, scope_in};
 ghost use Rattle.codegen.specs.Fragments.{append, sequence, in_order};
 ghost use Rattle.codegen.specs.UntilCode.{tick_fragment};
 ghost use Rattle.codegen.specs.Layout.{data_fragment, texts_fragment, stop_run_fragment, conditional_fragment, control_fragment, range_fragment, turn_fragment, perform_fragment, phrase_fragment, phrases_fragment, arithmetic_statement_fragment, statement_fragment, sentence_fragment, start_fragment, back_fragment, paragraph_fragment, section_fragment, end_fragment};
@@ -87,7 +87,6 @@ fn emit_nothing(code: &mut Code) -> Result<(), AllocError>
 impl<'a> Emitter<'a> {
     /// A statement that moves, with its `tick`.
     fn emit_moving(&self, code: &mut Code, line: u32, one: &DataStatement) -> Result<(), AllocError>
-        requires declared { IsDeclared self.now.declarations.now }
         requires entries { entry_rules self.now.declarations.now.storage.now ≡ [] }
         requires rules { rules.moving_rules (items_in self.now.declarations.now) one.now ≡ [] }
         ensures { OnOk result (code.new ≡ append code.old (sequence (tick_fragment line)
@@ -108,7 +107,6 @@ impl<'a> Emitter<'a> {
 
     /// A statement on texts, with its `tick`.
     fn emit_texts(&self, code: &mut Code, line: u32, one: &TextStatement) -> Result<(), AllocError>
-        requires declared { IsDeclared self.now.declarations.now }
         requires rules { rules.text_rules (items_in self.now.declarations.now) one.now ≡ [] }
         ensures { OnOk result (code.new ≡ append code.old (sequence (tick_fragment line)
             (texts_fragment (items_in self.now.declarations.now) one.now) code.old)) }
@@ -130,7 +128,6 @@ impl<'a> Emitter<'a> {
     #[cycle(statement)]
     #[tactic(auto, using(crate::proofs::Layers::statement_is))]
     fn emit_statement(&self, code: &mut Code, one: &Statement) -> Result<(), AllocError>
-        requires declared { IsDeclared self.now.declarations.now }
         requires entries { entry_rules self.now.declarations.now.storage.now ≡ [] }
         requires rules { rules.statement_rules (scope_in self.now.declarations.now) all_permitted
             one.now ≡ [] }
@@ -158,7 +155,6 @@ impl<'a> Emitter<'a> {
         line: u32,
         one: &Arithmetic<Statement>,
     ) -> Result<(), AllocError>
-        requires declared { IsDeclared self.now.declarations.now }
         requires entries { entry_rules self.now.declarations.now.storage.now ≡ [] }
         requires operation { operation_rules (items_in self.now.declarations.now) one.now.operation
             ≡ [] }
@@ -182,7 +178,6 @@ impl<'a> Emitter<'a> {
         code: &mut Code,
         one: &Phrases<Statement>,
     ) -> Result<(), AllocError>
-        requires declared { IsDeclared self.now.declarations.now }
         requires entries { entry_rules self.now.declarations.now.storage.now ≡ [] }
         requires arose { rules.phrase_rules (rules.statement_rules
             (scope_in self.now.declarations.now) all_permitted) one.now.arose ≡ [] }
@@ -209,7 +204,6 @@ impl<'a> Emitter<'a> {
         code: &mut Code,
         one: &Option<Items<Statement>>,
     ) -> Result<(), AllocError>
-        requires declared { IsDeclared self.now.declarations.now }
         requires entries { entry_rules self.now.declarations.now.storage.now ≡ [] }
         requires rules { rules.phrase_rules (rules.statement_rules
             (scope_in self.now.declarations.now) all_permitted) one.now ≡ [] }
@@ -231,7 +225,6 @@ impl<'a> Emitter<'a> {
         line: u32,
         one: &ConditionalStatement<Statement>,
     ) -> Result<(), AllocError>
-        requires declared { IsDeclared self.now.declarations.now }
         requires entries { entry_rules self.now.declarations.now.storage.now ≡ [] }
         requires rules { rules.branching_rules (items_in self.now.declarations.now)
             (rules.statement_rules (scope_in self.now.declarations.now) all_permitted) one.now
@@ -266,7 +259,6 @@ impl<'a> Emitter<'a> {
         line: u32,
         one: &PerformStatement<Statement>,
     ) -> Result<(), AllocError>
-        requires declared { IsDeclared self.now.declarations.now }
         requires entries { entry_rules self.now.declarations.now.storage.now ≡ [] }
         requires rules { rules.performing_rules (scope_in self.now.declarations.now) all_permitted
             (rules.statement_rules (scope_in self.now.declarations.now) all_permitted) one.now
@@ -300,7 +292,6 @@ impl<'a> Emitter<'a> {
         line: u32,
         one: &Performed<Statement>,
     ) -> Result<(), AllocError>
-        requires declared { IsDeclared self.now.declarations.now }
         requires entries { entry_rules self.now.declarations.now.storage.now ≡ [] }
         requires rules { KeepsPerformed self.now.declarations.now one.now }
         ensures { OnOk
@@ -324,7 +315,6 @@ impl<'a> Emitter<'a> {
         first: &Name,
         last: &Option<Name>,
     ) -> Result<(), AllocError>
-        requires { IsDeclared self.now.declarations.now }
         ensures { OnOk result (code.new ≡ append code.old (range_fragment line (range_of
             (scope_in self.now.declarations.now).procedures first.now last.now) code.old)) }
     {
@@ -348,7 +338,6 @@ impl<'a> Emitter<'a> {
         code: &mut Code,
         all: &[Statement],
     ) -> Result<(), AllocError>
-        requires declared { IsDeclared self.now.declarations.now }
         requires entries { entry_rules self.now.declarations.now.storage.now ≡ [] }
         requires rules { each (rules.statement_rules (scope_in self.now.declarations.now)
             all_permitted) all.now ≡ [] }
@@ -362,7 +351,6 @@ impl<'a> Emitter<'a> {
     }
 
     fn emit_sentence(&self, code: &mut Code, one: &Sentence) -> Result<(), AllocError>
-        requires declared { IsDeclared self.now.declarations.now }
         requires entries { entry_rules self.now.declarations.now.storage.now ≡ [] }
         requires rules { rules.sentence_rules (scope_in self.now.declarations.now) all_permitted
             one.now ≡ [] }
@@ -373,7 +361,6 @@ impl<'a> Emitter<'a> {
     }
 
     fn emit_sentences(&self, code: &mut Code, all: &[Sentence]) -> Result<(), AllocError>
-        requires declared { IsDeclared self.now.declarations.now }
         requires entries { entry_rules self.now.declarations.now.storage.now ≡ [] }
         requires rules { each
             (rules.sentence_rules (scope_in self.now.declarations.now) all_permitted) all.now ≡ [] }
@@ -387,7 +374,6 @@ impl<'a> Emitter<'a> {
     }
 
     fn emit_paragraph(&self, code: &mut Code, one: &Paragraph) -> Result<(), AllocError>
-        requires declared { IsDeclared self.now.declarations.now }
         requires entries { entry_rules self.now.declarations.now.storage.now ≡ [] }
         requires rules { rules.paragraph_rules (scope_in self.now.declarations.now) all_permitted
             one.now ≡ [] }
@@ -401,7 +387,6 @@ impl<'a> Emitter<'a> {
     }
 
     fn emit_paragraphs(&self, code: &mut Code, all: &[Paragraph]) -> Result<(), AllocError>
-        requires declared { IsDeclared self.now.declarations.now }
         requires entries { entry_rules self.now.declarations.now.storage.now ≡ [] }
         requires rules { each (rules.paragraph_rules (scope_in self.now.declarations.now)
             all_permitted) all.now ≡ [] }
@@ -415,7 +400,6 @@ impl<'a> Emitter<'a> {
     }
 
     fn emit_section(&self, code: &mut Code, one: &Section) -> Result<(), AllocError>
-        requires declared { IsDeclared self.now.declarations.now }
         requires entries { entry_rules self.now.declarations.now.storage.now ≡ [] }
         requires rules { rules.section_rules (scope_in self.now.declarations.now) all_permitted
             one.now ≡ [] }
@@ -430,7 +414,6 @@ impl<'a> Emitter<'a> {
 
     /// Sections, in order.
     pub(crate) fn emit_sections(&self, code: &mut Code, all: &[Section]) -> Result<(), AllocError>
-        requires declared { IsDeclared self.now.declarations.now }
         requires entries { entry_rules self.now.declarations.now.storage.now ≡ [] }
         requires rules { rules.sections_rules (scope_in self.now.declarations.now) all_permitted
             all.now ≡ [] }

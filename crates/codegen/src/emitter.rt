@@ -1,7 +1,7 @@
 //! What the code of references is made with: the items of a program, by their names.
 
 ghost use Rattle.std.specs.Prelude.{◌≡◌, IfOk, slice_get};
-ghost use Rattle.declarations.specs.Named.{IsDeclared, items_in};
+ghost use Rattle.declarations.specs.Named.{items_in};
 ghost use Rattle.source_tree.specs.Arithmetic.{receiver_of};
 ghost use Rattle.source_tree.specs.InspectLayout.{found_size};
 ghost use Rattle.codegen.specs.DataCode as spec;
@@ -46,7 +46,6 @@ fn scale_kept(one: &PlacedItem) -> u8
 impl<'a> Emitter<'a> {
     /// The number of the item that a name names.
     pub(crate) fn item_number(&self, name: &QualifiedName) -> usize
-        requires { IsDeclared self.now.declarations.now }
         ensures { result ≡ spec.item_number (items_in self.now.declarations.now) name.now }
     {
         match self.declarations.names.look_up(name) {
@@ -57,7 +56,6 @@ impl<'a> Emitter<'a> {
 
     /// The item that a name names.
     pub(crate) fn item_index(&self, name: &QualifiedName) -> Result<ItemIndex, AllocError>
-        requires { IsDeclared self.now.declarations.now }
         ensures { IfOk result
             (λ index. index ≡ spec.item_index (items_in self.now.declarations.now) name.now) }
     {
@@ -67,7 +65,6 @@ impl<'a> Emitter<'a> {
 
     /// The length of the item of that number.
     pub(crate) fn length_at(&self, number: usize) -> u32
-        requires { IsDeclared self.now.declarations.now }
         ensures { result ≡ found_size (slice_get (items_in self.now.declarations.now) number) }
     {
         match self.declarations.layout.items.get(number) {
@@ -78,7 +75,6 @@ impl<'a> Emitter<'a> {
 
     /// The dimensions of an item.
     pub(crate) fn dimensions_at(&self, number: usize) -> &[Dimension]
-        requires { IsDeclared self.now.declarations.now }
         ensures { result.now
             ≡ spec.dimensions_of (slice_get (items_in self.now.declarations.now) number) }
     {
@@ -90,7 +86,6 @@ impl<'a> Emitter<'a> {
 
     /// The decimals that the item that a name names keeps of a number.
     pub(crate) fn scale_kept(&self, name: &QualifiedName) -> u8
-        requires { IsDeclared self.now.declarations.now }
         ensures { result ≡ arithmetic.scale_of_item (slice_get (items_in self.now.declarations.now)
             (spec.item_number (items_in self.now.declarations.now) name.now)) }
     {

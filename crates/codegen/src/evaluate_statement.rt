@@ -7,7 +7,7 @@ ghost use Rattle.source_tree.specs.Evaluate.{selected_condition};
 ghost use Rattle.source_tree.specs.EvaluateRules.{selected_rules};
 ghost use Rattle.source_tree.specs.Rules as rules;
 ghost use Rattle.source_tree.specs.Rules.{all_permitted};
-ghost use Rattle.declarations.specs.Named.{IsDeclared, items_in, scope_in};
+ghost use Rattle.declarations.specs.Named.{items_in, scope_in};
 ghost use Rattle.codegen.specs.Fragments.{append, in_order};
 ghost use Rattle.codegen.specs.ConditionCode.{condition_fragment};
 ghost use Rattle.codegen.specs.Layout.{evaluate_fragment, statement_fragment};
@@ -29,7 +29,6 @@ impl<'a> Emitter<'a> {
         subjects: &[Subject],
         one: &Selected<Statement>,
     ) -> Result<Way, AllocError>
-        requires declared { IsDeclared self.now.declarations.now }
         requires entries { entry_rules self.now.declarations.now.storage.now ≡ [] }
         requires rules { selected_rules (items_in self.now.declarations.now) (rules.statement_rules
             (scope_in self.now.declarations.now) all_permitted) subjects.now one.now ≡ [] }
@@ -53,7 +52,6 @@ impl<'a> Emitter<'a> {
         subjects: &[Subject],
         selected: &[Selected<Statement>],
     ) -> Result<Vec<Way>, AllocError>
-        requires declared { IsDeclared self.now.declarations.now }
         requires entries { entry_rules self.now.declarations.now.storage.now ≡ [] }
         requires rules { each (selected_rules (items_in self.now.declarations.now)
             (rules.statement_rules (scope_in self.now.declarations.now) all_permitted) subjects.now)
@@ -77,7 +75,6 @@ impl<'a> Emitter<'a> {
         code: &mut Code,
         one: &Evaluate<Statement>,
     ) -> Result<(), AllocError>
-        requires declared { IsDeclared self.now.declarations.now }
         requires entries { entry_rules self.now.declarations.now.storage.now ≡ [] }
         requires rules { rules.evaluate_rules (items_in self.now.declarations.now)
             (rules.statement_rules (scope_in self.now.declarations.now) all_permitted) one.now

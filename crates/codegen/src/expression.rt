@@ -6,7 +6,7 @@ ghost use Rattle.source_tree.specs.declared.expression.Expression.{Expression};
 ghost use Rattle.source_tree.specs.Broken.{each};
 ghost use Rattle.source_tree.specs.ArithmeticRules.{number_rules, expression_rules};
 ghost use Rattle.data_instructions.specs.ArithmeticCodes as codes;
-ghost use Rattle.declarations.specs.Named.{IsDeclared, items_in};
+ghost use Rattle.declarations.specs.Named.{items_in};
 ghost use Rattle.codegen.specs.Fragments.{append, in_order};
 ghost use Rattle.codegen.specs.ArithmeticCode as spec;
 
@@ -34,7 +34,6 @@ pub(crate) fn operator_code(one: Operator) -> DataInstruction
 impl<'a> Emitter<'a> {
     /// The number of an operand, on the stack of numbers.
     pub(crate) fn emit_value(&self, code: &mut Code, one: &Operand) -> Result<(), AllocError>
-        requires declared { IsDeclared self.now.declarations.now }
         requires rules { number_rules (items_in self.now.declarations.now) one.now ≡ [] }
         ensures { OnOk result (code.new ≡ append code.old
             (spec.value_fragment (items_in self.now.declarations.now) one.now code.old)) }
@@ -47,7 +46,6 @@ impl<'a> Emitter<'a> {
 
     /// The number of an operand, added to the newest.
     fn emit_added(&self, code: &mut Code, one: &Operand) -> Result<(), AllocError>
-        requires declared { IsDeclared self.now.declarations.now }
         requires rules { number_rules (items_in self.now.declarations.now) one.now ≡ [] }
         ensures { OnOk result (code.new ≡ append code.old
             (spec.added_fragment (items_in self.now.declarations.now) one.now code.old)) }
@@ -58,7 +56,6 @@ impl<'a> Emitter<'a> {
 
     /// The numbers of operands, added to the newest in turn.
     fn emit_all_added(&self, code: &mut Code, all: &[Operand]) -> Result<(), AllocError>
-        requires declared { IsDeclared self.now.declarations.now }
         requires rules { each (number_rules (items_in self.now.declarations.now)) all.now ≡ [] }
         ensures { OnOk result (code.new ≡ append code.old (in_order
             (spec.added_fragment (items_in self.now.declarations.now)) all.now code.old)) }
@@ -71,7 +68,6 @@ impl<'a> Emitter<'a> {
 
     /// The total of operands.
     pub(crate) fn emit_total(&self, code: &mut Code, all: &[Operand]) -> Result<(), AllocError>
-        requires declared { IsDeclared self.now.declarations.now }
         requires rules { each (number_rules (items_in self.now.declarations.now)) all.now ≡ [] }
         ensures { OnOk result (code.new ≡ append code.old
             (spec.total_fragment (items_in self.now.declarations.now) all.now code.old)) }
@@ -90,7 +86,6 @@ impl<'a> Emitter<'a> {
         code: &mut Code,
         one: &Expression,
     ) -> Result<(), AllocError>
-        requires declared { IsDeclared self.now.declarations.now }
         requires rules { expression_rules (items_in self.now.declarations.now) one.now ≡ [] }
         ensures { OnOk result (code.new ≡ append code.old
             (spec.expression_fragment (items_in self.now.declarations.now) one.now code.old)) }
@@ -111,7 +106,6 @@ impl<'a> Emitter<'a> {
     /// What follows the first operand of a chain: each further one, and its operator.
     #[cycle(expression)]
     fn emit_chain(&self, code: &mut Code, all: &[(Operator, Expression)]) -> Result<(), AllocError>
-        requires declared { IsDeclared self.now.declarations.now }
         requires rules { each (λ (one : Operator × Expression).
             expression_rules (items_in self.now.declarations.now) one.1) all.now ≡ [] }
         ensures { OnOk result (code.new ≡ append code.old (in_order (λ (one : Operator

@@ -9,7 +9,7 @@ ghost use Rattle.source_tree.specs.declared.phrases.FilePhrases.TheVariants.{Abs
 ghost use Rattle.code_image.specs.declared.instruction.Instruction.TheVariants as instruction;
 ghost use Rattle.file_descriptions.specs.Clauses.{NamesOne};
 ghost use Rattle.file_descriptions.specs.Files.{file_in, found_in};
-ghost use Rattle.declarations.specs.Named.{IsDeclared, items_in, files_in, scope_in};
+ghost use Rattle.declarations.specs.Named.{items_in, files_in, scope_in};
 ghost use Rattle.codegen.specs.Fragments.{append, in_order, plain_code};
 ghost use Rattle.codegen.specs.FileCode as spec;
 ghost use Rattle.codegen.specs.Layout.{alone_fragment, open_fragment, close_fragment, statement_fragment};
@@ -61,7 +61,6 @@ fn file_index(file: &ProgramFile<'_>) -> Result<FileIndex, AllocError>
 impl<'a> Emitter<'a> {
     /// The file has a FILE STATUS item.
     fn has_status(&self, file: &ProgramFile<'_>) -> bool
-        requires { IsDeclared self.now.declarations.now }
         ensures { result
             ≡ is_some (file_in (items_in self.now.declarations.now) file.now).places.status }
     {
@@ -77,7 +76,6 @@ impl<'a> Emitter<'a> {
         code: &mut Code,
         file: &ProgramFile<'_>,
     ) -> Result<(), AllocError>
-        requires { IsDeclared self.now.declarations.now }
         ensures { OnOk result (code.new ≡ append code.old (spec.unheard_fragment
             (file_in (items_in self.now.declarations.now) file.now).places.status code.old)) }
     {
@@ -90,7 +88,6 @@ impl<'a> Emitter<'a> {
 
     /// What READ INTO sends of a file, by its place in the table of items.
     fn sent_index(&self, file: &ProgramFile<'_>) -> Result<ItemIndex, AllocError>
-        requires { IsDeclared self.now.declarations.now }
         ensures { IfOk result (λ index. index ≡ spec.sent_index (items_in self.now.declarations.now)
             (file_in (items_in self.now.declarations.now) file.now)) }
     {
@@ -114,7 +111,6 @@ impl<'a> Emitter<'a> {
         file: &ProgramFile<'_>,
         into: &Option<Reference>,
     ) -> Result<(), AllocError>
-        requires declared { IsDeclared self.now.declarations.now }
         requires rules { into_rules
             (items_in self.now.declarations.now) (files_in self.now.declarations.now)
             (file_in (items_in self.now.declarations.now) file.now) into.now ≡ [] }
@@ -140,7 +136,6 @@ impl<'a> Emitter<'a> {
         to: &Reference,
         from: &Option<Reference>,
     ) -> Result<(), AllocError>
-        requires declared { IsDeclared self.now.declarations.now }
         requires rules { from_rules (items_in self.now.declarations.now)
             (files_in self.now.declarations.now) to.now from.now ≡ [] }
         ensures { OnOk result (code.new ≡ append code.old
@@ -155,7 +150,6 @@ impl<'a> Emitter<'a> {
 
     /// The file of that name.
     pub(crate) fn file_named(&self, name: &Name) -> Option<&ProgramFile<'a>>
-        requires { IsDeclared self.now.declarations.now }
         ensures { first (files_named (files_in self.now.declarations.now) name.now)
             ≡ found_in (items_in self.now.declarations.now) result }
     {
@@ -164,7 +158,6 @@ impl<'a> Emitter<'a> {
 
     /// The first file that has the area of a record, which names one item.
     pub(crate) fn file_of_record(&self, one: &Reference) -> Option<&ProgramFile<'a>>
-        requires declared { IsDeclared self.now.declarations.now }
         requires named { NamesOne (items_in self.now.declarations.now) one.now }
         ensures { file_with_record (files_in self.now.declarations.now)
             (first (items_named (items_in self.now.declarations.now) one.now.item))
@@ -177,7 +170,6 @@ impl<'a> Emitter<'a> {
 
     /// A statement without phrases on the file of that name, and what comes of its status.
     fn emit_alone(&self, code: &mut Code, verb: Verb, name: &Name) -> Result<(), AllocError>
-        requires { IsDeclared self.now.declarations.now }
         ensures { OnOk result (code.new ≡ append code.old (spec.on_name_fragment
             (items_in self.now.declarations.now) (files_in self.now.declarations.now)
             name.now (alone_fragment (scope_in self.now.declarations.now) (statement_fragment
@@ -196,7 +188,6 @@ impl<'a> Emitter<'a> {
 
     /// OPEN of each file in turn.
     pub(crate) fn emit_opens(&self, code: &mut Code, all: &[Opening]) -> Result<(), AllocError>
-        requires { IsDeclared self.now.declarations.now }
         ensures { OnOk result (code.new
             ≡ append code.old (in_order (open_fragment (scope_in self.now.declarations.now)
             (statement_fragment (scope_in self.now.declarations.now))) all.now code.old)) }
@@ -209,7 +200,6 @@ impl<'a> Emitter<'a> {
 
     /// CLOSE of each file in turn.
     pub(crate) fn emit_closes(&self, code: &mut Code, all: &[Name]) -> Result<(), AllocError>
-        requires { IsDeclared self.now.declarations.now }
         ensures { OnOk result (code.new
             ≡ append code.old (in_order (close_fragment (scope_in self.now.declarations.now)
             (statement_fragment (scope_in self.now.declarations.now))) all.now code.old)) }

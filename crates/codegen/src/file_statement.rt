@@ -9,7 +9,7 @@ ghost use Rattle.source_tree.specs.FilingRules.{delete_rules, file_named_rules, 
 ghost use Rattle.source_tree.specs.Rules as rules;
 ghost use Rattle.source_tree.specs.Rules.{all_permitted};
 ghost use Rattle.file_descriptions.specs.Files.{file_in};
-ghost use Rattle.declarations.specs.Named.{IsDeclared, items_in, files_in, scope_in};
+ghost use Rattle.declarations.specs.Named.{items_in, files_in, scope_in};
 ghost use Rattle.codegen.specs.Fragments.{append, sequence};
 ghost use Rattle.codegen.specs.UntilCode.{tick_fragment};
 ghost use Rattle.codegen.specs.FileCode.{file_fragment, into_fragment, on_name_fragment};
@@ -36,7 +36,6 @@ impl<'a> Emitter<'a> {
         line: u32,
         one: &FileStatement<Statement>,
     ) -> Result<(), AllocError>
-        requires declared { IsDeclared self.now.declarations.now }
         requires entries { entry_rules self.now.declarations.now.storage.now ≡ [] }
         requires rules { filing_rules (items_in self.now.declarations.now)
             (files_in self.now.declarations.now) one.now ≡ [] }
@@ -85,7 +84,6 @@ impl<'a> Emitter<'a> {
         key: &Option<Reference>,
         phrases: &FilePhrases<Statement>,
     ) -> Result<(), AllocError>
-        requires declared { IsDeclared self.now.declarations.now }
         requires entries { entry_rules self.now.declarations.now.storage.now ≡ [] }
         requires rules { file_named_rules (items_in self.now.declarations.now)
             (files_in self.now.declarations.now) name.now
@@ -117,7 +115,6 @@ impl<'a> Emitter<'a> {
         from: &Option<Reference>,
         phrases: &FilePhrases<Statement>,
     ) -> Result<(), AllocError>
-        requires declared { IsDeclared self.now.declarations.now }
         requires entries { entry_rules self.now.declarations.now.storage.now ≡ [] }
         requires rules { record_rules (items_in self.now.declarations.now)
             (files_in self.now.declarations.now) one.now from.now phrases.now ≡ [] }
@@ -142,7 +139,6 @@ impl<'a> Emitter<'a> {
         name: &Name,
         phrases: &FilePhrases<Statement>,
     ) -> Result<(), AllocError>
-        requires declared { IsDeclared self.now.declarations.now }
         requires entries { entry_rules self.now.declarations.now.storage.now ≡ [] }
         requires phrases { rules.file_phrases_rules (rules.statement_rules
             (scope_in self.now.declarations.now) all_permitted) phrases.now ≡ [] }
@@ -166,7 +162,6 @@ impl<'a> Emitter<'a> {
         key: &Option<StartKey>,
         phrases: &FilePhrases<Statement>,
     ) -> Result<(), AllocError>
-        requires declared { IsDeclared self.now.declarations.now }
         requires entries { entry_rules self.now.declarations.now.storage.now ≡ [] }
         requires rules { file_named_rules (items_in self.now.declarations.now) (files_in
             self.now.declarations.now) name.now (start_rules (items_in self.now.declarations.now)
@@ -196,7 +191,6 @@ impl<'a> Emitter<'a> {
         into: &Option<Reference>,
         phrases: &FilePhrases<Statement>,
     ) -> Result<(), AllocError>
-        requires declared { IsDeclared self.now.declarations.now }
         requires entries { entry_rules self.now.declarations.now.storage.now ≡ [] }
         requires into { into_rules
             (items_in self.now.declarations.now) (files_in self.now.declarations.now)
@@ -227,7 +221,6 @@ impl<'a> Emitter<'a> {
         code: &mut Code,
         phrases: &FilePhrases<Statement>,
     ) -> Result<(), AllocError>
-        requires declared { IsDeclared self.now.declarations.now }
         requires entries { entry_rules self.now.declarations.now.storage.now ≡ [] }
         requires phrases { rules.file_phrases_rules (rules.statement_rules
             (scope_in self.now.declarations.now) all_permitted) phrases.now ≡ [] }
@@ -250,7 +243,6 @@ impl<'a> Emitter<'a> {
         file: &ProgramFile<'_>,
         phrases: &FilePhrases<Statement>,
     ) -> Result<(), AllocError>
-        requires declared { IsDeclared self.now.declarations.now }
         requires entries { entry_rules self.now.declarations.now.storage.now ≡ [] }
         requires phrases { rules.file_phrases_rules (rules.statement_rules
             (scope_in self.now.declarations.now) all_permitted) phrases.now ≡ [] }
@@ -279,7 +271,6 @@ impl<'a> Emitter<'a> {
         class: StatusClass,
         arose: &Option<Items<Statement>>,
     ) -> Result<(), AllocError>
-        requires declared { IsDeclared self.now.declarations.now }
         requires entries { entry_rules self.now.declarations.now.storage.now ≡ [] }
         requires rules { rules.phrase_rules (rules.statement_rules
             (scope_in self.now.declarations.now) all_permitted) arose.now ≡ [] }
@@ -304,7 +295,6 @@ impl<'a> Emitter<'a> {
         file: &ProgramFile<'_>,
         phrase: &Option<Items<Statement>>,
     ) -> Result<(), AllocError>
-        requires declared { IsDeclared self.now.declarations.now }
         requires entries { entry_rules self.now.declarations.now.storage.now ≡ [] }
         requires rules { rules.phrase_rules (rules.statement_rules
             (scope_in self.now.declarations.now) all_permitted) phrase.now ≡ [] }

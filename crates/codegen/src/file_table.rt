@@ -2,7 +2,7 @@
 
 ghost use Rattle.std.specs.Prelude.{◌≡◌, IfOk};
 ghost use Rattle.std.specs.Option.{option_map};
-ghost use Rattle.declarations.specs.Named.{IsDeclared, items_in, files_in};
+ghost use Rattle.declarations.specs.Named.{items_in, files_in};
 ghost use Rattle.codegen.specs.FileCode as spec;
 ghost use Rattle.codegen.specs.Sent.{code_in};
 
@@ -19,7 +19,6 @@ pub(crate) fn code_files(
     alloc: Global,
     declarations: &Declarations<'_>,
 ) -> Result<Items<CodeFile>, AllocError>
-    requires { IsDeclared declarations.now }
     ensures { IfOk result (λ files. files ≡ spec.code_files (items_in declarations.now)
         declarations.now.selects.now (files_in declarations.now)) }
 {

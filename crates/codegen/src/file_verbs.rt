@@ -10,7 +10,7 @@ ghost use Rattle.source_tree.specs.FilingRules.{read_key_rules, start_key_rules}
 ghost use Rattle.source_tree.specs.ProgramFiles.{key_place};
 ghost use Rattle.file_descriptions.specs.Clauses.{NamesOne};
 ghost use Rattle.file_descriptions.specs.Files.{file_in};
-ghost use Rattle.declarations.specs.Named.{IsDeclared, items_in, files_in};
+ghost use Rattle.declarations.specs.Named.{items_in, files_in};
 ghost use Rattle.codegen.specs.Filed.{spec_in};
 
 use crate::emitter::Emitter;
@@ -22,7 +22,6 @@ use std::alloc::AllocError;
 impl<'a> Emitter<'a> {
     /// The item of a key, which names one item.
     fn key_item(&self, one: &Reference) -> KeyItem
-        requires declared { IsDeclared self.now.declarations.now }
         requires named { NamesOne (items_in self.now.declarations.now) one.now }
         ensures offset { result.offset
             ≡ (key_place (items_in self.now.declarations.now) one.now).offset }
@@ -53,7 +52,6 @@ impl<'a> Emitter<'a> {
         next: bool,
         key: &Option<Reference>,
     ) -> Result<Verb, AllocError>
-        requires declared { IsDeclared self.now.declarations.now }
         requires rules { read_key_rules
             (items_in self.now.declarations.now) (files_in self.now.declarations.now)
             (meaning.is_in_sequence (file_in (items_in self.now.declarations.now) file.now) next)
@@ -77,7 +75,6 @@ impl<'a> Emitter<'a> {
         file: &ProgramFile<'_>,
         key: &Option<StartKey>,
     ) -> Result<Verb, AllocError>
-        requires declared { IsDeclared self.now.declarations.now }
         requires rules { start_key_rules
             (items_in self.now.declarations.now) (files_in self.now.declarations.now)
             (file_in (items_in self.now.declarations.now) file.now) key.now ≡ [] }

@@ -4,7 +4,7 @@ ghost use Rattle.std.specs.Prelude.{◌≡◌, [], OnOk};
 ghost use Rattle.source_tree.specs.EntryRules.{entry_rules};
 ghost use Rattle.source_tree.specs.NameRules.{reference_rules, any_item};
 ghost use Rattle.source_tree.specs.SettingRules.{initialize_rules, set_one, set_rules};
-ghost use Rattle.declarations.specs.Named.{IsDeclared, items_in};
+ghost use Rattle.declarations.specs.Named.{items_in};
 ghost use Rattle.codegen.specs.Fragments.{append};
 ghost use Rattle.codegen.specs.PatternCode as spec;
 
@@ -19,7 +19,6 @@ use std::alloc::AllocError;
 impl<'a> Emitter<'a> {
     /// The item of a reference, as its kind wants it.
     fn emit_initialize(&self, code: &mut Code, one: &Reference) -> Result<(), AllocError>
-        requires declared { IsDeclared self.now.declarations.now }
         requires entries { entry_rules self.now.declarations.now.storage.now ≡ [] }
         requires rules { reference_rules (items_in self.now.declarations.now) any_item one.now
             ≡ [] }
@@ -36,7 +35,6 @@ impl<'a> Emitter<'a> {
         code: &mut Code,
         all: &[Reference],
     ) -> Result<(), AllocError>
-        requires declared { IsDeclared self.now.declarations.now }
         requires entries { entry_rules self.now.declarations.now.storage.now ≡ [] }
         requires rules { initialize_rules (items_in self.now.declarations.now) all.now ≡ [] }
         ensures { OnOk result (code.new ≡ append code.old
@@ -50,7 +48,6 @@ impl<'a> Emitter<'a> {
 
     /// The item of a condition name, in the occurrence referred to.
     fn emit_set(&self, code: &mut Code, one: &Reference) -> Result<(), AllocError>
-        requires declared { IsDeclared self.now.declarations.now }
         requires entries { entry_rules self.now.declarations.now.storage.now ≡ [] }
         requires rules { set_one (items_in self.now.declarations.now) one.now ≡ [] }
         ensures { OnOk result (code.new ≡ append code.old
@@ -66,7 +63,6 @@ impl<'a> Emitter<'a> {
 
     /// SET, after its `tick`.
     pub(crate) fn emit_sets(&self, code: &mut Code, all: &[Reference]) -> Result<(), AllocError>
-        requires declared { IsDeclared self.now.declarations.now }
         requires entries { entry_rules self.now.declarations.now.storage.now ≡ [] }
         requires rules { set_rules (items_in self.now.declarations.now) all.now ≡ [] }
         ensures { OnOk result (code.new ≡ append code.old

@@ -9,7 +9,7 @@ ghost use Rattle.source_tree.specs.NameRules.{reference_rules};
 ghost use Rattle.source_tree.specs.Converting.{convert_rules};
 ghost use Rattle.source_tree.specs.InspectRules as rules;
 ghost use Rattle.source_tree.specs.InspectLayout as layout;
-ghost use Rattle.declarations.specs.Named.{IsDeclared, items_in};
+ghost use Rattle.declarations.specs.Named.{items_in};
 ghost use Rattle.codegen.specs.Fragments.{append};
 ghost use Rattle.codegen.specs.DataCode.{text_fragment};
 ghost use Rattle.data_instructions.specs.InspectCodes as codes;
@@ -37,7 +37,6 @@ impl<'a> Emitter<'a> {
         line: &mut TextLine,
         one: &Reference,
     ) -> Result<Span, AllocError>
-        requires declared { IsDeclared self.now.declarations.now }
         requires rules { reference_rules (items_in self.now.declarations.now) rules.inspected_item
             one.now ≡ [] }
         ensures { IfOk result (λ span. spec.TextMade (items_in self.now.declarations.now)
@@ -55,7 +54,6 @@ impl<'a> Emitter<'a> {
         line: &mut TextLine,
         one: &Operand,
     ) -> Result<Span, AllocError>
-        requires declared { IsDeclared self.now.declarations.now }
         requires rules { rules.inspected_rules (items_in self.now.declarations.now) one.now ≡ [] }
         ensures { IfOk result (λ span. spec.TextMade (items_in self.now.declarations.now)
             (layout.source one.now) code.old code.new line.old line.new span) }
@@ -99,7 +97,6 @@ impl<'a> Emitter<'a> {
         size: u32,
         one: &Operand,
     ) -> Result<Span, AllocError>
-        requires declared { IsDeclared self.now.declarations.now }
         requires rules { rules.inspected_rules (items_in self.now.declarations.now) one.now ≡ [] }
         ensures { IfOk result (λ span. spec.TextMade (items_in self.now.declarations.now)
             (layout.replacing_text size one.now) code.old code.new line.old line.new span) }
@@ -119,7 +116,6 @@ impl<'a> Emitter<'a> {
         line: &mut TextLine,
         one: &Option<Operand>,
     ) -> Result<Option<Span>, AllocError>
-        requires declared { IsDeclared self.now.declarations.now }
         requires rules { rules.limit_rules (items_in self.now.declarations.now) one.now ≡ [] }
         ensures { IfOk result (λ span. spec.LimitMade (items_in self.now.declarations.now) one.now
             code.old code.new line.old line.new span) }
@@ -137,7 +133,6 @@ impl<'a> Emitter<'a> {
         line: &mut TextLine,
         one: &Limits,
     ) -> Result<LimitSpans, AllocError>
-        requires declared { IsDeclared self.now.declarations.now }
         requires rules { rules.limits_rules (items_in self.now.declarations.now) one.now ≡ [] }
         ensures { IfOk result (λ made. spec.LimitsMade (items_in self.now.declarations.now) one.now
             code.old code.new line.old line.new made.before made.after) }
@@ -160,7 +155,6 @@ impl<'a> Emitter<'a> {
         how: Occurrences,
         one: &TalliedText,
     ) -> Result<(), AllocError>
-        requires declared { IsDeclared self.now.declarations.now }
         requires rules { rules.tallied_text_rules (items_in self.now.declarations.now) one.now
             ≡ [] }
         ensures { OnOk result
@@ -185,7 +179,6 @@ impl<'a> Emitter<'a> {
         how: Occurrences,
         all: &[TalliedText],
     ) -> Result<(), AllocError>
-        requires declared { IsDeclared self.now.declarations.now }
         requires rules { each (rules.tallied_text_rules (items_in self.now.declarations.now))
             all.now ≡ [] }
         ensures { OnOk result (spec.Puts (items_in self.now.declarations.now)
@@ -205,7 +198,6 @@ impl<'a> Emitter<'a> {
         made: &mut Entries,
         limits: &Limits,
     ) -> Result<(), AllocError>
-        requires declared { IsDeclared self.now.declarations.now }
         requires rules { rules.limits_rules (items_in self.now.declarations.now) limits.now ≡ [] }
         ensures { OnOk result (spec.Puts (items_in self.now.declarations.now)
             (layout.tallied_entries (tallied.Characters limits.now)) code.old code.new made.old
@@ -227,7 +219,6 @@ impl<'a> Emitter<'a> {
         made: &mut Entries,
         one: &Tallied,
     ) -> Result<(), AllocError>
-        requires declared { IsDeclared self.now.declarations.now }
         requires rules { rules.tallied_rules (items_in self.now.declarations.now) one.now ≡ [] }
         ensures { OnOk
             result (spec.Puts (items_in self.now.declarations.now) (layout.tallied_entries one.now)
@@ -248,7 +239,6 @@ impl<'a> Emitter<'a> {
         made: &mut Entries,
         all: &[Tallied],
     ) -> Result<(), AllocError>
-        requires declared { IsDeclared self.now.declarations.now }
         requires rules { each (rules.tallied_rules (items_in self.now.declarations.now)) all.now
             ≡ [] }
         ensures { OnOk result (spec.Puts (items_in self.now.declarations.now)
@@ -269,7 +259,6 @@ impl<'a> Emitter<'a> {
         counters: &mut Items<u32>,
         one: &Tallying,
     ) -> Result<(), AllocError>
-        requires declared { IsDeclared self.now.declarations.now }
         requires rules { rules.tallying_rules (items_in self.now.declarations.now) one.now ≡ [] }
         ensures { OnOk result (spec.Counts (items_in self.now.declarations.now) (one.now ∷ [])
             code.old code.new made.old made.new counters.old counters.new) }
@@ -288,7 +277,6 @@ impl<'a> Emitter<'a> {
         counters: &mut Items<u32>,
         all: &[Tallying],
     ) -> Result<(), AllocError>
-        requires declared { IsDeclared self.now.declarations.now }
         requires rules { each (rules.tallying_rules (items_in self.now.declarations.now)) all.now
             ≡ [] }
         ensures { OnOk result (spec.Counts (items_in self.now.declarations.now) all.now code.old
@@ -308,7 +296,6 @@ impl<'a> Emitter<'a> {
         how: Occurrences,
         one: &ReplacedText,
     ) -> Result<(), AllocError>
-        requires declared { IsDeclared self.now.declarations.now }
         requires rules { rules.replaced_text_rules (items_in self.now.declarations.now) one.now
             ≡ [] }
         ensures { OnOk result (spec.Puts (items_in self.now.declarations.now)
@@ -334,7 +321,6 @@ impl<'a> Emitter<'a> {
         how: Occurrences,
         all: &[ReplacedText],
     ) -> Result<(), AllocError>
-        requires declared { IsDeclared self.now.declarations.now }
         requires rules { each (rules.replaced_text_rules (items_in self.now.declarations.now))
             all.now ≡ [] }
         ensures { OnOk result (spec.Puts (items_in self.now.declarations.now) (layout.all_inspected
@@ -355,7 +341,6 @@ impl<'a> Emitter<'a> {
         by: &Operand,
         limits: &Limits,
     ) -> Result<(), AllocError>
-        requires declared { IsDeclared self.now.declarations.now }
         requires by { rules.inspected_rules (items_in self.now.declarations.now) by.now ≡ [] }
         requires limits { rules.limits_rules (items_in self.now.declarations.now) limits.now ≡ [] }
         ensures { OnOk
@@ -380,7 +365,6 @@ impl<'a> Emitter<'a> {
         made: &mut Entries,
         one: &Replacing,
     ) -> Result<(), AllocError>
-        requires declared { IsDeclared self.now.declarations.now }
         requires rules { rules.replacing_rules (items_in self.now.declarations.now) one.now ≡ [] }
         ensures { OnOk result (spec.Puts (items_in self.now.declarations.now)
             (layout.replacing_entries (items_in self.now.declarations.now) one.now) code.old
@@ -401,7 +385,6 @@ impl<'a> Emitter<'a> {
         made: &mut Entries,
         all: &[Replacing],
     ) -> Result<(), AllocError>
-        requires declared { IsDeclared self.now.declarations.now }
         requires rules { each (rules.replacing_rules (items_in self.now.declarations.now)) all.now
             ≡ [] }
         ensures { OnOk result (spec.Puts (items_in self.now.declarations.now) (layout.all_inspected
@@ -420,7 +403,6 @@ impl<'a> Emitter<'a> {
         code: &mut Code,
         one: &InspectStatement,
     ) -> Result<(), AllocError>
-        requires declared { IsDeclared self.now.declarations.now }
         requires rules { rules.inspect_rules (items_in self.now.declarations.now) one.now ≡ [] }
         ensures { OnOk result (code.new ≡ append code.old
             (spec.inspect_fragment (items_in self.now.declarations.now) one.now code.old)) }
@@ -448,7 +430,6 @@ impl<'a> Emitter<'a> {
 
     /// INSPECT CONVERTING, after its `tick`.
     pub(crate) fn emit_convert(&self, code: &mut Code, one: &Converting) -> Result<(), AllocError>
-        requires declared { IsDeclared self.now.declarations.now }
         requires rules { convert_rules (items_in self.now.declarations.now) one.now ≡ [] }
         ensures { OnOk result (code.new ≡ append code.old
             (spec.convert_fragment (items_in self.now.declarations.now) one.now code.old)) }

@@ -4,7 +4,7 @@ ghost use Rattle.std.specs.Prelude.{◌≡◌, ◌≤◌, [], None, Some, slice_
 ghost use Rattle.source_tree.specs.NameRules.{length_rules, part_rules};
 ghost use Rattle.source_tree.specs.Parts as parts;
 ghost use Rattle.data_instructions.specs.PartForms as forms;
-ghost use Rattle.declarations.specs.Named.{IsDeclared, items_in};
+ghost use Rattle.declarations.specs.Named.{items_in};
 ghost use Rattle.codegen.specs.Fragments.{append, sequence};
 ghost use Rattle.codegen.specs.DataCode as spec;
 ghost use Rattle.codegen.specs.ItemParts as entries;
@@ -27,7 +27,6 @@ impl<'a> Emitter<'a> {
         number: usize,
         one: &Reference,
     ) -> Result<(), AllocError>
-        requires declared { IsDeclared self.now.declarations.now }
         requires number { number
             ≡ spec.item_number (items_in self.now.declarations.now) one.now.item }
         ensures { OnOk result (code.new ≡ append code.old
@@ -54,7 +53,6 @@ impl<'a> Emitter<'a> {
         size: u32,
         part: &Option<BoxedPart>,
     ) -> Result<(), AllocError>
-        requires declared { IsDeclared self.now.declarations.now }
         requires rules { part_rules (items_in self.now.declarations.now) part.now ≡ [] }
         ensures { OnOk result (code.new ≡ append code.old
             (spec.making_fragment (items_in self.now.declarations.now) size
@@ -68,7 +66,6 @@ impl<'a> Emitter<'a> {
 
     /// A part: nothing if the table of items has an entry for it.
     fn emit_given_part(&self, code: &mut Code, size: u32, one: &Part) -> Result<(), AllocError>
-        requires declared { IsDeclared self.now.declarations.now }
         requires rules { part_rules (items_in self.now.declarations.now) (Some one.now) ≡ [] }
         ensures { OnOk result (code.new ≡ append code.old
             (spec.making_fragment (items_in self.now.declarations.now) size
@@ -82,7 +79,6 @@ impl<'a> Emitter<'a> {
 
     /// A part that is made in the run.
     fn emit_made(&self, code: &mut Code, size: u32, one: &Part) -> Result<(), AllocError>
-        requires declared { IsDeclared self.now.declarations.now }
         requires rules { part_rules (items_in self.now.declarations.now) (Some one.now) ≡ [] }
         ensures { OnOk result (code.new ≡ append code.old
             (spec.making_fragment (items_in self.now.declarations.now) size
@@ -98,7 +94,6 @@ impl<'a> Emitter<'a> {
 
     /// A part of unknown length, after the number of its first place.
     fn emit_unknown(&self, code: &mut Code, length: &Option<Subscript>) -> Result<(), AllocError>
-        requires declared { IsDeclared self.now.declarations.now }
         requires rules { length_rules (items_in self.now.declarations.now) length.now ≡ [] }
         ensures { OnOk result (code.new ≡ append code.old
             (spec.unknown_fragment (items_in self.now.declarations.now) length.now code.old)) }
@@ -112,7 +107,6 @@ impl<'a> Emitter<'a> {
 
     /// The length of what a reference shows, as far as it is known before a run.
     pub(crate) fn length_shown(&self, one: &Reference) -> u32
-        requires { IsDeclared self.now.declarations.now }
         ensures { result ≡ entries.length_shown one.now
             (slice_get (items_in self.now.declarations.now)
             (spec.item_number (items_in self.now.declarations.now) one.now.item)) }
@@ -130,7 +124,6 @@ impl<'a> Emitter<'a> {
 
     /// The length of what a reference shows is found in the run.
     pub(crate) fn is_measured(&self, one: &Reference) -> bool
-        requires { IsDeclared self.now.declarations.now }
         ensures { result ≡ entries.is_measured one.now
             (slice_get (items_in self.now.declarations.now)
             (spec.item_number (items_in self.now.declarations.now) one.now.item)) }

@@ -7,7 +7,7 @@ ghost use Rattle.source_tree.specs.Literals.{literal_sender};
 ghost use Rattle.source_tree.specs.NameRules.{operand_rules, number_rules_of};
 ghost use Rattle.source_tree.specs.MoveRules.{move_rules};
 ghost use Rattle.source_tree.specs.ValueRules.{has_form};
-ghost use Rattle.declarations.specs.Named.{IsDeclared, items_in};
+ghost use Rattle.declarations.specs.Named.{items_in};
 ghost use Rattle.codegen.specs.Fragments.{append};
 ghost use Rattle.codegen.specs.DataCode as spec;
 
@@ -56,7 +56,6 @@ pub(crate) fn emit_literal(
 impl<'a> Emitter<'a> {
     /// What is sent.
     pub(crate) fn emit_sender(&self, code: &mut Code, one: &Operand) -> Result<(), AllocError>
-        requires declared { IsDeclared self.now.declarations.now }
         requires rules { operand_rules (items_in self.now.declarations.now) one.now ≡ [] }
         ensures { OnOk result (code.new ≡ append code.old
             (spec.sender_fragment (items_in self.now.declarations.now) one.now code.old)) }
@@ -73,7 +72,6 @@ impl<'a> Emitter<'a> {
         code: &mut Code,
         all: &[Reference],
     ) -> Result<(), AllocError>
-        requires declared { IsDeclared self.now.declarations.now }
         requires rules { each (number_rules_of (items_in self.now.declarations.now)) all.now ≡ [] }
         ensures { OnOk result (code.new ≡ append code.old
             (spec.receivers_fragment (items_in self.now.declarations.now) all.now code.old)) }
@@ -91,7 +89,6 @@ impl<'a> Emitter<'a> {
         sender: &Operand,
         receivers: &[Reference],
     ) -> Result<(), AllocError>
-        requires declared { IsDeclared self.now.declarations.now }
         requires rules { move_rules (items_in self.now.declarations.now) sender.now receivers.now
             ≡ [] }
         ensures { OnOk result (code.new ≡ append code.old (spec.move_fragment

@@ -8,7 +8,7 @@ ghost use Rattle.source_tree.specs.LookUp.{all_conditions};
 ghost use Rattle.source_tree.specs.NameRules.{reference_rules, any_item};
 ghost use Rattle.source_tree.specs.SettingRules.{set_one};
 ghost use Rattle.data_instructions.specs.TextCodes.{new_byte, new_mark};
-ghost use Rattle.declarations.specs.Named.{IsDeclared, items_in};
+ghost use Rattle.declarations.specs.Named.{items_in};
 ghost use Rattle.initial_storage.specs.Conditions.{HasFirst};
 ghost use Rattle.initial_storage.specs.Fits.{HasKind};
 ghost use Rattle.codegen.specs.DataCode.{item_number};
@@ -78,7 +78,6 @@ fn first_overlay(alloc: Global, item: Item, values: &[ValueRange]) -> Result<Ove
 impl<'a> Emitter<'a> {
     /// What INITIALIZE puts into the item of a reference, or into its part.
     pub(crate) fn initial_overlay(&self, one: &Reference) -> Result<Overlay, AllocError>
-        requires declared { IsDeclared self.now.declarations.now }
         requires entries { entry_rules self.now.declarations.now.storage.now ≡ [] }
         requires rules { reference_rules (items_in self.now.declarations.now) any_item one.now
             ≡ [] }
@@ -104,7 +103,6 @@ impl<'a> Emitter<'a> {
 
     /// What SET puts into the item of a condition name.
     pub(crate) fn set_overlay(&self, one: &Reference) -> Result<Overlay, AllocError>
-        requires declared { IsDeclared self.now.declarations.now }
         requires entries { entry_rules self.now.declarations.now.storage.now ≡ [] }
         requires rules { set_one (items_in self.now.declarations.now) one.now ≡ [] }
         ensures bytes { IfOk result (λ made. made.bytes ≡ map

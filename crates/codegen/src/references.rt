@@ -5,7 +5,7 @@ ghost use Rattle.source_tree.specs.Broken.{each};
 ghost use Rattle.source_tree.specs.Integers as written;
 ghost use Rattle.source_tree.specs.NameRules.{integer_rules, adjustment_rules, subscript_rules, number_rules_of};
 ghost use Rattle.data_instructions.specs.Codes.{integer, index_code};
-ghost use Rattle.declarations.specs.Named.{IsDeclared, items_in};
+ghost use Rattle.declarations.specs.Named.{items_in};
 ghost use Rattle.codegen.specs.Fragments.{append, sequence};
 ghost use Rattle.codegen.specs.DataCode as spec;
 
@@ -96,7 +96,6 @@ fn emit_range(code: &mut Code, one: Dimension) -> Result<(), AllocError>
 impl<'a> Emitter<'a> {
     /// The number of a subscript, on the stack of numbers.
     pub(crate) fn emit_subscript(&self, code: &mut Code, one: &Subscript) -> Result<(), AllocError>
-        requires declared { IsDeclared self.now.declarations.now }
         requires rules { subscript_rules (items_in self.now.declarations.now) one.now ≡ [] }
         ensures { OnOk result (code.new ≡ append code.old
             (spec.subscript_fragment (items_in self.now.declarations.now) one.now code.old)) }
@@ -119,7 +118,6 @@ impl<'a> Emitter<'a> {
         dimension: Dimension,
         one: &Subscript,
     ) -> Result<(), AllocError>
-        requires declared { IsDeclared self.now.declarations.now }
         requires rules { subscript_rules (items_in self.now.declarations.now) one.now ≡ [] }
         ensures { OnOk result (code.new ≡ append code.old
             (sequence (spec.subscript_fragment (items_in self.now.declarations.now) one.now)
@@ -136,7 +134,6 @@ impl<'a> Emitter<'a> {
         dimensions: &[Dimension],
         subscripts: &[Subscript],
     ) -> Result<(), AllocError>
-        requires declared { IsDeclared self.now.declarations.now }
         requires rules { each (subscript_rules (items_in self.now.declarations.now)) subscripts.now
             ≡ [] }
         ensures { OnOk result (code.new ≡ append code.old (spec.subscripts_fragment
@@ -153,7 +150,6 @@ impl<'a> Emitter<'a> {
 
     /// The place of a reference, on the stack of places.
     pub(crate) fn emit_reference(&self, code: &mut Code, one: &Reference) -> Result<(), AllocError>
-        requires declared { IsDeclared self.now.declarations.now }
         requires rules { number_rules_of (items_in self.now.declarations.now) one.now ≡ [] }
         ensures { OnOk result (code.new ≡ append code.old
             (spec.reference_fragment (items_in self.now.declarations.now) one.now code.old)) }
@@ -172,7 +168,6 @@ impl<'a> Emitter<'a> {
         taking: DataInstruction,
         one: &Reference,
     ) -> Result<(), AllocError>
-        requires declared { IsDeclared self.now.declarations.now }
         requires rules { number_rules_of (items_in self.now.declarations.now) one.now ≡ [] }
         ensures { OnOk result (code.new ≡ append code.old
             (spec.take_fragment (items_in self.now.declarations.now) taking one.now code.old)) }

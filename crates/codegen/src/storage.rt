@@ -5,7 +5,7 @@ ghost use Rattle.source_tree.specs.EntryRules.{entry_rules};
 ghost use Rattle.source_tree.specs.Records.{program_areas};
 ghost use Rattle.data_instructions.specs.Codes.{data_item};
 ghost use Rattle.file_descriptions.specs.Files.{file_in};
-ghost use Rattle.declarations.specs.Named.{Declares, IsDeclared, items_in, files_in};
+ghost use Rattle.declarations.specs.Named.{Declares, items_in, files_in};
 ghost use Rattle.codegen.specs.FileCode as files;
 ghost use Rattle.codegen.specs.Layout as spec;
 ghost use Rattle.codegen.specs.Sent.{edits, first_editing};
@@ -29,7 +29,6 @@ pub(crate) fn storage_code(
     program: &Program,
     declarations: &Declarations<'_>,
 ) -> Result<Code, AllocError>
-    requires declared { IsDeclared declarations.now }
     requires program { Declares program.now declarations.now }
     requires rules { entry_rules program.now.storage ≡ [] }
     ensures { IfOk result (λ code. code ≡ spec.storage_with (program_areas program.now)
@@ -71,7 +70,6 @@ fn data_item(one: &PlacedItem) -> Result<DataItem, AllocError>
 
 /// The items of working storage and of records.
 fn data_items(alloc: Global, declarations: &Declarations<'_>) -> Result<Items<DataItem>, AllocError>
-    requires { IsDeclared declarations.now }
     ensures { IfOk result (λ items. items ≡ map data_item (items_in declarations.now)) }
 {
     let mut items = Items::new(alloc);
@@ -126,7 +124,6 @@ fn sent_entry(
     declarations: &Declarations<'_>,
     file: &ProgramFile<'_>,
 ) -> Result<DataItem, AllocError>
-    requires { IsDeclared declarations.now }
     ensures { IfOk result (λ entry. entry ≡ files.sent_entry (items_in declarations.now)
         (file_in (items_in declarations.now) file.now)) }
 {
@@ -143,7 +140,6 @@ fn storage_items(
     alloc: Global,
     declarations: &Declarations<'_>,
 ) -> Result<Items<DataItem>, AllocError>
-    requires { IsDeclared declarations.now }
     ensures { IfOk result (λ items. items
         ≡ spec.storage_items (items_in declarations.now) (files_in declarations.now)) }
 {
@@ -160,7 +156,6 @@ fn storage_tables(
     program: &Program,
     declarations: &Declarations<'_>,
 ) -> Result<DataTables, AllocError>
-    requires declared { IsDeclared declarations.now }
     requires program { Declares program.now declarations.now }
     requires rules { entry_rules program.now.storage ≡ [] }
     ensures { IfOk result (λ tables. tables ≡ spec.tables_with (program_areas program.now)

@@ -7,7 +7,7 @@ ghost use Rattle.source_tree.specs.NameRules.{number_rules_of};
 ghost use Rattle.source_tree.specs.Rules as rules;
 ghost use Rattle.source_tree.specs.Rules.{all_permitted};
 ghost use Rattle.source_tree.specs.StringRules.{sent_rules, delimiter_rules, sending_rules, string_rules};
-ghost use Rattle.declarations.specs.Named.{IsDeclared, items_in, scope_in};
+ghost use Rattle.declarations.specs.Named.{items_in, scope_in};
 ghost use Rattle.codegen.specs.Fragments.{append, in_order};
 ghost use Rattle.codegen.specs.Layout.{string_statement_fragment, statement_fragment};
 ghost use Rattle.codegen.specs.StringCode as spec;
@@ -27,7 +27,6 @@ use text_ops::delimited;
 impl<'a> Emitter<'a> {
     /// A sender DELIMITED BY SIZE.
     fn emit_sized(&self, code: &mut Code, one: &Operand) -> Result<(), AllocError>
-        requires declared { IsDeclared self.now.declarations.now }
         requires rules { sent_rules (items_in self.now.declarations.now) one.now ≡ [] }
         ensures { OnOk result (code.new ≡ append code.old
             (spec.sent_fragment (items_in self.now.declarations.now) None one.now code.old)) }
@@ -44,7 +43,6 @@ impl<'a> Emitter<'a> {
 
     /// Senders DELIMITED BY SIZE, in order.
     fn emit_all_sized(&self, code: &mut Code, all: &[Operand]) -> Result<(), AllocError>
-        requires declared { IsDeclared self.now.declarations.now }
         requires rules { each (sent_rules (items_in self.now.declarations.now)) all.now ≡ [] }
         ensures { OnOk result (code.new ≡ append code.old (in_order
             (spec.sent_fragment (items_in self.now.declarations.now) None) all.now code.old)) }
@@ -57,7 +55,6 @@ impl<'a> Emitter<'a> {
 
     /// A sender DELIMITED BY a text: a literal is cut here.
     fn emit_cut(&self, code: &mut Code, delimiter: &[u8], one: &Operand) -> Result<(), AllocError>
-        requires declared { IsDeclared self.now.declarations.now }
         requires rules { sent_rules (items_in self.now.declarations.now) one.now ≡ [] }
         ensures { OnOk result (code.new ≡ append code.old (spec.sent_fragment
             (items_in self.now.declarations.now) (Some delimiter.now) one.now code.old)) }
@@ -82,7 +79,6 @@ impl<'a> Emitter<'a> {
         delimiter: &[u8],
         all: &[Operand],
     ) -> Result<(), AllocError>
-        requires declared { IsDeclared self.now.declarations.now }
         requires rules { each (sent_rules (items_in self.now.declarations.now)) all.now ≡ [] }
         ensures { OnOk result (code.new ≡ append code.old (in_order (spec.sent_fragment
             (items_in self.now.declarations.now) (Some delimiter.now)) all.now code.old)) }
@@ -95,7 +91,6 @@ impl<'a> Emitter<'a> {
 
     /// The place of a sender, which isn't wanted yet.
     fn emit_found(&self, code: &mut Code, one: &Operand) -> Result<(), AllocError>
-        requires declared { IsDeclared self.now.declarations.now }
         requires rules { sent_rules (items_in self.now.declarations.now) one.now ≡ [] }
         ensures { OnOk result (code.new ≡ append code.old
             (spec.found_fragment (items_in self.now.declarations.now) one.now code.old)) }
@@ -110,7 +105,6 @@ impl<'a> Emitter<'a> {
 
     /// Those of senders, in order.
     fn emit_all_found(&self, code: &mut Code, all: &[Operand]) -> Result<(), AllocError>
-        requires declared { IsDeclared self.now.declarations.now }
         requires rules { each (sent_rules (items_in self.now.declarations.now)) all.now ≡ [] }
         ensures { OnOk result (code.new ≡ append code.old (in_order
             (spec.found_fragment (items_in self.now.declarations.now)) all.now code.old)) }
@@ -123,7 +117,6 @@ impl<'a> Emitter<'a> {
 
     /// A sender up to the bytes of the newest place.
     fn emit_up_to_place(&self, code: &mut Code, one: &Operand) -> Result<(), AllocError>
-        requires declared { IsDeclared self.now.declarations.now }
         requires rules { sent_rules (items_in self.now.declarations.now) one.now ≡ [] }
         ensures { OnOk result (code.new ≡ append code.old
             (spec.up_to_place_fragment (items_in self.now.declarations.now) one.now code.old)) }
@@ -140,7 +133,6 @@ impl<'a> Emitter<'a> {
 
     /// Senders up to the bytes of the newest place, in order.
     fn emit_all_up_to_place(&self, code: &mut Code, all: &[Operand]) -> Result<(), AllocError>
-        requires declared { IsDeclared self.now.declarations.now }
         requires rules { each (sent_rules (items_in self.now.declarations.now)) all.now ≡ [] }
         ensures { OnOk result (code.new ≡ append code.old (in_order
             (spec.up_to_place_fragment (items_in self.now.declarations.now)) all.now code.old)) }
@@ -158,7 +150,6 @@ impl<'a> Emitter<'a> {
         all: &[Operand],
         delimiter: &Reference,
     ) -> Result<(), AllocError>
-        requires declared { IsDeclared self.now.declarations.now }
         requires senders { each (sent_rules (items_in self.now.declarations.now)) all.now ≡ [] }
         requires delimiter { number_rules_of (items_in self.now.declarations.now) delimiter.now
             ≡ [] }
@@ -178,7 +169,6 @@ impl<'a> Emitter<'a> {
         senders: &[Operand],
         delimiter: &Operand,
     ) -> Result<(), AllocError>
-        requires declared { IsDeclared self.now.declarations.now }
         requires senders { each (sent_rules (items_in self.now.declarations.now)) senders.now ≡ [] }
         requires delimiter { sent_rules (items_in self.now.declarations.now) delimiter.now ≡ [] }
         ensures { OnOk result (code.new ≡ append code.old (spec.sender_by_fragment
@@ -195,7 +185,6 @@ impl<'a> Emitter<'a> {
 
     /// Senders with their delimiter.
     fn emit_sending(&self, code: &mut Code, one: &Sending) -> Result<(), AllocError>
-        requires declared { IsDeclared self.now.declarations.now }
         requires senders { each (sent_rules (items_in self.now.declarations.now)) one.now.senders
             ≡ [] }
         requires delimiter { delimiter_rules (items_in self.now.declarations.now) one.now.delimiter
@@ -212,7 +201,6 @@ impl<'a> Emitter<'a> {
 
     /// What is sent, in order.
     fn emit_sendings(&self, code: &mut Code, all: &[Sending]) -> Result<(), AllocError>
-        requires declared { IsDeclared self.now.declarations.now }
         requires rules { each (sending_rules (items_in self.now.declarations.now)) all.now ≡ [] }
         ensures { OnOk result (code.new ≡ append code.old
             (spec.sendings_fragment (items_in self.now.declarations.now) all.now code.old)) }
@@ -225,7 +213,6 @@ impl<'a> Emitter<'a> {
 
     /// The pointer's place, if there is one, and what puts the text.
     fn emit_put(&self, code: &mut Code, pointer: &Option<Reference>) -> Result<(), AllocError>
-        requires declared { IsDeclared self.now.declarations.now }
         requires rules { spec.pointer_numbers (items_in self.now.declarations.now) pointer.now
             ≡ [] }
         ensures { OnOk result (code.new ≡ append code.old
@@ -247,7 +234,6 @@ impl<'a> Emitter<'a> {
         receiver: &Reference,
         pointer: &Option<Reference>,
     ) -> Result<(), AllocError>
-        requires declared { IsDeclared self.now.declarations.now }
         requires sendings { each (sending_rules (items_in self.now.declarations.now)) sendings.now
             ≡ [] }
         requires receiver { number_rules_of (items_in self.now.declarations.now) receiver.now ≡ [] }
@@ -269,7 +255,6 @@ impl<'a> Emitter<'a> {
         line: u32,
         one: &StringStatement<Statement>,
     ) -> Result<(), AllocError>
-        requires declared { IsDeclared self.now.declarations.now }
         requires entries { entry_rules self.now.declarations.now.storage.now ≡ [] }
         requires string { string_rules (items_in self.now.declarations.now) one.now ≡ [] }
         requires arose { rules.phrase_rules (rules.statement_rules

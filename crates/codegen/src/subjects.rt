@@ -8,7 +8,7 @@ ghost use Rattle.source_tree.specs.ConditionRules.{side_rules};
 ghost use Rattle.source_tree.specs.EntryRules.{entry_rules};
 ghost use Rattle.source_tree.specs.Evaluate as tree;
 ghost use Rattle.source_tree.specs.EvaluateRules.{subject_rules};
-ghost use Rattle.declarations.specs.Named.{IsDeclared, items_in};
+ghost use Rattle.declarations.specs.Named.{items_in};
 ghost use Rattle.declarations.specs.Resolved.{optional_choice};
 ghost use Rattle.codegen.specs.Fragments.{append};
 ghost use Rattle.codegen.specs.SubjectCode as spec;
@@ -23,7 +23,6 @@ use std::alloc::AllocError;
 impl<'a> Emitter<'a> {
     /// A value is a literal, or an item without subscripts.
     fn is_at_hand(&self, value: &Side) -> bool
-        requires { IsDeclared self.now.declarations.now }
         ensures { result ≡ spec.is_at_hand (items_in self.now.declarations.now)
             (conditions.alone_side value.now) }
     {
@@ -35,7 +34,6 @@ impl<'a> Emitter<'a> {
 
     /// A value has no fault: it is a literal, or an item that has no subscripts and isn't numeric.
     fn is_faultless(&self, value: &Side) -> bool
-        requires { IsDeclared self.now.declarations.now }
         ensures { result ≡ spec.is_faultless (items_in self.now.declarations.now)
             (conditions.alone_side value.now) }
     {
@@ -47,7 +45,6 @@ impl<'a> Emitter<'a> {
 
     /// An object asks for its subject before it can have a fault of its own that is another one.
     fn asks_at_once(&self, subject: &Subject, choice: &Choice) -> bool
-        requires { IsDeclared self.now.declarations.now }
         ensures { result ≡ spec.asks_at_once (items_in self.now.declarations.now)
             (tree.resolved_subject (items_in self.now.declarations.now) subject.now)
             (optional_choice (items_in self.now.declarations.now) choice.now) }
@@ -69,7 +66,6 @@ impl<'a> Emitter<'a> {
 
     /// The only subject is asked for at once.
     fn is_asked_first(&self, subjects: &[Subject], object: Option<&Object>) -> bool
-        requires { IsDeclared self.now.declarations.now }
         ensures { result ≡ spec.is_asked_first (items_in self.now.declarations.now) subjects.now
             (option_copied object.entry) }
     {
@@ -81,7 +77,6 @@ impl<'a> Emitter<'a> {
 
     /// A value is compared with ZERO, if it can have a fault.
     fn emit_value_look(&self, code: &mut Code, value: &Side) -> Result<(), AllocError>
-        requires declared { IsDeclared self.now.declarations.now }
         requires rules { side_rules (items_in self.now.declarations.now) value.now ≡ [] }
         ensures { OnOk result
             (code.new ≡ append code.old (spec.look_fragment (items_in self.now.declarations.now)
@@ -96,7 +91,6 @@ impl<'a> Emitter<'a> {
 
     /// A subject is taken.
     fn emit_subject(&self, code: &mut Code, one: &Subject) -> Result<(), AllocError>
-        requires declared { IsDeclared self.now.declarations.now }
         requires entries { entry_rules self.now.declarations.now.storage.now ≡ [] }
         requires rules { subject_rules (items_in self.now.declarations.now) one.now ≡ [] }
         ensures { OnOk result (code.new ≡ append code.old
@@ -111,7 +105,6 @@ impl<'a> Emitter<'a> {
 
     /// Subjects are taken, in order.
     fn emit_each_subject(&self, code: &mut Code, all: &[Subject]) -> Result<(), AllocError>
-        requires declared { IsDeclared self.now.declarations.now }
         requires entries { entry_rules self.now.declarations.now.storage.now ≡ [] }
         requires rules { each (subject_rules (items_in self.now.declarations.now)) all.now ≡ [] }
         ensures { OnOk result (code.new ≡ append code.old
@@ -129,7 +122,6 @@ impl<'a> Emitter<'a> {
         code: &mut Code,
         one: &Evaluate<Statement>,
     ) -> Result<(), AllocError>
-        requires declared { IsDeclared self.now.declarations.now }
         requires entries { entry_rules self.now.declarations.now.storage.now ≡ [] }
         requires rules { each (subject_rules (items_in self.now.declarations.now)) one.now.subjects
             ≡ [] }

@@ -5,7 +5,7 @@ ghost use Rattle.source_tree.specs.EntryRules.{entry_rules};
 ghost use Rattle.source_tree.specs.NameRules.{reference_rules};
 ghost use Rattle.source_tree.specs.Performing.{turns_of};
 ghost use Rattle.source_tree.specs.Rules.{integer_item};
-ghost use Rattle.declarations.specs.Named.{IsDeclared, items_in, scope_in};
+ghost use Rattle.declarations.specs.Named.{items_in, scope_in};
 ghost use Rattle.codegen.specs.Fragments.{append, sequence};
 ghost use Rattle.codegen.specs.DataCode.{take_fragment};
 ghost use Rattle.codegen.specs.Layout.{loop_begin, count_begin, turn_end, counted_turn, times_fragment, counted_fragment, turn_fragment, statement_fragment};
@@ -78,7 +78,6 @@ impl<'a> Emitter<'a> {
         count: u64,
         one: &Performed<Statement>,
     ) -> Result<(), AllocError>
-        requires declared { IsDeclared self.now.declarations.now }
         requires entries { entry_rules self.now.declarations.now.storage.now ≡ [] }
         requires rules { KeepsPerformed self.now.declarations.now one.now }
         ensures { OnOk result (code.new ≡ append
@@ -101,7 +100,6 @@ impl<'a> Emitter<'a> {
         item: &Reference,
         one: &Performed<Statement>,
     ) -> Result<(), AllocError>
-        requires declared { IsDeclared self.now.declarations.now }
         requires entries { entry_rules self.now.declarations.now.storage.now ≡ [] }
         requires item { reference_rules (items_in self.now.declarations.now) integer_item item.now
             ≡ [] }
@@ -128,7 +126,6 @@ impl<'a> Emitter<'a> {
         begin: usize,
         one: &Performed<Statement>,
     ) -> Result<(), AllocError>
-        requires declared { IsDeclared self.now.declarations.now }
         requires entries { entry_rules self.now.declarations.now.storage.now ≡ [] }
         requires rules { KeepsPerformed self.now.declarations.now one.now }
         ensures { OnOk result (code.new ≡ append

@@ -3,7 +3,7 @@
 ghost use Rattle.std.specs.Prelude.{◌≡◌, [], false, OnOk};
 ghost use Rattle.source_tree.specs.EntryRules.{entry_rules};
 ghost use Rattle.source_tree.specs.ConditionRules.{varying_rules, until_rules};
-ghost use Rattle.declarations.specs.Named.{IsDeclared, items_in, scope_in};
+ghost use Rattle.declarations.specs.Named.{items_in, scope_in};
 ghost use Rattle.codegen.specs.Fragments.{append, sequence};
 ghost use Rattle.codegen.specs.Meeting.{either_fragment, nothing_fragment};
 ghost use Rattle.codegen.specs.DataCode.{work_fragment};
@@ -25,7 +25,6 @@ use std::alloc::AllocError;
 impl<'a> Emitter<'a> {
     /// VARYING begins: FROM is moved in.
     fn emit_vary_begin(&self, code: &mut Code, one: &Option<Varying>) -> Result<(), AllocError>
-        requires declared { IsDeclared self.now.declarations.now }
         requires rules { varying_rules (items_in self.now.declarations.now) one.now ≡ [] }
         ensures { OnOk result (code.new ≡ append code.old
             (spec.vary_begin_fragment (items_in self.now.declarations.now) one.now code.old)) }
@@ -39,7 +38,6 @@ impl<'a> Emitter<'a> {
 
     /// VARYING goes on: BY is added.
     fn emit_vary_on(&self, code: &mut Code, one: &Option<Varying>) -> Result<(), AllocError>
-        requires declared { IsDeclared self.now.declarations.now }
         requires rules { varying_rules (items_in self.now.declarations.now) one.now ≡ [] }
         ensures { OnOk result (code.new ≡ append code.old
             (spec.vary_on_fragment (items_in self.now.declarations.now) one.now code.old)) }
@@ -55,7 +53,6 @@ impl<'a> Emitter<'a> {
 
     /// Where the truth is false, VARYING goes on, and the truth is false after it.
     fn emit_onward(&self, code: &mut Code, one: &Option<Varying>) -> Result<(), AllocError>
-        requires declared { IsDeclared self.now.declarations.now }
         requires rules { varying_rules (items_in self.now.declarations.now) one.now ≡ [] }
         ensures { OnOk result (code.new
             ≡ append code.old (either_fragment nothing_fragment (sequence (spec.vary_on_fragment
@@ -77,7 +74,6 @@ impl<'a> Emitter<'a> {
         one: &Until,
         performed: &Performed<Statement>,
     ) -> Result<(), AllocError>
-        requires declared { IsDeclared self.now.declarations.now }
         requires entries { entry_rules self.now.declarations.now.storage.now ≡ [] }
         requires turns { until_rules (items_in self.now.declarations.now) one.now ≡ [] }
         requires rules { KeepsPerformed self.now.declarations.now performed.now }
@@ -102,7 +98,6 @@ impl<'a> Emitter<'a> {
         one: &Until,
         performed: &Performed<Statement>,
     ) -> Result<(), AllocError>
-        requires declared { IsDeclared self.now.declarations.now }
         requires entries { entry_rules self.now.declarations.now.storage.now ≡ [] }
         requires turns { until_rules (items_in self.now.declarations.now) one.now ≡ [] }
         requires rules { KeepsPerformed self.now.declarations.now performed.now }
@@ -128,7 +123,6 @@ impl<'a> Emitter<'a> {
         one: &Until,
         performed: &Performed<Statement>,
     ) -> Result<(), AllocError>
-        requires declared { IsDeclared self.now.declarations.now }
         requires entries { entry_rules self.now.declarations.now.storage.now ≡ [] }
         requires turns { until_rules (items_in self.now.declarations.now) one.now ≡ [] }
         requires rules { KeepsPerformed self.now.declarations.now performed.now }
@@ -155,7 +149,6 @@ impl<'a> Emitter<'a> {
         one: &Until,
         performed: &Performed<Statement>,
     ) -> Result<(), AllocError>
-        requires declared { IsDeclared self.now.declarations.now }
         requires entries { entry_rules self.now.declarations.now.storage.now ≡ [] }
         requires turns { until_rules (items_in self.now.declarations.now) one.now ≡ [] }
         requires rules { KeepsPerformed self.now.declarations.now performed.now }

@@ -1,5 +1,7 @@
 pub mod Data
 pub mod Listed
+pub mod Tables
+pub mod OneProof
 pub mod Named
 pub mod Kept
 pub mod Resolved

@@ -6,7 +6,6 @@ use Rattle.source_tree.specs.Broken.{RuleBreach}
 use Rattle.source_tree.specs.declared.program.Program.{Program}
 use Rattle.source_tree.specs.LookUp.{first}
 use Rattle.source_tree.specs.NameRules.{unique_name_rules}
-use Rattle.source_tree.specs.FileRules.{program_file_rules}
 use Rattle.source_tree.specs.Places.{LocatedItem}
 use Rattle.source_tree.specs.ProgramFiles.{ProgramFile, files_of}
 use Rattle.source_tree.specs.Records.{program_items}
@@ -14,11 +13,6 @@ use Rattle.source_tree.specs.Procedures.{Procedure, procedures_of}
 use Rattle.source_tree.specs.Setting.{Scope}
 use Rattle.layout.specs.declared.placed.PlacedItem.{PlacedItem}
 use Rattle.layout.specs.Placing.{placed_item}
-use Rattle.name_table.specs.Items.{called_item}
-use Rattle.name_table.specs.Conditions.{AreConditions}
-use Rattle.name_table.specs.Procedures.{AreProcedures}
-use Rattle.name_table.specs.Table.{IsTable, calls_in}
-use Rattle.file_descriptions.specs.Files.{AreFiles}
 use Rattle.entry_rules.specs.declared.rule.BrokenRule.{BrokenRule}
 use Rattle.entry_rules.specs.Checks.{broken_of}
 use Rattle.declarations.specs.declared.declarations.Declarations.{Declarations}
@@ -48,17 +42,6 @@ pub record Declares (program : Program) (all : Declarations) : Type 0 where
   pub descriptions : all.descriptions.now ≡ program.files
   pub storage : all.storage.now ≡ program.storage
   pub procedures : procedures_in all ≡ procedures_of program.sections
-
--- Names and places are those of the items, the files those of the SELECTs, which keep their rules, and the names of procedures those of
--- the procedures.
-pub record IsDeclared (all : Declarations) : Type 0 where
-  pub table : IsTable all.names
-  pub calls : calls_in all.names ≡ map called_item (items_in all)
-  pub items : all.layout.items ≡ map placed_item (items_in all)
-  pub conditions : AreConditions (items_in all) all.conditions
-  pub files : AreFiles (items_in all) (data_in all) all.files
-  pub file_rules : program_file_rules (items_in all) (data_in all) ≡ []
-  pub procedures : AreProcedures (procedures_in all) all.procedures
 
 abbrev pub result_now : Result (Bor PlacedItem) BrokenRule → Result PlacedItem BrokenRule
 result_now (Ok item) = Ok item.now

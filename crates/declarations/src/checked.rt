@@ -3,7 +3,7 @@
 ghost use Rattle.std.specs.Prelude.{◌≡◌, []};
 ghost use Rattle.source_tree.specs.Recursion.{HasOrder};
 ghost use Rattle.source_tree.specs.Rules.{program_rules};
-ghost use Rattle.declarations.specs.Named.{Declares, IsDeclared};
+ghost use Rattle.declarations.specs.Named.{Declares};
 
 use crate::declarations::Declarations;
 use source_tree::Program;
@@ -38,7 +38,6 @@ impl<'a> Checked<'a> {
         requires kept { program_rules program.now ≡ [] }
         requires order { HasOrder program.now }
         requires program { Declares program.now declarations }
-        requires declared { IsDeclared declarations }
         ensures { result ≡ program.now }
     {
         Checked {
@@ -58,7 +57,6 @@ impl<'a> Checked<'a> {
 
     /// What it declares.
     pub fn declarations(&self) -> &Declarations<'a>
-        ensures declared { IsDeclared result.now }
         ensures program { Declares self.now result.now }
     {
         &self.declarations

@@ -1,19 +1,8 @@
 //! What is declared in a program.
 
-ghost use Rattle.std.specs.Prelude.{◌≡◌, [], IfOk, OnOk};
-ghost use Rattle.entry_rules.specs.Checks.{IsFirstFault};
-ghost use Rattle.source_tree.specs.EntryRules.{entry_rules};
-ghost use Rattle.source_tree.specs.FileRules.{program_file_rules};
-ghost use Rattle.source_tree.specs.LookUp.{items_named};
-ghost use Rattle.source_tree.specs.Parts.{items_referred};
-ghost use Rattle.source_tree.specs.PerformRules.{procedure_name_rules};
-ghost use Rattle.declarations.specs.Declaring.{declaration_rules, data_rules};
-ghost use Rattle.name_table.specs.Table.{calls_in};
-ghost use Rattle.declarations.specs.Found.{AreDeclared, items_of};
-ghost use Rattle.declarations.specs.FoundFiles.{IsNumberedItem};
-ghost use Rattle.declarations.specs.Named as spec;
-ghost use Rattle.declarations.specs.Named.{Declares, IsDeclared, IsItemNamed, items_in};
-ghost use Rattle.declarations.specs.Seen.{IsItemShown};
+ghost use Rattle.declarations.specs.Data.{with_data};
+ghost use Rattle.declarations.specs.OneProof.{declared_props};
+ghost use Rattle.declarations.specs.Tables.{IsDeclared};
 
 use crate::declared_items::{DeclaredItems, item_number};
 use crate::item_parts::item_seen;
@@ -42,13 +31,29 @@ pub struct Declarations<'a> {
     /// Each section before its paragraphs.
     pub procedure_list: Vec<Procedure<'a>>,
     pub procedures: ProcedureNames<'a>,
+    pub ghost declared: { IsDeclared (with_data selects.now descriptions.now storage.now) names
+        layout conditions files procedure_list.items procedures } by { Prim.hlevel declared_props },
 }
 
 impl<'a> Declarations<'a> {
+    ghost use Rattle.std.specs.Prelude.{◌≡◌, [], IfOk};
+    ghost use Rattle.entry_rules.specs.Checks.{IsFirstFault};
+    ghost use Rattle.source_tree.specs.EntryRules.{entry_rules};
+    ghost use Rattle.source_tree.specs.FileRules.{program_file_rules};
+    ghost use Rattle.source_tree.specs.LookUp.{items_named};
+    ghost use Rattle.source_tree.specs.Parts.{items_referred};
+    ghost use Rattle.source_tree.specs.PerformRules.{procedure_name_rules};
+    ghost use Rattle.name_table.specs.Table.{calls_in};
+    ghost use Rattle.declarations.specs.Declaring.{declaration_rules};
+    ghost use Rattle.declarations.specs.Found.{AreDeclared, items_of};
+    ghost use Rattle.declarations.specs.FoundFiles.{IsNumberedItem};
+    ghost use Rattle.declarations.specs.Named as spec;
+    ghost use Rattle.declarations.specs.Named.{Declares, IsItemNamed, items_in};
+    ghost use Rattle.declarations.specs.Seen.{IsItemShown};
+
     /// What is declared in a program that keeps the rules of its entries, of its files and of the names of its procedures. Otherwise
     /// the answer is the first that it breaks.
     pub fn of(alloc: Global, program: &'a Program) -> Result<Declarations<'a>, CheckError>
-        ensures declared { IfOk result IsDeclared }
         ensures program { IfOk result (Declares program.now) }
         ensures rules { IsFirstFault result (declaration_rules program.now) }
     {
@@ -61,7 +66,6 @@ impl<'a> Declarations<'a> {
         requires declared { AreDeclared items }
         requires storage { entry_rules items.program.now.storage ≡ [] }
         requires files { program_file_rules (items_of items) items.program.now ≡ [] }
-        ensures declared { IfOk result IsDeclared }
         ensures program { IfOk result (Declares items.entry.program.now) }
         ensures names { IsFirstFault result
             (procedure_name_rules items.entry.program.now.sections) }
@@ -94,7 +98,6 @@ impl<'a> Declarations<'a> {
 
     /// The item that a name names: rule 40 where there is none, 41 where there are several.
     pub fn item_named(&self, name: &QualifiedName) -> Result<&PlacedItem, BrokenRule>
-        requires { IsDeclared self.now }
         ensures { IsItemNamed name.now.name.place (spec.result_now result)
             (items_named (items_in self.now) name.now) }
     {
@@ -104,7 +107,6 @@ impl<'a> Declarations<'a> {
 
     /// The item that a reference shows, which is its part if it has one: rule 40 where the name names nothing, 41 where it names several.
     pub fn item_shown(&self, one: &Reference) -> Result<Item, BrokenRule>
-        requires { IsDeclared self.now }
         ensures { IsItemShown one.now.item.name.place result
             (items_referred (items_in self.now) one.now) }
     {
@@ -114,7 +116,6 @@ impl<'a> Declarations<'a> {
 
     /// The number of the item that a name names, and the item: rule 40 where there is none, 41 where there are several.
     pub fn numbered_item(&self, name: &QualifiedName) -> Result<(usize, &PlacedItem), BrokenRule>
-        requires { IsDeclared self.now }
         ensures { IsNumberedItem (items_in self.now) (calls_in self.now.names) name.now.name.place
             result (items_named (items_in self.now) name.now) }
     {

@@ -3,7 +3,7 @@
 ghost use Rattle.std.specs.Prelude.{◌≡◌, ◌<◌, length, Some, slice_get};
 ghost use Rattle.source_tree.specs.LookUp.{conditions_named};
 ghost use Rattle.declarations.specs.FoundConditions.{IsConditionNamed};
-ghost use Rattle.declarations.specs.Named.{IsDeclared, items_in, result_now};
+ghost use Rattle.declarations.specs.Named.{items_in, result_now};
 
 use crate::declarations::Declarations;
 use entry_rules::{BrokenRule, Rule};
@@ -22,7 +22,6 @@ impl<'a> Declarations<'a> {
 
     /// The item of the condition name that a name names: rule 40 where there is none, 41 where there are several.
     pub fn condition_named(&self, name: &QualifiedName) -> Result<&PlacedItem, BrokenRule>
-        requires { IsDeclared self.now }
         ensures { IsConditionNamed name.now.name.place (result_now result)
             (conditions_named (items_in self.now) name.now) }
     {

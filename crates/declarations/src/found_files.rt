@@ -2,7 +2,7 @@
 
 ghost use Rattle.std.specs.Prelude.{◌≡◌};
 ghost use Rattle.source_tree.specs.ProgramFiles.{files_named, files_with};
-ghost use Rattle.declarations.specs.Named.{IsDeclared, files_in, items_in};
+ghost use Rattle.declarations.specs.Named.{files_in, items_in};
 ghost use Rattle.declarations.specs.FoundFiles.{IsFileFound};
 
 use crate::declarations::Declarations;
@@ -13,7 +13,6 @@ use source_tree::{Name, Place};
 impl<'a> Declarations<'a> {
     /// The file of that name.
     pub fn file_named(&self, name: &Name) -> Result<&ProgramFile<'a>, BrokenRule>
-        requires { IsDeclared self.now }
         ensures { IsFileFound (items_in self.now) name.now.place result
             (files_named (files_in self.now) name.now) }
     {
@@ -29,7 +28,6 @@ impl<'a> Declarations<'a> {
 
     /// The file whose records have that area, where one of them is named at that place.
     pub fn file_with(&self, place: Place, area: u32) -> Result<&ProgramFile<'a>, BrokenRule>
-        requires { IsDeclared self.now }
         ensures { IsFileFound (items_in self.now) place result
             (files_with (files_in self.now) area) }
     {

@@ -5,7 +5,7 @@ ghost use Rattle.entry_rules.specs.Checks.{IsFirstBreach, IsFirstFault};
 ghost use Rattle.source_tree.specs.PerformRules as spec;
 ghost use Rattle.source_tree.specs.Procedures.{procedures_of, range_named};
 ghost use Rattle.name_table.specs.Procedures.{AreProcedures, range_at};
-ghost use Rattle.declarations.specs.Named.{IsDeclared, procedures_in};
+ghost use Rattle.declarations.specs.Named.{procedures_in};
 
 use crate::declarations::Declarations;
 use entry_rules::{BrokenRule, CheckError, Rule};
@@ -34,7 +34,6 @@ pub(crate) fn named_procedures<'a>(
 impl<'a> Declarations<'a> {
     /// The paragraphs of the procedure of that name: rule 40 where there is none.
     pub fn procedure_named(&self, name: &Name) -> Result<ParagraphRange, BrokenRule>
-        requires { IsDeclared self.now }
         ensures rules { IsFirstBreach result
             (spec.procedure_named (procedures_in self.now) name.now) }
         ensures range { IfOk result

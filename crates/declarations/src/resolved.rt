@@ -6,7 +6,7 @@ ghost use Rattle.std.specs.Option.{option_copied};
 ghost use Rattle.source_tree.specs.Conditions as conditions;
 ghost use Rattle.source_tree.specs.Evaluate as tree;
 ghost use Rattle.source_tree.specs.LookUp.{conditions_named};
-ghost use Rattle.declarations.specs.Named.{IsDeclared, items_in};
+ghost use Rattle.declarations.specs.Named.{items_in};
 ghost use Rattle.declarations.specs.Resolved as spec;
 
 use crate::alone::operand_alone;
@@ -113,7 +113,6 @@ fn question_of<'a>(subject: ResolvedSubject<'a>, object: ResolvedObject<'a>) -> 
 impl<'a> Declarations<'a> {
     /// Some condition is called so.
     fn is_condition(&self, name: &QualifiedName) -> bool
-        requires { IsDeclared self.now }
         ensures { result ≡ spec.are_some (conditions_named (items_in self.now) name.now) }
     {
         name_table::conditions_named();
@@ -126,7 +125,6 @@ impl<'a> Declarations<'a> {
 
     /// The condition name that a side is, if it is one alone.
     fn condition_alone<'b>(&self, one: &'b Side) -> Option<&'b Reference>
-        requires { IsDeclared self.now }
         ensures { option_copied result
             ≡ spec.condition_alone (items_in self.now) (conditions.alone_side one.now) }
     {
@@ -139,7 +137,6 @@ impl<'a> Declarations<'a> {
     /// What a subject is.
     #[tactic(auto, using(crate::proofs::Looking::operand_is))]
     pub fn resolved_subject<'b>(&self, one: &'b Subject) -> ResolvedSubject<'b>
-        requires { IsDeclared self.now }
         ensures { spec.subject_meant result ≡ tree.resolved_subject (items_in self.now) one.now }
     {
         match one {
@@ -160,7 +157,6 @@ impl<'a> Declarations<'a> {
     /// What an object's value is; with THRU it names values alone.
     #[tactic(auto, using(crate::proofs::Looking::operand_is))]
     fn resolved_values<'b>(&self, one: ObjectRange<'b>) -> ResolvedObject<'b>
-        requires { IsDeclared self.now }
         ensures { spec.object_meant result
             ≡ spec.optional_values (items_in self.now) (spec.values_meant one.entry) }
     {
@@ -175,7 +171,6 @@ impl<'a> Declarations<'a> {
 
     /// What an object names.
     pub fn resolved_object<'b>(&self, one: &'b Choice) -> ResolvedObject<'b>
-        requires { IsDeclared self.now }
         ensures { spec.object_meant result ≡ spec.optional_choice (items_in self.now) one.now }
     {
         match one {
@@ -199,7 +194,6 @@ impl<'a> Declarations<'a> {
     /// What an object asks of its subject.
     #[tactic(auto, using(crate::proofs::Looking::asked_is, crate::proofs::Looking::fits_is))]
     pub fn question<'b>(&self, subject: &'b Subject, choice: &'b Choice) -> Question<'b>
-        requires { IsDeclared self.now }
         ensures asked { spec.question_meant result
             ≡ tree.selection_condition (items_in self.now) subject.now choice.now }
         ensures fit { spec.is_fit result ≡ tree.fits (items_in self.now) subject.now choice.now }

@@ -2,7 +2,9 @@
 
 ghost use Rattle.std.specs.Prelude.{◌≡◌, true, false, if◌then◌else◌, []};
 
-use records::{FileSpec, Found, Keeps, KeyOfReference, Outcome, Presence, Side, Store, StoreFault};
+use records::{
+    FileSpec, Found, Keeps, KeyBound, KeyOfReference, Outcome, Presence, Store, StoreFault,
+};
 use station::Device;
 
 /// A store without a volume: it has no files, and room for none.
@@ -62,9 +64,7 @@ impl Store for NoVolume {
         _device: &mut D,
         _file: &FileSpec,
         _key: KeyOfReference,
-        _side: Side,
-        _value: &[u8],
-        _number: u64,
+        _bound: KeyBound<'_>,
         _bytes: &mut [u8],
     ) -> Result<Option<Found>, StoreFault> {
         if self.spent {

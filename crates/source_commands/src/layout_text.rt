@@ -7,7 +7,6 @@ ghost use Rattle.source_tree.specs.Places.{LocatedItem};
 ghost use Rattle.source_tree.specs.ProgramFiles.{files_of};
 ghost use Rattle.file_descriptions.specs.Files.{AreFiles, found_in};
 ghost use Rattle.declarations.specs.Entries.{items_among};
-ghost use Rattle.declarations.specs.Named.{IsDeclared};
 ghost use Rattle.source_commands.specs.Layout as spec;
 
 use crate::file_line::push_file;
@@ -23,7 +22,6 @@ const HEADING: &[u8] = b"level name                            offset  length  u
 
 /// The items and files that are declared: those of working storage, and those of each FD after a line for its file.
 pub fn layout_text(alloc: Global, declared: &Declarations<'_>) -> Result<Vec<u8>, AllocError>
-    requires { IsDeclared declared.now }
     ensures { IfOk result (λ text. text.items ≡ spec.data_text declared.now.selects.now
         declared.now.descriptions.now declared.now.storage.now) }
 {

@@ -6,7 +6,7 @@ use Rattle.source_tree.specs.Rules.{sections_rules, procedure_rules, all_permitt
 use Rattle.source_tree.specs.Setting.{scope}
 use Rattle.entry_rules.specs.Checks.{fault_of}
 use Rattle.declarations.specs.Declaring.{declaration_rules}
-use Rattle.declarations.specs.Named.{Declares, IsDeclared}
+use Rattle.declarations.specs.Named.{Declares}
 use Rattle.declarations.proofs.Firsts.{is_first_front}
 use Rattle.check_rules.proofs.Told.{told_first}
 use Rattle.check_rules.proofs.program.check.Goals as goal
@@ -54,13 +54,6 @@ new-requires-clause-program c =
     c.in_ok-declarations-2.declarations tt
     (sym c.beside.ensures ∙ c.in_ok-declarations-2.was) in
     subst (Declares c.args.program.now) (sym held.0) c.in_ok-declarations.ensures.program
-
-pub new-requires-clause-declared : goal.new-requires-clause-declared
-new-requires-clause-declared c =
-    let held = nothing_failed c.in_ok-declarations.declarations c.procedure_division_rules-ruled.result
-    c.in_ok-declarations-2.declarations tt
-    (sym c.beside.ensures ∙ c.in_ok-declarations-2.was) in
-    subst IsDeclared (sym held.0) c.in_ok-declarations.ensures.declared
 
 pub returns-clause-kept : goal.returns-clause-kept
 returns-clause-kept c =

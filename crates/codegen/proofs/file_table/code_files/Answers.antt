@@ -11,4 +11,4 @@ returns c =
     c.loop-file.file-index
     c.loop-file.files (omega (arith, c.loop-file-test.false, c.loop-file.auto.file-index-end, ap length same))
     c.loop-file.invariant
-    c.requires.files.numbers c.requires.files.files
+    declarations.declared.files.numbers declarations.declared.files.files

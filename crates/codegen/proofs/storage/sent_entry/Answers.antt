@@ -13,5 +13,6 @@ returns c =
     let items = items_in c.args.declarations.now in
     let file = c.args.file.now in
     ap (λ (editing : Option Picture). record (sent_entry items (file_in items file)) { editing = editing })
-    (c.in_ok-sent_editing.ensures ∙ ap (first_editing (edits file)) (c.as_slice.ensures ∙ c.requires.items)
+    (c.in_ok-sent_editing.ensures
+    ∙ ap (first_editing (edits file)) (c.as_slice.ensures ∙ c.args.declarations.now.declared.items)
     ∙ first_is file (file_in items file) items refl refl)

@@ -26,4 +26,4 @@ returns c =
     sent_all (items_in declarations) declarations.files.files.items (files_in declarations) c.loop-file.file-index
     c.loop-file.items
     (omega (arith, c.loop-file-test.false, c.loop-file.auto.file-index-end, ap length same)) c.loop-file.invariant
-    c.requires.files.files
+    declarations.declared.files.files

@@ -10,16 +10,16 @@ use Rattle.source_commands.proofs.layout_text.layout_text.Goals as goal
 
 pub returns : goal.returns
 returns c =
-    let items : List PlacedItem = map placed_item (items_in c.args.declared.now) in
-    let entries : List ItemEntry = items_among c.args.declared.now.storage.now in
-    let files : List ProgramFile = files_of (items_in c.args.declared.now) (data_in c.args.declared.now) in
-    let placed : c.as_slice-items.result.now ≡ items = c.as_slice-items.ensures ∙ c.requires.items in
-    let lines : c.push_entries.new.out.items ≡ heading ++ item_lines items entries =
-    c.in_ok-rest.ensures.lines
+    let all = c.args.declared.now in
+    let items : List PlacedItem = map placed_item (items_in all) in
+    let entries : List ItemEntry = items_among all.storage.now in
+    let files : List ProgramFile = files_of (items_in all) (data_in all) in
+    let placed : c.as_slice-items.result.now ≡ items = c.as_slice-items.ensures ∙ all.declared.items in
+    let lines : c.push_entries.new.out.items ≡ heading ++ item_lines items entries = c.in_ok-rest.ensures.lines
     ∙ ap (λ out. out ++ item_lines c.as_slice-items.result.now entries) c.in_ok-out.ensures.items
     ∙ ap (λ all. heading ++ item_lines all entries) placed in
     let rest : c.in_ok-rest.rest.now ≡ items_after items entries =
     c.in_ok-rest.ensures.rest ∙ ap (λ all. items_after all entries) placed in
-    c.in_ok-push_files.ensures (items_in c.args.declared.now) (data_in c.args.declared.now) c.requires.files
-    ∙ ap (λ out. out ++ file_lines files c.in_ok-rest.rest.now c.args.declared.now.descriptions.now) lines
-    ∙ ap (λ l. heading ++ item_lines items entries ++ file_lines files l c.args.declared.now.descriptions.now) rest
+    c.in_ok-push_files.ensures (items_in all) (data_in all) all.declared.files
+    ∙ ap (λ out. out ++ file_lines files c.in_ok-rest.rest.now all.descriptions.now) lines
+    ∙ ap (λ l. heading ++ item_lines items entries ++ file_lines files l all.descriptions.now) rest

@@ -15,7 +15,7 @@ pub phrase_performs-statements_performs-requires : goal.phrase_performs-statemen
 phrase_performs-statements_performs-requires t c =
     let e : c.args.phrase.now ≡ Some c.as_slice.result.now =
     c.in-Some.is ∙ ap (λ (l : List Statement). Some l) (sym c.as_slice.ensures) in
-    let d = rw e at c.decreases in (omega (arith, d), c.requires)
+    let d = rw e at c.decreases in (omega (arith, d), tt)
 
 pub statement_performs-returns-in_ok-statements_performs-in-ConditionalStatement-If :
     goal.statement_performs-returns-in_ok-statements_performs-in-ConditionalStatement-If

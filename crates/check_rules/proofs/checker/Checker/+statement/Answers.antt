@@ -12,7 +12,7 @@ pub phrase_rules-statements_rules-requires : goal.phrase_rules-statements_rules-
 phrase_rules-statements_rules-requires t c =
     let e : c.args.phrase.now ≡ Some c.as_slice.result.now =
     c.in-Some.is ∙ ap (λ (l : List Statement). Some l) (sym c.as_slice.ensures) in
-    let d = rw e at c.decreases in (omega (arith, d), c.requires)
+    let d = rw e at c.decreases in (omega (arith, d), tt)
 
 pub statement_rules-returns-in-DataStatement : goal.statement_rules-returns-in-DataStatement
 statement_rules-returns-in-DataStatement t c =

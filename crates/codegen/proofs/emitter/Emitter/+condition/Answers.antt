@@ -27,23 +27,29 @@ emit_condition-emit_condition_name-requires-clause-rules t c =
     let items = items_in c.args.self.now.declarations.now in
     sym (name_rules items c.in-Name.reference) ∙ sym (ap (condition_rules items) c.in-Name.is) ∙ c.requires.rules
 
-pub emit_condition-emit_relation-requires-clause-rules : goal.emit_condition-emit_relation-requires-clause-rules
-emit_condition-emit_relation-requires-clause-rules t c =
+pub emit_condition-emit_relation-requires : goal.emit_condition-emit_relation-requires
+emit_condition-emit_relation-requires t c =
     let items = items_in c.args.self.now.declarations.now in
-    sym (relation_kept items c.in-Relation.left c.in-Relation.relation c.in-Relation.right)
-    ∙ sym (ap (condition_rules items) c.in-Relation.is) ∙ c.requires.rules
+    record {
+      rules = sym (relation_kept items c.in-Relation.left c.in-Relation.relation c.in-Relation.right)
+          ∙ sym (ap (condition_rules items) c.in-Relation.is) ∙ c.requires.rules;
+    }
 
-pub emit_condition-emit_sign-requires-clause-rules : goal.emit_condition-emit_sign-requires-clause-rules
-emit_condition-emit_sign-requires-clause-rules t c =
+pub emit_condition-emit_sign-requires : goal.emit_condition-emit_sign-requires
+emit_condition-emit_sign-requires t c =
     let items = items_in c.args.self.now.declarations.now in
-    sym (sign_rules items c.in-Sign.value c.in-Sign.negated c.in-Sign.sign)
-    ∙ sym (ap (condition_rules items) c.in-Sign.is) ∙ c.requires.rules
+    record {
+      rules = sym (sign_rules items c.in-Sign.value c.in-Sign.negated c.in-Sign.sign)
+          ∙ sym (ap (condition_rules items) c.in-Sign.is) ∙ c.requires.rules;
+    }
 
-pub emit_condition-emit_class-requires-clause-rules : goal.emit_condition-emit_class-requires-clause-rules
-emit_condition-emit_class-requires-clause-rules t c =
+pub emit_condition-emit_class-requires : goal.emit_condition-emit_class-requires
+emit_condition-emit_class-requires t c =
     let items = items_in c.args.self.now.declarations.now in
-    sym (class_rules items c.in-Class.item c.in-Class.negated c.in-Class.class)
-    ∙ sym (ap (condition_rules items) c.in-Class.is) ∙ c.requires.rules
+    record {
+      rules = sym (class_rules items c.in-Class.item c.in-Class.negated c.in-Class.class)
+          ∙ sym (ap (condition_rules items) c.in-Class.is) ∙ c.requires.rules;
+    }
 
 pub emit_condition-emit_condition-requires : goal.emit_condition-emit_condition-requires
 emit_condition-emit_condition-requires t c =
@@ -51,7 +57,7 @@ emit_condition-emit_condition-requires t c =
     let r : condition_rules items c.get.result.now ≡ [] =
     ap (condition_rules items) c.get.ensures ∙ sym (not_rules items c.in-Not.inner)
     ∙ sym (ap (condition_rules items) c.in-Not.is) ∙ c.requires.rules in
-    (search (rules, the_lemmas), (c.requires.declared, (c.requires.entries, r)))
+    (search (rules, the_lemmas), (c.requires.entries, r))
 
 pub emit_condition-emit_all-requires : goal.emit_condition-emit_all-requires
 emit_condition-emit_all-requires t c =
@@ -59,7 +65,7 @@ emit_condition-emit_all-requires t c =
     let r : each (condition_rules items) c.as_slice.result.now ≡ [] =
     ap (each (condition_rules items)) c.as_slice.ensures ∙ sym (all_rules items c.in-All.parts)
     ∙ sym (ap (condition_rules items) c.in-All.is) ∙ c.requires.rules in
-    (search (rules, the_lemmas), (c.requires.declared, (c.requires.entries, r)))
+    (search (rules, the_lemmas), (c.requires.entries, r))
 
 pub emit_condition-emit_any-requires : goal.emit_condition-emit_any-requires
 emit_condition-emit_any-requires t c =
@@ -67,7 +73,7 @@ emit_condition-emit_any-requires t c =
     let r : each (condition_rules items) c.as_slice-in-Any.result.now ≡ [] =
     ap (each (condition_rules items)) c.as_slice-in-Any.ensures ∙ sym (any_rules items c.in-Any.parts)
     ∙ sym (ap (condition_rules items) c.in-Any.is) ∙ c.requires.rules in
-    (search (rules, the_lemmas), (c.requires.declared, (c.requires.entries, r)))
+    (search (rules, the_lemmas), (c.requires.entries, r))
 
 pub emit_condition-returns-in-Name : goal.emit_condition-returns-in-Name
 emit_condition-returns-in-Name t c =
@@ -154,12 +160,9 @@ emit_all-emit_condition-requires t c =
     let d = rw e at c.decreases in (
       omega (arith, d),
       (
-        c.requires.declared,
-        (
-          c.requires.entries,
-          front_kept (kept c.in-Some.first.now) (each kept c.in-Some.more.now)
-              (sym (ap (each kept) e) ∙ c.requires.rules),
-        ),
+        c.requires.entries,
+        front_kept (kept c.in-Some.first.now) (each kept c.in-Some.more.now)
+            (sym (ap (each kept) e) ∙ c.requires.rules),
       ),
     )
 
@@ -170,12 +173,9 @@ emit_all-emit_each_and-requires t c =
     let d = rw e at c.decreases in (
       omega (arith, d),
       (
-        c.requires.declared,
-        (
-          c.requires.entries,
-          back_kept (kept c.in-Some.first.now) (each kept c.in-Some.more.now)
-              (sym (ap (each kept) e) ∙ c.requires.rules),
-        ),
+        c.requires.entries,
+        back_kept (kept c.in-Some.first.now) (each kept c.in-Some.more.now)
+            (sym (ap (each kept) e) ∙ c.requires.rules),
       ),
     )
 
@@ -202,12 +202,9 @@ emit_any-emit_condition-requires t c =
     let d = rw e at c.decreases in (
       omega (arith, d),
       (
-        c.requires.declared,
-        (
-          c.requires.entries,
-          front_kept (kept c.in-Some.first.now) (each kept c.in-Some.more.now)
-              (sym (ap (each kept) e) ∙ c.requires.rules),
-        ),
+        c.requires.entries,
+        front_kept (kept c.in-Some.first.now) (each kept c.in-Some.more.now)
+            (sym (ap (each kept) e) ∙ c.requires.rules),
       ),
     )
 
@@ -218,12 +215,9 @@ emit_any-emit_each_or-requires t c =
     let d = rw e at c.decreases in (
       omega (arith, d),
       (
-        c.requires.declared,
-        (
-          c.requires.entries,
-          back_kept (kept c.in-Some.first.now) (each kept c.in-Some.more.now)
-              (sym (ap (each kept) e) ∙ c.requires.rules),
-        ),
+        c.requires.entries,
+        back_kept (kept c.in-Some.first.now) (each kept c.in-Some.more.now)
+            (sym (ap (each kept) e) ∙ c.requires.rules),
       ),
     )
 
@@ -248,14 +242,14 @@ emit_each_and-emit_and-requires t c =
     let kept = condition_rules (items_in c.args.self.now.declarations.now) in
     let r : kept c.one-item.result ≡ [] = ap kept c.one-item.is
     ∙ one_kept kept c.args.more.now c.loop-one.one-index c.one-item.result c.loop-one-test.true c.requires.rules in
-    (search (rules, the_lemmas), (c.requires.declared, (c.requires.entries, r)))
+    (search (rules, the_lemmas), (c.requires.entries, r))
 
 pub emit_each_or-emit_or-requires : goal.emit_each_or-emit_or-requires
 emit_each_or-emit_or-requires t c =
     let kept = condition_rules (items_in c.args.self.now.declarations.now) in
     let r : kept c.one-item.result ≡ [] = ap kept c.one-item.is
     ∙ one_kept kept c.args.more.now c.loop-one.one-index c.one-item.result c.loop-one-test.true c.requires.rules in
-    (search (rules, the_lemmas), (c.requires.declared, (c.requires.entries, r)))
+    (search (rules, the_lemmas), (c.requires.entries, r))
 
 pub emit_and-returns : goal.emit_and-returns
 emit_and-returns t c =

@@ -22,13 +22,15 @@ emit_chain-emit_expression-requires t c =
     let r : expression_rules (items_in c.args.self.now.declarations.now) c.loop-operator-item.result.1 ≡ [] =
     ap kept c.loop-operator-item.is ∙ one_kept kept c.args.all.now c.loop-operator.operator-index
     c.loop-operator-item.result c.loop-operator-test.true c.requires.rules in
-    (search (rules, the_lemmas), (c.requires.declared, r))
+    (search (rules, the_lemmas), r)
 
-pub emit_expression-emit_value-requires-clause-rules : goal.emit_expression-emit_value-requires-clause-rules
-emit_expression-emit_value-requires-clause-rules t c =
+pub emit_expression-emit_value-requires : goal.emit_expression-emit_value-requires
+emit_expression-emit_value-requires t c =
     let items = items_in c.args.self.now.declarations.now in
-    sym (layers.operand_is items c.in-Operand.operand) ∙ sym (ap (expression_rules items) c.in-Operand.is)
-    ∙ c.requires.rules
+    record {
+      rules = sym (layers.operand_is items c.in-Operand.operand) ∙ sym (ap (expression_rules items) c.in-Operand.is)
+          ∙ c.requires.rules;
+    }
 
 pub emit_expression-emit_expression-requires : goal.emit_expression-emit_expression-requires
 emit_expression-emit_expression-requires t c =
@@ -36,7 +38,7 @@ emit_expression-emit_expression-requires t c =
     let r : expression_rules items c.get.result.now ≡ [] =
     ap (expression_rules items) c.get.ensures ∙ sym (layers.negated_is items c.in-Negated.inner)
     ∙ sym (ap (expression_rules items) c.in-Negated.is) ∙ c.requires.rules in
-    (search (rules, the_lemmas), (c.requires.declared, r))
+    (search (rules, the_lemmas), r)
 
 pub emit_expression-emit_expression-requires-in-Chain : goal.emit_expression-emit_expression-requires-in-Chain
 emit_expression-emit_expression-requires-in-Chain t c =
@@ -46,7 +48,7 @@ emit_expression-emit_expression-requires-in-Chain t c =
     ∙ c.requires.rules in
     let r : expression_rules items c.get-in-Chain.result.now ≡ [] = ap (expression_rules items) c.get-in-Chain.ensures
     ∙ front_kept (expression_rules items c.in-Chain.first) (each (further_rules items) c.in-Chain.more) whole in
-    (search (rules, the_lemmas), (c.requires.declared, r))
+    (search (rules, the_lemmas), r)
 
 pub emit_expression-emit_chain-requires : goal.emit_expression-emit_chain-requires
 emit_expression-emit_chain-requires t c =
@@ -56,7 +58,7 @@ emit_expression-emit_chain-requires t c =
     ∙ c.requires.rules in
     let r : each (further_rules items) c.as_slice.result.now ≡ [] = ap (each (further_rules items)) c.as_slice.ensures
     ∙ back_kept (expression_rules items c.in-Chain.first) (each (further_rules items) c.in-Chain.more) whole in
-    (search (rules, the_lemmas), (c.requires.declared, r))
+    (search (rules, the_lemmas), r)
 
 pub emit_expression-returns-in-Operand : goal.emit_expression-returns-in-Operand
 emit_expression-returns-in-Operand t c =

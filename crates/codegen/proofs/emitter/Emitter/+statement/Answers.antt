@@ -83,7 +83,7 @@ emit_statement-emit_calculating-requires t c =
     let kept = phrases_kept (operation_rules scope.items one.operation) (phrase_rules inside one.phrases.arose)
     (phrase_rules inside one.phrases.did_not) r in (
       search (rules, the_lemmas),
-      (c.requires.declared, (c.requires.entries, (kept.0, (kept.1, kept.2)))),
+      (c.requires.entries, (kept.0, (kept.1, kept.2))),
     )
 
 pub emit_statement-emit_stringing-requires : goal.emit_statement-emit_stringing-requires
@@ -97,7 +97,7 @@ emit_statement-emit_stringing-requires t c =
     let kept = phrases_kept (string_rules scope.items one) (phrase_rules inside one.phrases.arose)
     (phrase_rules inside one.phrases.did_not) r in (
       search (rules, the_lemmas),
-      (c.requires.declared, (c.requires.entries, (kept.0, (kept.1, kept.2)))),
+      (c.requires.entries, (kept.0, (kept.1, kept.2))),
     )
 
 pub emit_statement-emit_filing-requires : goal.emit_statement-emit_filing-requires
@@ -110,7 +110,7 @@ emit_statement-emit_filing-requires t c =
     sym (ap (verb_rules scope all_permitted (statement_rules scope all_permitted)) c.in-FileStatement.is)
     ∙ sym (layers.statement_is scope all_permitted c.args.one.now) ∙ c.requires.rules in (
       search (rules, the_lemmas),
-      (c.requires.declared, (c.requires.entries, (front_kept own inner r, back_kept own inner r))),
+      (c.requires.entries, (front_kept own inner r, back_kept own inner r)),
     )
 
 pub emit_statement-emit_branching-requires : goal.emit_statement-emit_branching-requires
@@ -119,7 +119,7 @@ emit_statement-emit_branching-requires t c =
     let r : branching_rules scope.items (statement_rules scope all_permitted) c.in-ConditionalStatement.branching ≡ [] =
     sym (ap (verb_rules scope all_permitted (statement_rules scope all_permitted)) c.in-ConditionalStatement.is)
     ∙ sym (layers.statement_is scope all_permitted c.args.one.now) ∙ c.requires.rules in
-    (search (rules, the_lemmas), (c.requires.declared, (c.requires.entries, r)))
+    (search (rules, the_lemmas), (c.requires.entries, r))
 
 pub emit_phrases-returns : goal.emit_phrases-returns
 emit_phrases-returns t c =
@@ -144,10 +144,7 @@ emit_phrase-emit_statements-requires t c =
     c.in-Some.is ∙ ap (λ (l : List Statement). Some l) (sym c.as_slice.ensures) in
     let d = rw e at c.decreases in (
       omega (arith, d),
-      (
-        c.requires.declared,
-        (c.requires.entries, sym (ap (phrase_rules (statement_rules scope all_permitted)) e) ∙ c.requires.rules),
-      ),
+      (c.requires.entries, sym (ap (phrase_rules (statement_rules scope all_permitted)) e) ∙ c.requires.rules),
     )
 
 pub emit_statement-emit_performing-requires : goal.emit_statement-emit_performing-requires
@@ -157,7 +154,7 @@ emit_statement-emit_performing-requires t c =
     ≡ [] =
     sym (ap (verb_rules scope all_permitted (statement_rules scope all_permitted)) c.in-PerformStatement.is)
     ∙ sym (layers.statement_is scope all_permitted c.args.one.now) ∙ c.requires.rules in
-    (search (rules, the_lemmas), (c.requires.declared, (c.requires.entries, r)))
+    (search (rules, the_lemmas), (c.requires.entries, r))
 
 pub emit_performing-emit_until-requires : goal.emit_performing-emit_until-requires
 emit_performing-emit_until-requires t c =
@@ -168,7 +165,7 @@ emit_performing-emit_until-requires t c =
     let turns : until_rules scope.items c.in-Until.until ≡ [] =
     sym (ap (turns_rules scope.items) c.in-Until.is) ∙ front_kept often behind c.requires.rules in (
       search (rules, the_lemmas),
-      (c.requires.declared, (c.requires.entries, (turns, back_kept often behind c.requires.rules))),
+      (c.requires.entries, (turns, back_kept often behind c.requires.rules)),
     )
 
 pub emit_performing-emit_counted-requires : goal.emit_performing-emit_counted-requires
@@ -180,7 +177,7 @@ emit_performing-emit_counted-requires t c =
     let item : reference_rules scope.items integer_item c.in-CountedBy.item ≡ [] =
     sym (ap (turns_rules scope.items) c.in-CountedBy.is) ∙ front_kept often behind c.requires.rules in (
       search (rules, the_lemmas),
-      (c.requires.declared, (c.requires.entries, (item, back_kept often behind c.requires.rules))),
+      (c.requires.entries, (item, back_kept often behind c.requires.rules)),
     )
 
 pub emit_performing-returns-in_ok-emit_tick-in-CountedBy : goal.emit_performing-returns-in_ok-emit_tick-in-CountedBy
@@ -199,9 +196,11 @@ emit_performing-returns-in_ok-emit_tick-in-CountedBy t c =
     c.emit_counted.ensures)
     (sym (ap (λ (often : Repetition). append old (turns_fragment scope.items line often turn old)) c.in-CountedBy.is))
 
-pub emit_counted-emit_taking-requires-clause-rules : goal.emit_counted-emit_taking-requires-clause-rules
-emit_counted-emit_taking-requires-clause-rules t c =
-    item_kept (scope_in c.args.self.now.declarations.now).items integer_item c.args.item.now c.requires.item
+pub emit_counted-emit_taking-requires : goal.emit_counted-emit_taking-requires
+emit_counted-emit_taking-requires t c =
+    record {
+      rules = item_kept (scope_in c.args.self.now.declarations.now).items integer_item c.args.item.now c.requires.item;
+    }
 
 pub emit_counted-returns : goal.emit_counted-returns
 emit_counted-returns t c =
@@ -233,11 +232,13 @@ emit_counted_turn-returns t c =
     c.emit_turn_end.ensures)
     (ap (λ n. append old (sequence turn (λ b. turn_end begin n) old)) c.len-to.ensures)
 
-pub emit_statement-emit_texts-requires-clause-rules : goal.emit_statement-emit_texts-requires-clause-rules
-emit_statement-emit_texts-requires-clause-rules t c =
+pub emit_statement-emit_texts-requires : goal.emit_statement-emit_texts-requires
+emit_statement-emit_texts-requires t c =
     let scope = scope_in c.args.self.now.declarations.now in
-    sym (ap (verb_rules scope all_permitted (statement_rules scope all_permitted)) c.in-TextStatement.is)
-    ∙ sym (layers.statement_is scope all_permitted c.args.one.now) ∙ c.requires.rules
+    record {
+      rules = sym (ap (verb_rules scope all_permitted (statement_rules scope all_permitted)) c.in-TextStatement.is)
+          ∙ sym (layers.statement_is scope all_permitted c.args.one.now) ∙ c.requires.rules;
+    }
 
 pub emit_statements-emit_statement-requires : goal.emit_statements-emit_statement-requires
 emit_statements-emit_statement-requires t c =
@@ -245,7 +246,7 @@ emit_statements-emit_statement-requires t c =
     let r : statement_rules scope all_permitted c.one-item.result ≡ [] =
     ap (statement_rules scope all_permitted) c.one-item.is ∙ one_kept (statement_rules scope all_permitted)
     c.args.all.now c.loop-one.one-index c.one-item.result c.loop-one-test.true c.requires.rules in
-    (search (rules, the_lemmas), (c.requires.declared, (c.requires.entries, r)))
+    (search (rules, the_lemmas), (c.requires.entries, r))
 
 pub emit_branching-emit_condition-requires-clause-rules : goal.emit_branching-emit_condition-requires-clause-rules
 emit_branching-emit_condition-requires-clause-rules t c =
@@ -269,7 +270,7 @@ emit_branching-emit_statements-requires t c =
     sym (ap (branching_rules scope.items (statement_rules scope all_permitted)) e) ∙ c.requires.rules in
     let d = rw e at c.decreases in (
       omega (arith, d),
-      (c.requires.declared, (c.requires.entries, back_kept test first (front_kept (test ++ first) second r))),
+      (c.requires.entries, back_kept test first (front_kept (test ++ first) second r)),
     )
 
 pub emit_branching-emit_phrase-requires : goal.emit_branching-emit_phrase-requires
@@ -281,7 +282,7 @@ emit_branching-emit_phrase-requires t c =
     let r : test ++ first ++ second ≡ [] =
     sym (ap (branching_rules scope.items (statement_rules scope all_permitted)) c.in-If.is) ∙ c.requires.rules in
     let d = rw c.in-If.is at c.decreases in
-    (omega (arith, d), (c.requires.declared, (c.requires.entries, back_kept (test ++ first) second r)))
+    (omega (arith, d), (c.requires.entries, back_kept (test ++ first) second r))
 
 pub emit_branching-emit_evaluate-requires : goal.emit_branching-emit_evaluate-requires
 emit_branching-emit_evaluate-requires t c =
@@ -289,7 +290,7 @@ emit_branching-emit_evaluate-requires t c =
     let r : evaluate_rules scope.items (statement_rules scope all_permitted) c.in-Evaluate.evaluate ≡ [] =
     sym (ap (branching_rules scope.items (statement_rules scope all_permitted)) c.in-Evaluate.is) ∙ c.requires.rules in
     let d = rw c.in-Evaluate.is at c.decreases in
-    (omega (arith, d), (c.requires.declared, (c.requires.entries, r)))
+    (omega (arith, d), (c.requires.entries, r))
 
 pub emit_branching-returns-in_ok-emit_phrase-in-If : goal.emit_branching-returns-in_ok-emit_phrase-in-If
 emit_branching-returns-in_ok-emit_phrase-in-If t c =
@@ -327,7 +328,7 @@ emit_selected-emit_statements-requires t c =
     let r : inside c.as_slice-2.result.now ≡ [] =
     ap inside c.as_slice-2.ensures ∙ back_kept (each (when_rules scope.items c.args.subjects.now) one.whens)
     (inside one.statements) c.requires.rules in
-    (search (rules, the_lemmas), (c.requires.declared, (c.requires.entries, r)))
+    (search (rules, the_lemmas), (c.requires.entries, r))
 
 pub emit_selected-returns : goal.emit_selected-returns
 emit_selected-returns t c =
@@ -350,7 +351,7 @@ emit_groups-emit_selected-requires t c =
     let kept = selected_rules scope.items (statement_rules scope all_permitted) c.args.subjects.now in
     let r : kept c.one-item.result ≡ [] = ap kept c.one-item.is
     ∙ one_kept kept c.args.selected.now c.loop-one.one-index c.one-item.result c.loop-one-test.true c.requires.rules in
-    (search (rules, the_lemmas), (c.requires.declared, (c.requires.entries, r)))
+    (search (rules, the_lemmas), (c.requires.entries, r))
 
 pub emit_groups-loop-one-preserved : goal.emit_groups-loop-one-preserved
 emit_groups-loop-one-preserved t c =
@@ -396,18 +397,15 @@ emit_evaluate-emit_groups-requires t c =
     ap (λ (l : List Subject). each (selected_rules scope.items inside l) c.as_slice-2.result.now) c.as_slice.ensures
     ∙ ap (each (selected_rules scope.items inside one.subjects)) c.as_slice-2.ensures
     ∙ groups_of scope.items inside one c.requires.rules in
-    (search (rules, the_lemmas), (c.requires.declared, (c.requires.entries, r)))
+    (search (rules, the_lemmas), (c.requires.entries, r))
 
 pub emit_evaluate-emit_phrase-requires : goal.emit_evaluate-emit_phrase-requires
 emit_evaluate-emit_phrase-requires t c =
     let scope = scope_in c.args.self.now.declarations.now in (
       search (rules, the_lemmas),
       (
-        c.requires.declared,
-        (
-          c.requires.entries,
-          other_of scope.items (statement_rules scope all_permitted) c.args.one.now c.requires.rules,
-        ),
+        c.requires.entries,
+        other_of scope.items (statement_rules scope all_permitted) c.args.one.now c.requires.rules,
       ),
     )
 
@@ -439,11 +437,14 @@ emit_evaluate-returns t c =
     ∙ ap (λ (l : List (Selected Statement)). append now (selection_fragment scope inside one.subjects l one.other now))
     c.as_slice-2.ensures))
 
-pub emit_until-emit_vary_begin-requires-clause-rules : goal.emit_until-emit_vary_begin-requires-clause-rules
-emit_until-emit_vary_begin-requires-clause-rules t c =
+pub emit_until-emit_vary_begin-requires : goal.emit_until-emit_vary_begin-requires
+emit_until-emit_vary_begin-requires t c =
     let scope = scope_in c.args.self.now.declarations.now in
-    front_kept (varying_rules scope.items c.args.one.now.varying) (condition_rules scope.items c.args.one.now.condition)
-    c.requires.turns
+    record {
+      rules = front_kept (varying_rules scope.items c.args.one.now.varying)
+          (condition_rules scope.items c.args.one.now.condition)
+          c.requires.turns;
+    }
 
 pub emit_until-returns-in-Before : goal.emit_until-returns-in-Before
 emit_until-returns-in-Before t c =
@@ -493,11 +494,14 @@ emit_until_before-returns t c =
     c.in_ok-branch.ensures.code c.in_ok-branch.ensures.address c.in_ok-other.ensures.code
     c.in_ok-other.ensures.other c.in_ok-emit_turn_before.ensures c.emit_meeting.ensures
 
-pub emit_turn_before-emit_vary_on-requires-clause-rules : goal.emit_turn_before-emit_vary_on-requires-clause-rules
-emit_turn_before-emit_vary_on-requires-clause-rules t c =
+pub emit_turn_before-emit_vary_on-requires : goal.emit_turn_before-emit_vary_on-requires
+emit_turn_before-emit_vary_on-requires t c =
     let scope = scope_in c.args.self.now.declarations.now in
-    front_kept (varying_rules scope.items c.args.one.now.varying) (condition_rules scope.items c.args.one.now.condition)
-    c.requires.turns
+    record {
+      rules = front_kept (varying_rules scope.items c.args.one.now.varying)
+          (condition_rules scope.items c.args.one.now.condition)
+          c.requires.turns;
+    }
 
 pub emit_turn_before-emit_condition-requires-clause-rules : goal.emit_turn_before-emit_condition-requires-clause-rules
 emit_turn_before-emit_condition-requires-clause-rules t c =
@@ -522,11 +526,14 @@ emit_until_after-emit_condition-requires-clause-rules t c =
     back_kept (varying_rules scope.items c.args.one.now.varying) (condition_rules scope.items c.args.one.now.condition)
     c.requires.turns
 
-pub emit_until_after-emit_onward-requires-clause-rules : goal.emit_until_after-emit_onward-requires-clause-rules
-emit_until_after-emit_onward-requires-clause-rules t c =
+pub emit_until_after-emit_onward-requires : goal.emit_until_after-emit_onward-requires
+emit_until_after-emit_onward-requires t c =
     let scope = scope_in c.args.self.now.declarations.now in
-    front_kept (varying_rules scope.items c.args.one.now.varying) (condition_rules scope.items c.args.one.now.condition)
-    c.requires.turns
+    record {
+      rules = front_kept (varying_rules scope.items c.args.one.now.varying)
+          (condition_rules scope.items c.args.one.now.condition)
+          c.requires.turns;
+    }
 
 pub emit_until_after-returns : goal.emit_until_after-returns
 emit_until_after-returns t c =
@@ -567,7 +574,7 @@ emit_filing-emit_read-requires t c =
     let inner : file_phrases_rules (statement_rules scope all_permitted) phrases ≡ [] =
     sym (ap (λ (f : FileStatement Statement). file_phrases_rules (statement_rules scope all_permitted) (phrases_of f))
     c.in-Read.is) ∙ c.requires.phrases in
-    (omega (arith, d), (c.requires.declared, (c.requires.entries, (own, inner))))
+    (omega (arith, d), (c.requires.entries, (own, inner)))
 
 pub emit_filing-emit_record-requires : goal.emit_filing-emit_record-requires
 emit_filing-emit_record-requires t c =
@@ -579,7 +586,7 @@ emit_filing-emit_record-requires t c =
     let inner : file_phrases_rules (statement_rules scope all_permitted) phrases ≡ [] =
     sym (ap (λ (f : FileStatement Statement). file_phrases_rules (statement_rules scope all_permitted) (phrases_of f))
     c.in-Write.is) ∙ c.requires.phrases in
-    (omega (arith, d), (c.requires.declared, (c.requires.entries, (own, inner))))
+    (omega (arith, d), (c.requires.entries, (own, inner)))
 
 pub emit_filing-emit_record-requires-in-Rewrite : goal.emit_filing-emit_record-requires-in-Rewrite
 emit_filing-emit_record-requires-in-Rewrite t c =
@@ -591,7 +598,7 @@ emit_filing-emit_record-requires-in-Rewrite t c =
     let inner : file_phrases_rules (statement_rules scope all_permitted) phrases ≡ [] =
     sym (ap (λ (f : FileStatement Statement). file_phrases_rules (statement_rules scope all_permitted) (phrases_of f))
     c.in-Rewrite.is) ∙ c.requires.phrases in
-    (omega (arith, d), (c.requires.declared, (c.requires.entries, (own, inner))))
+    (omega (arith, d), (c.requires.entries, (own, inner)))
 
 pub emit_filing-emit_delete-requires : goal.emit_filing-emit_delete-requires
 emit_filing-emit_delete-requires t c =
@@ -604,7 +611,7 @@ emit_filing-emit_delete-requires t c =
     let inner : file_phrases_rules (statement_rules scope all_permitted) phrases ≡ [] =
     sym (ap (λ (f : FileStatement Statement). file_phrases_rules (statement_rules scope all_permitted) (phrases_of f))
     c.in-Delete.is) ∙ c.requires.phrases in
-    (omega (arith, d), (c.requires.declared, (c.requires.entries, inner)))
+    (omega (arith, d), (c.requires.entries, inner))
 
 pub emit_filing-emit_starting-requires : goal.emit_filing-emit_starting-requires
 emit_filing-emit_starting-requires t c =
@@ -617,7 +624,7 @@ emit_filing-emit_starting-requires t c =
     let inner : file_phrases_rules (statement_rules scope all_permitted) phrases ≡ [] =
     sym (ap (λ (f : FileStatement Statement). file_phrases_rules (statement_rules scope all_permitted) (phrases_of f))
     c.in-Start.is) ∙ c.requires.phrases in
-    (omega (arith, d), (c.requires.declared, (c.requires.entries, (own, inner))))
+    (omega (arith, d), (c.requires.entries, (own, inner)))
 
 pub emit_filing-returns-in-Read : goal.emit_filing-returns-in-Read
 emit_filing-returns-in-Read t c =
@@ -634,15 +641,18 @@ emit_filing-returns-in-Read t c =
     (λ e. e ∙ sym (ap (λ (one : FileStatement Statement).
     append old (sequence tick (file_statement_fragment scope inside one) old)) c.in-Read.is))
 
-pub emit_read-read_verb-requires-clause-rules : goal.emit_read-read_verb-requires-clause-rules
-emit_read-read_verb-requires-clause-rules t c =
+pub emit_read-read_verb-requires : goal.emit_read-read_verb-requires
+emit_read-read_verb-requires t c =
     let scope = scope_in c.args.self.now.declarations.now in
     let name = c.args.name.now in
     let known = file_in scope.items c.in-Some.file.now in
     let asked =
     read_rules scope.items scope.files name.place c.args.next c.args.into.now c.args.key.now c.args.phrases.now in
-    read_key_kept scope.items scope.files name.place c.args.next c.args.into.now c.args.key.now c.args.phrases.now known
-    (first_kept name.place asked (files_named scope.files name) known c.requires.rules c.in-Some.ensures)
+    record {
+      rules = read_key_kept scope.items scope.files name.place c.args.next c.args.into.now c.args.key.now
+          c.args.phrases.now known
+          (first_kept name.place asked (files_named scope.files name) known c.requires.rules c.in-Some.ensures);
+    }
 
 pub emit_read-emit_on_file-requires : goal.emit_read-emit_on_file-requires
 emit_read-emit_on_file-requires t c =
@@ -654,7 +664,7 @@ emit_read-emit_on_file-requires t c =
     let into = read_into_kept scope.items scope.files name.place c.args.next c.args.into.now c.args.key.now
     c.args.phrases.now known
     (first_kept name.place asked (files_named scope.files name) known c.requires.rules c.in-Some.ensures) in
-    (omega (arith, c.decreases), (c.requires.declared, (c.requires.entries, (into, c.requires.phrases))))
+    (omega (arith, c.decreases), (c.requires.entries, (into, c.requires.phrases)))
 
 pub emit_read-returns-in_default : goal.emit_read-returns-in_default
 emit_read-returns-in_default t c =
@@ -679,15 +689,21 @@ emit_read-returns t c =
     (sequence (file_fragment c.in_ok-verb.verb known) behind) c.args.code.now c.in-Some.ensures
     (ap (λ (verb : Verb). sequence (file_fragment verb known) behind c.args.code.now) c.in_ok-verb.ensures))
 
-pub emit_record-emit_from-requires-clause-rules : goal.emit_record-emit_from-requires-clause-rules
-emit_record-emit_from-requires-clause-rules t c =
+pub emit_record-emit_from-requires : goal.emit_record-emit_from-requires
+emit_record-emit_from-requires t c =
     let scope = scope_in c.args.self.now.declarations.now in
-    record_from_kept scope.items scope.files c.args.one.now c.args.from.now c.args.phrases.now c.requires.rules
+    record {
+      rules =
+          record_from_kept scope.items scope.files c.args.one.now c.args.from.now c.args.phrases.now c.requires.rules;
+    }
 
-pub emit_record-file_of_record-requires-clause-named : goal.emit_record-file_of_record-requires-clause-named
-emit_record-file_of_record-requires-clause-named t c =
+pub emit_record-file_of_record-requires : goal.emit_record-file_of_record-requires
+emit_record-file_of_record-requires t c =
     let scope = scope_in c.args.self.now.declarations.now in
-    record_names_one scope.items scope.files c.args.one.now c.args.from.now c.args.phrases.now c.requires.rules
+    record {
+      named =
+          record_names_one scope.items scope.files c.args.one.now c.args.from.now c.args.phrases.now c.requires.rules;
+    }
 
 pub emit_record-returns-in_default : goal.emit_record-returns-in_default
 emit_record-returns-in_default t c =
@@ -734,14 +750,16 @@ emit_delete-returns t c =
     (append old (on_file_fragment found piece old)) c.emit_on_file.ensures
     (one_found found piece known (piece known) old c.in-Some.ensures refl)
 
-pub emit_starting-start_verb-requires-clause-rules : goal.emit_starting-start_verb-requires-clause-rules
-emit_starting-start_verb-requires-clause-rules t c =
+pub emit_starting-start_verb-requires : goal.emit_starting-start_verb-requires
+emit_starting-start_verb-requires t c =
     let scope = scope_in c.args.self.now.declarations.now in
     let name = c.args.name.now in
     let known = file_in scope.items c.in-Some.file.now in
     let asked = start_rules scope.items scope.files name.place c.args.key.now c.args.phrases.now in
-    start_key_kept scope.items scope.files name.place c.args.key.now c.args.phrases.now known
-    (first_kept name.place asked (files_named scope.files name) known c.requires.rules c.in-Some.ensures)
+    record {
+      rules = start_key_kept scope.items scope.files name.place c.args.key.now c.args.phrases.now known
+          (first_kept name.place asked (files_named scope.files name) known c.requires.rules c.in-Some.ensures);
+    }
 
 pub emit_starting-returns-in_default : goal.emit_starting-returns-in_default
 emit_starting-returns-in_default t c =
@@ -788,10 +806,7 @@ emit_success-emit_phrase-requires t c =
     let r : phrases_rules inside pair ≡ [] =
     sym (ap (file_phrases_rules inside) c.in-AtEnd.is) ∙ c.requires.phrases in (
       omega (arith, d),
-      (
-        c.requires.declared,
-        (c.requires.entries, back_kept (phrase_rules inside pair.arose) (phrase_rules inside pair.did_not) r),
-      ),
+      (c.requires.entries, back_kept (phrase_rules inside pair.arose) (phrase_rules inside pair.did_not) r),
     )
 
 pub emit_success-emit_phrase-requires-in-InvalidKey : goal.emit_success-emit_phrase-requires-in-InvalidKey
@@ -802,10 +817,7 @@ emit_success-emit_phrase-requires-in-InvalidKey t c =
     let r : phrases_rules inside pair ≡ [] =
     sym (ap (file_phrases_rules inside) c.in-InvalidKey.is) ∙ c.requires.phrases in (
       omega (arith, d),
-      (
-        c.requires.declared,
-        (c.requires.entries, back_kept (phrase_rules inside pair.arose) (phrase_rules inside pair.did_not) r),
-      ),
+      (c.requires.entries, back_kept (phrase_rules inside pair.arose) (phrase_rules inside pair.did_not) r),
     )
 
 pub emit_failure-emit_class_phrase-requires : goal.emit_failure-emit_class_phrase-requires
@@ -816,10 +828,7 @@ emit_failure-emit_class_phrase-requires t c =
     let r : phrases_rules inside pair ≡ [] =
     sym (ap (file_phrases_rules inside) c.in-AtEnd.is) ∙ c.requires.phrases in (
       omega (arith, d),
-      (
-        c.requires.declared,
-        (c.requires.entries, front_kept (phrase_rules inside pair.arose) (phrase_rules inside pair.did_not) r),
-      ),
+      (c.requires.entries, front_kept (phrase_rules inside pair.arose) (phrase_rules inside pair.did_not) r),
     )
 
 pub emit_failure-emit_class_phrase-requires-in-InvalidKey : goal.emit_failure-emit_class_phrase-requires-in-InvalidKey
@@ -830,10 +839,7 @@ emit_failure-emit_class_phrase-requires-in-InvalidKey t c =
     let r : phrases_rules inside pair ≡ [] =
     sym (ap (file_phrases_rules inside) c.in-InvalidKey.is) ∙ c.requires.phrases in (
       omega (arith, d),
-      (
-        c.requires.declared,
-        (c.requires.entries, front_kept (phrase_rules inside pair.arose) (phrase_rules inside pair.did_not) r),
-      ),
+      (c.requires.entries, front_kept (phrase_rules inside pair.arose) (phrase_rules inside pair.did_not) r),
     )
 
 pub emit_class_phrase-returns : goal.emit_class_phrase-returns
@@ -855,10 +861,7 @@ emit_phrase_taken-emit_statements-requires t c =
     c.in-Some.is ∙ ap (λ (l : List Statement). Some l) (sym c.as_slice.ensures) in
     let d = rw e at c.decreases in (
       omega (arith, d),
-      (
-        c.requires.declared,
-        (c.requires.entries, sym (ap (phrase_rules (statement_rules scope all_permitted)) e) ∙ c.requires.rules),
-      ),
+      (c.requires.entries, sym (ap (phrase_rules (statement_rules scope all_permitted)) e) ∙ c.requires.rules),
     )
 
 pub emit_stringing-returns : goal.emit_stringing-returns

@@ -11,11 +11,11 @@ returns-in-Some c =
     let items = items_in declarations in
     c.as_slice.ensures
     ∙ dimensions_there (slice_get items c.args.number) c.in-Some.found.now
-    (c.in-Some.ensures.value ∙ placed_at items declarations.layout.items c.args.number c.requires.items)
+    (c.in-Some.ensures.value ∙ placed_at items declarations.layout.items c.args.number declarations.declared.items)
 
 pub returns-in-None : goal.returns-in-None
 returns-in-None c =
     let declarations = c.args.self.now.declarations.now in
     let items = items_in declarations in
     no_dimensions (slice_get items c.args.number)
-    (c.in-None.ensures.value ∙ placed_at items declarations.layout.items c.args.number c.requires.items)
+    (c.in-None.ensures.value ∙ placed_at items declarations.layout.items c.args.number declarations.declared.items)

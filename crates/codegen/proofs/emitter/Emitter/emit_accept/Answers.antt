@@ -3,6 +3,8 @@ use Rattle.declarations.specs.Named.{items_in}
 use Rattle.codegen.proofs.Kept.{item_kept}
 use Rattle.codegen.proofs.emitter.Emitter.emit_accept.Goals as goal
 
-pub emit_reference-requires-clause-rules : goal.emit_reference-requires-clause-rules
-emit_reference-requires-clause-rules c =
-    item_kept (items_in c.args.self.now.declarations.now) any_item c.args.receiver.now c.requires.rules
+pub emit_reference-requires : goal.emit_reference-requires
+emit_reference-requires c =
+    record {
+      rules = item_kept (items_in c.args.self.now.declarations.now) any_item c.args.receiver.now c.requires.rules;
+    }

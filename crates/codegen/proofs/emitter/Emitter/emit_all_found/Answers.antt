@@ -4,8 +4,10 @@ use Rattle.source_tree.specs.StringRules.{sent_rules}
 use Rattle.codegen.proofs.Kept.{one_kept}
 use Rattle.codegen.proofs.emitter.Emitter.emit_all_found.Goals as goal
 
-pub emit_found-requires-clause-rules : goal.emit_found-requires-clause-rules
-emit_found-requires-clause-rules c =
-    ap (sent_rules (items_in c.args.self.now.declarations.now)) c.one-item.is
-    ∙ one_kept (sent_rules (items_in c.args.self.now.declarations.now)) c.args.all.now c.loop-one.one-index
-    c.one-item.result c.loop-one-test.true c.requires.rules
+pub emit_found-requires : goal.emit_found-requires
+emit_found-requires c =
+    record {
+      rules = ap (sent_rules (items_in c.args.self.now.declarations.now)) c.one-item.is
+          ∙ one_kept (sent_rules (items_in c.args.self.now.declarations.now)) c.args.all.now c.loop-one.one-index
+          c.one-item.result c.loop-one-test.true c.requires.rules;
+    }

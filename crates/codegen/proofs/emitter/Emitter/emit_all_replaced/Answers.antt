@@ -6,11 +6,13 @@ use Rattle.codegen.proofs.Kept.{one_kept}
 use Rattle.codegen.proofs.InspectMaking.{puts_none, puts_more, puts_all}
 use Rattle.codegen.proofs.emitter.Emitter.emit_all_replaced.Goals as goal
 
-pub emit_replacing-requires-clause-rules : goal.emit_replacing-requires-clause-rules
-emit_replacing-requires-clause-rules c =
-    ap (replacing_rules (items_in c.args.self.now.declarations.now)) c.one-item.is
-    ∙ one_kept (replacing_rules (items_in c.args.self.now.declarations.now)) c.args.all.now c.loop-one.one-index
-    c.one-item.result c.loop-one-test.true c.requires.rules
+pub emit_replacing-requires : goal.emit_replacing-requires
+emit_replacing-requires c =
+    record {
+      rules = ap (replacing_rules (items_in c.args.self.now.declarations.now)) c.one-item.is
+          ∙ one_kept (replacing_rules (items_in c.args.self.now.declarations.now)) c.args.all.now c.loop-one.one-index
+          c.one-item.result c.loop-one-test.true c.requires.rules;
+    }
 
 pub loop-one-preserved : goal.loop-one-preserved
 loop-one-preserved c =

@@ -4,9 +4,11 @@ use Rattle.codegen.proofs.InspectMaking.{bytes_taken}
 use Rattle.codegen.proofs.Kept.{item_kept}
 use Rattle.codegen.proofs.emitter.Emitter.emit_bytes.Goals as goal
 
-pub emit_taking-requires-clause-rules : goal.emit_taking-requires-clause-rules
-emit_taking-requires-clause-rules c =
-    item_kept (items_in c.args.self.now.declarations.now) inspected_item c.args.one.now c.requires.rules
+pub emit_taking-requires : goal.emit_taking-requires
+emit_taking-requires c =
+    record {
+      rules = item_kept (items_in c.args.self.now.declarations.now) inspected_item c.args.one.now c.requires.rules;
+    }
 
 pub returns : goal.returns
 returns c =

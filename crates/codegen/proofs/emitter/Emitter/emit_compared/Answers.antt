@@ -6,8 +6,10 @@ use Rattle.codegen.specs.Sides.{operand_of}
 use Rattle.codegen.proofs.Kept.{item_kept}
 use Rattle.codegen.proofs.emitter.Emitter.emit_compared.Goals as goal
 
-pub emit_taking-requires-clause-rules : goal.emit_taking-requires-clause-rules
-emit_taking-requires-clause-rules c =
+pub emit_taking-requires : goal.emit_taking-requires
+emit_taking-requires c =
     let items = items_in c.args.self.now.declarations.now in
-    item_kept items any_item c.in-Item.reference.now
-    (sym (ap (λ (one : Alone). operand_rules items (operand_of one)) c.in-Item.is) ∙ c.requires.rules)
+    record {
+      rules = item_kept items any_item c.in-Item.reference.now
+          (sym (ap (λ (one : Alone). operand_rules items (operand_of one)) c.in-Item.is) ∙ c.requires.rules);
+    }

@@ -9,17 +9,19 @@ use Rattle.codegen.proofs.Kept.{back_kept, subscripts_kept}
 use Rattle.codegen.proofs.ReferencePieces.{condition_name_so}
 use Rattle.codegen.proofs.emitter.Emitter.emit_condition_name.Goals as goal
 
-pub emit_subscripts-requires-clause-rules : goal.emit_subscripts-requires-clause-rules
-emit_subscripts-requires-clause-rules c =
-    ap (each (subscript_rules (items_in c.args.self.now.declarations.now))) c.as_slice.ensures
-    ∙ subscripts_kept (items_in c.args.self.now.declarations.now) c.args.one.now (back_kept _ _ c.requires.rules)
+pub emit_subscripts-requires : goal.emit_subscripts-requires
+emit_subscripts-requires c =
+    record {
+      rules = ap (each (subscript_rules (items_in c.args.self.now.declarations.now))) c.as_slice.ensures
+          ∙ subscripts_kept (items_in c.args.self.now.declarations.now) c.args.one.now (back_kept _ _ c.requires.rules);
+    }
 
 pub emit_values-requires : goal.emit_values-requires
 emit_values-requires c =
     let declarations = c.args.self.now.declarations.now in
     subst AreFormedValues (sym c.values_named.ensures)
     (values_formed (data_in declarations) c.args.one.now.item c.requires.entries
-    (descriptions_kept (items_in declarations) (data_in declarations) c.requires.declared.file_rules))
+    (descriptions_kept (items_in declarations) (data_in declarations) declarations.declared.file_rules))
 
 pub returns : goal.returns
 returns c =

@@ -9,19 +9,23 @@ use Rattle.codegen.proofs.InspectMaking.{convert_made}
 use Rattle.codegen.proofs.Sequences.{on_ok}
 use Rattle.codegen.proofs.emitter.Emitter.emit_convert.Goals as goal
 
-pub emit_reference-requires-clause-rules : goal.emit_reference-requires-clause-rules
-emit_reference-requires-clause-rules c =
+pub emit_reference-requires : goal.emit_reference-requires
+emit_reference-requires c =
     let items = items_in c.args.self.now.declarations.now in
     let one = c.args.one.now in
-    item_kept items inspected_item one.subject (left_none (reference_rules items inspected_item one.subject)
-    (replaced_text_rules items one.texts) c.requires.rules)
+    record {
+      rules = item_kept items inspected_item one.subject (left_none (reference_rules items inspected_item one.subject)
+          (replaced_text_rules items one.texts) c.requires.rules);
+    }
 
-pub emit_replaced_text-requires-clause-rules : goal.emit_replaced_text-requires-clause-rules
-emit_replaced_text-requires-clause-rules c =
+pub emit_replaced_text-requires : goal.emit_replaced_text-requires
+emit_replaced_text-requires c =
     let items = items_in c.args.self.now.declarations.now in
     let one = c.args.one.now in
-    right_none (reference_rules items inspected_item one.subject) (replaced_text_rules items one.texts)
-    c.requires.rules
+    record {
+      rules = right_none (reference_rules items inspected_item one.subject) (replaced_text_rules items one.texts)
+          c.requires.rules;
+    }
 
 pub returns : goal.returns
 returns c =

@@ -10,18 +10,22 @@ use Rattle.codegen.proofs.InspectMaking.{counter_put, put_count}
 use Rattle.codegen.proofs.Sequences.{on_ok}
 use Rattle.codegen.proofs.emitter.Emitter.emit_counter.Goals as goal
 
-pub emit_reference-requires-clause-rules : goal.emit_reference-requires-clause-rules
-emit_reference-requires-clause-rules c =
+pub emit_reference-requires : goal.emit_reference-requires
+emit_reference-requires c =
     let items = items_in c.args.self.now.declarations.now in
-    item_kept items counter_item c.args.one.now.counter (front_kept (reference_rules items counter_item
-    c.args.one.now.counter) (each (tallied_rules items) c.args.one.now.tallied) c.requires.rules)
+    record {
+      rules = item_kept items counter_item c.args.one.now.counter (front_kept (reference_rules items counter_item
+          c.args.one.now.counter) (each (tallied_rules items) c.args.one.now.tallied) c.requires.rules);
+    }
 
-pub emit_all_tallied-requires-clause-rules : goal.emit_all_tallied-requires-clause-rules
-emit_all_tallied-requires-clause-rules c =
+pub emit_all_tallied-requires : goal.emit_all_tallied-requires
+emit_all_tallied-requires c =
     let items = items_in c.args.self.now.declarations.now in
-    ap (each (tallied_rules items)) c.as_slice.ensures
-    ∙ back_kept (reference_rules items counter_item c.args.one.now.counter)
-    (each (tallied_rules items) c.args.one.now.tallied) c.requires.rules
+    record {
+      rules = ap (each (tallied_rules items)) c.as_slice.ensures
+          ∙ back_kept (reference_rules items counter_item c.args.one.now.counter)
+          (each (tallied_rules items) c.args.one.now.tallied) c.requires.rules;
+    }
 
 pub returns : goal.returns
 returns c =

@@ -5,11 +5,13 @@ use Rattle.codegen.proofs.Kept.{one_kept}
 use Rattle.codegen.proofs.InspectMaking.{counts_none, counts_more, counts_all}
 use Rattle.codegen.proofs.emitter.Emitter.emit_counters.Goals as goal
 
-pub emit_counter-requires-clause-rules : goal.emit_counter-requires-clause-rules
-emit_counter-requires-clause-rules c =
-    ap (tallying_rules (items_in c.args.self.now.declarations.now)) c.one-item.is
-    ∙ one_kept (tallying_rules (items_in c.args.self.now.declarations.now)) c.args.all.now c.loop-one.one-index
-    c.one-item.result c.loop-one-test.true c.requires.rules
+pub emit_counter-requires : goal.emit_counter-requires
+emit_counter-requires c =
+    record {
+      rules = ap (tallying_rules (items_in c.args.self.now.declarations.now)) c.one-item.is
+          ∙ one_kept (tallying_rules (items_in c.args.self.now.declarations.now)) c.args.all.now c.loop-one.one-index
+          c.one-item.result c.loop-one-test.true c.requires.rules;
+    }
 
 pub loop-one-init : goal.loop-one-init
 loop-one-init c = counts_none (items_in c.args.self.now.declarations.now) c.args.code.now c.args.made.now

@@ -4,7 +4,10 @@ use Rattle.declarations.specs.Named.{items_in}
 use Rattle.codegen.proofs.Kept.{item_kept}
 use Rattle.codegen.proofs.emitter.Emitter.emit_cut.Goals as goal
 
-pub emit_reference-requires-clause-rules : goal.emit_reference-requires-clause-rules
-emit_reference-requires-clause-rules c =
+pub emit_reference-requires : goal.emit_reference-requires
+emit_reference-requires c =
     let items = items_in c.args.self.now.declarations.now in
-    item_kept items sent_item c.in-Item.reference (sym (ap (sent_rules items) c.in-Item.is) ∙ c.requires.rules)
+    record {
+      rules =
+          item_kept items sent_item c.in-Item.reference (sym (ap (sent_rules items) c.in-Item.is) ∙ c.requires.rules);
+    }

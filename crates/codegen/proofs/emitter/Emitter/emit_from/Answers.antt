@@ -9,19 +9,21 @@ use Rattle.declarations.specs.Named.{items_in, files_in}
 use Rattle.codegen.proofs.Kept.{front_kept, back_kept, item_kept, numbers_kept}
 use Rattle.codegen.proofs.emitter.Emitter.emit_from.Goals as goal
 
-pub emit_taking-requires-clause-rules : goal.emit_taking-requires-clause-rules
-emit_taking-requires-clause-rules c =
+pub emit_taking-requires : goal.emit_taking-requires
+emit_taking-requires c =
     let items = items_in c.args.self.now.declarations.now in
     let files = files_in c.args.self.now.declarations.now in
     let from = c.in-Some.from in
     let to = c.args.to.now in
     let r : move_rules items (Item from) (to ∷ []) ≡ [] =
     sym (ap (from_rules items files to) c.in-Some.is) ∙ c.requires.rules in
-    item_kept items any_item from (front_kept (operand_rules items (Item from))
-    (each (reference_rules items (receives (sent_by items (Item from)))) (to ∷ [])) r)
+    record {
+      rules = item_kept items any_item from (front_kept (operand_rules items (Item from))
+          (each (reference_rules items (receives (sent_by items (Item from)))) (to ∷ [])) r);
+    }
 
-pub emit_receivers-requires-clause-rules : goal.emit_receivers-requires-clause-rules
-emit_receivers-requires-clause-rules c =
+pub emit_receivers-requires : goal.emit_receivers-requires
+emit_receivers-requires c =
     let items = items_in c.args.self.now.declarations.now in
     let files = files_in c.args.self.now.declarations.now in
     let from = c.in-Some.from in
@@ -29,6 +31,8 @@ emit_receivers-requires-clause-rules c =
     let asked = receives (sent_by items (Item from)) in
     let r : move_rules items (Item from) (to ∷ []) ≡ [] =
     sym (ap (from_rules items files to) c.in-Some.is) ∙ c.requires.rules in
-    ap (each (number_rules_of items)) c.from_ref.ensures.value
-    ∙ numbers_kept items asked (to ∷ [])
-    (back_kept (operand_rules items (Item from)) (each (reference_rules items asked) (to ∷ [])) r)
+    record {
+      rules = ap (each (number_rules_of items)) c.from_ref.ensures.value
+          ∙ numbers_kept items asked (to ∷ [])
+          (back_kept (operand_rules items (Item from)) (each (reference_rules items asked) (to ∷ [])) r);
+    }

@@ -7,21 +7,29 @@ use Rattle.codegen.proofs.InspectMaking.{inspect_emitted}
 use Rattle.codegen.proofs.Kept.{item_kept}
 use Rattle.codegen.proofs.emitter.Emitter.emit_inspect.Goals as goal
 
-pub emit_reference-requires-clause-rules : goal.emit_reference-requires-clause-rules
-emit_reference-requires-clause-rules c =
+pub emit_reference-requires : goal.emit_reference-requires
+emit_reference-requires c =
     let items = items_in c.args.self.now.declarations.now in
-    item_kept items inspected_item c.args.one.now.subject (keeps_inspect items c.args.one.now c.requires.rules).subject
+    record {
+      rules = item_kept items inspected_item c.args.one.now.subject
+          (keeps_inspect items c.args.one.now c.requires.rules).subject;
+    }
 
-pub emit_counters-requires-clause-rules : goal.emit_counters-requires-clause-rules
-emit_counters-requires-clause-rules c =
+pub emit_counters-requires : goal.emit_counters-requires
+emit_counters-requires c =
     let items = items_in c.args.self.now.declarations.now in
-    ap (each (tallying_rules items)) c.as_slice.ensures ∙ (keeps_inspect items c.args.one.now c.requires.rules).tallying
+    record {
+      rules = ap (each (tallying_rules items)) c.as_slice.ensures
+          ∙ (keeps_inspect items c.args.one.now c.requires.rules).tallying;
+    }
 
-pub emit_all_replaced-requires-clause-rules : goal.emit_all_replaced-requires-clause-rules
-emit_all_replaced-requires-clause-rules c =
+pub emit_all_replaced-requires : goal.emit_all_replaced-requires
+emit_all_replaced-requires c =
     let items = items_in c.args.self.now.declarations.now in
-    ap (each (replacing_rules items)) c.as_slice-2.ensures
-    ∙ (keeps_inspect items c.args.one.now c.requires.rules).replacing
+    record {
+      rules = ap (each (replacing_rules items)) c.as_slice-2.ensures
+          ∙ (keeps_inspect items c.args.one.now c.requires.rules).replacing;
+    }
 
 pub returns : goal.returns
 returns c =

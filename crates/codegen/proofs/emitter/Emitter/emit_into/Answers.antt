@@ -9,13 +9,15 @@ use Rattle.declarations.specs.Named.{items_in, files_in}
 use Rattle.codegen.proofs.Kept.{both_kept, item_kept}
 use Rattle.codegen.proofs.emitter.Emitter.emit_into.Goals as goal
 
-pub emit_receivers-requires-clause-rules : goal.emit_receivers-requires-clause-rules
-emit_receivers-requires-clause-rules c =
+pub emit_receivers-requires : goal.emit_receivers-requires
+emit_receivers-requires c =
     let items = items_in c.args.self.now.declarations.now in
     let file = file_in items c.args.file.now in
     let into = c.in-Some.into in
     let asked = receives (Some (taken.Item file.sent)) in
     let r : reference_rules items asked into ≡ [] =
     sym (ap (into_rules items (files_in c.args.self.now.declarations.now) file) c.in-Some.is) ∙ c.requires.rules in
-    ap (each (number_rules_of items)) c.from_ref.ensures.value
-    ∙ both_kept (number_rules_of items into) [] (item_kept items asked into r) refl
+    record {
+      rules = ap (each (number_rules_of items)) c.from_ref.ensures.value
+          ∙ both_kept (number_rules_of items into) [] (item_kept items asked into r) refl;
+    }

@@ -3,7 +3,7 @@ use Rattle.source_tree.specs.InspectRules.{limit_rules}
 use Rattle.declarations.specs.Named.{items_in}
 use Rattle.codegen.proofs.emitter.Emitter.emit_limit.Goals as goal
 
-pub emit_source-requires-clause-rules : goal.emit_source-requires-clause-rules
-emit_source-requires-clause-rules c =
+pub emit_source-requires : goal.emit_source-requires
+emit_source-requires c =
     let items = items_in c.args.self.now.declarations.now in
-    sym (ap (limit_rules items) c.in-Some.is) ∙ c.requires.rules
+    record { rules = sym (ap (limit_rules items) c.in-Some.is) ∙ c.requires.rules }

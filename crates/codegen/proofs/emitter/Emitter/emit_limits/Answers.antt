@@ -3,25 +3,25 @@ use Rattle.codegen.proofs.InspectKept.{before_kept, after_kept}
 use Rattle.codegen.proofs.InspectMaking.{limits_straight, limits_turned}
 use Rattle.codegen.proofs.emitter.Emitter.emit_limits.Goals as goal
 
-pub emit_limit-requires-clause-rules : goal.emit_limit-requires-clause-rules
-emit_limit-requires-clause-rules c =
+pub emit_limit-requires : goal.emit_limit-requires
+emit_limit-requires c =
     let items = items_in c.args.self.now.declarations.now in
-    after_kept items c.args.one.now c.requires.rules
+    record { rules = after_kept items c.args.one.now c.requires.rules }
 
-pub emit_limit-requires-then-one-clause-rules : goal.emit_limit-requires-then-one-clause-rules
-emit_limit-requires-then-one-clause-rules c =
+pub emit_limit-requires-then-one : goal.emit_limit-requires-then-one
+emit_limit-requires-then-one c =
     let items = items_in c.args.self.now.declarations.now in
-    before_kept items c.args.one.now c.requires.rules
+    record { rules = before_kept items c.args.one.now c.requires.rules }
 
-pub emit_limit-requires-2-clause-rules : goal.emit_limit-requires-2-clause-rules
-emit_limit-requires-2-clause-rules c =
+pub emit_limit-requires-2 : goal.emit_limit-requires-2
+emit_limit-requires-2 c =
     let items = items_in c.args.self.now.declarations.now in
-    before_kept items c.args.one.now c.requires.rules
+    record { rules = before_kept items c.args.one.now c.requires.rules }
 
-pub emit_limit-requires-3-clause-rules : goal.emit_limit-requires-3-clause-rules
-emit_limit-requires-3-clause-rules c =
+pub emit_limit-requires-3 : goal.emit_limit-requires-3
+emit_limit-requires-3 c =
     let items = items_in c.args.self.now.declarations.now in
-    after_kept items c.args.one.now c.requires.rules
+    record { rules = after_kept items c.args.one.now c.requires.rules }
 
 pub returns : goal.returns
 returns c =

@@ -10,15 +10,21 @@ use Rattle.codegen.proofs.Kept.{front_kept, back_kept}
 use Rattle.codegen.proofs.Sequences.{ends_so, on_ok}
 use Rattle.codegen.proofs.emitter.Emitter.emit_made.Goals as goal
 
-pub emit_subscript-requires-clause-rules : goal.emit_subscript-requires-clause-rules
-emit_subscript-requires-clause-rules c =
+pub emit_subscript-requires : goal.emit_subscript-requires
+emit_subscript-requires c =
     let items = items_in c.args.self.now.declarations.now in
-    front_kept (subscript_rules items c.args.one.now.first) (length_rules items c.args.one.now.length) c.requires.rules
+    record {
+      rules = front_kept (subscript_rules items c.args.one.now.first) (length_rules items c.args.one.now.length)
+          c.requires.rules;
+    }
 
-pub emit_unknown-requires-clause-rules : goal.emit_unknown-requires-clause-rules
-emit_unknown-requires-clause-rules c =
+pub emit_unknown-requires : goal.emit_unknown-requires
+emit_unknown-requires c =
     let items = items_in c.args.self.now.declarations.now in
-    back_kept (subscript_rules items c.args.one.now.first) (length_rules items c.args.one.now.length) c.requires.rules
+    record {
+      rules = back_kept (subscript_rules items c.args.one.now.first) (length_rules items c.args.one.now.length)
+          c.requires.rules;
+    }
 
 pub returns-in-Some : goal.returns-in-Some
 returns-in-Some c =

@@ -9,10 +9,10 @@ use Rattle.codegen.specs.DataCode.{making_fragment}
 use Rattle.codegen.proofs.Sequences.{is_so}
 use Rattle.codegen.proofs.emitter.Emitter.emit_making.Goals as goal
 
-pub emit_given_part-requires-clause-rules : goal.emit_given_part-requires-clause-rules
-emit_given_part-requires-clause-rules c =
+pub emit_given_part-requires : goal.emit_given_part-requires
+emit_given_part-requires c =
     let rules = part_rules (items_in c.args.self.now.declarations.now) in
-    ap (λ (p : Part). rules (Some p)) c.part.ensures ∙ sym (ap rules c.in-Some.is) ∙ c.requires.rules
+    record { rules = ap (λ (p : Part). rules (Some p)) c.part.ensures ∙ sym (ap rules c.in-Some.is) ∙ c.requires.rules }
 
 pub returns-in-Some : goal.returns-in-Some
 returns-in-Some c =

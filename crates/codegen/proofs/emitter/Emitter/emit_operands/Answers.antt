@@ -4,8 +4,10 @@ use Rattle.source_tree.specs.TextRules.{shown_rules}
 use Rattle.codegen.proofs.Kept.{one_kept}
 use Rattle.codegen.proofs.emitter.Emitter.emit_operands.Goals as goal
 
-pub emit_operand-requires-clause-rules : goal.emit_operand-requires-clause-rules
-emit_operand-requires-clause-rules c =
-    ap (shown_rules (items_in c.args.self.now.declarations.now)) c.one-item.is
-    ∙ one_kept (shown_rules (items_in c.args.self.now.declarations.now)) c.args.all.now c.loop-one.one-index
-    c.one-item.result c.loop-one-test.true c.requires.rules
+pub emit_operand-requires : goal.emit_operand-requires
+emit_operand-requires c =
+    record {
+      rules = ap (shown_rules (items_in c.args.self.now.declarations.now)) c.one-item.is
+          ∙ one_kept (shown_rules (items_in c.args.self.now.declarations.now)) c.args.all.now c.loop-one.one-index
+          c.one-item.result c.loop-one-test.true c.requires.rules;
+    }

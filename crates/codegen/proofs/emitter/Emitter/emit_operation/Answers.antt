@@ -7,13 +7,13 @@ use Rattle.codegen.proofs.Operations.{operation_parts, values_kept, results_kept
 use Rattle.codegen.proofs.Sequences.{is_so, ends_so}
 use Rattle.codegen.proofs.emitter.Emitter.emit_operation.Goals as goal
 
-pub emit_values-requires-clause-rules : goal.emit_values-requires-clause-rules
-emit_values-requires-clause-rules c =
-    values_kept (items_in c.args.self.now.declarations.now) c.args.one.now c.requires.rules
+pub emit_values-requires : goal.emit_values-requires
+emit_values-requires c =
+    record { rules = values_kept (items_in c.args.self.now.declarations.now) c.args.one.now c.requires.rules }
 
-pub emit_results-requires-clause-rules : goal.emit_results-requires-clause-rules
-emit_results-requires-clause-rules c =
-    results_kept (items_in c.args.self.now.declarations.now) c.args.one.now c.requires.rules
+pub emit_results-requires : goal.emit_results-requires
+emit_results-requires c =
+    record { rules = results_kept (items_in c.args.self.now.declarations.now) c.args.one.now c.requires.rules }
 
 pub returns : goal.returns
 returns c =

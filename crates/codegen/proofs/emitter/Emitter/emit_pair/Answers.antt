@@ -1,8 +1,10 @@
 use Rattle.codegen.proofs.Kept.{front_kept, back_kept}
 use Rattle.codegen.proofs.emitter.Emitter.emit_pair.Goals as goal
 
-pub emit_value-requires-clause-rules : goal.emit_value-requires-clause-rules
-emit_value-requires-clause-rules c = front_kept _ _ c.requires.rules
+pub emit_value-requires : goal.emit_value-requires
+emit_value-requires c =
+    record { rules = front_kept _ _ c.requires.rules }
 
-pub emit_value-requires-2-clause-rules : goal.emit_value-requires-2-clause-rules
-emit_value-requires-2-clause-rules c = back_kept _ _ c.requires.rules
+pub emit_value-requires-2 : goal.emit_value-requires-2
+emit_value-requires-2 c =
+    record { rules = back_kept _ _ c.requires.rules }

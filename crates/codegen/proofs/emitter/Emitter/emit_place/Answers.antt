@@ -39,7 +39,7 @@ returns-in-Some c =
     (append old (place_fragment items found one one.part old)) c.emit_part_place.ensures
     (ap (append old) (part_place items one old found placed one.part
     (c.is_none.ensures ∙ ap not c.if-is_none.false)
-    (c.in-Some.ensures.value ∙ placed_at items declarations.layout.items c.args.number c.requires.declared.items
+    (c.in-Some.ensures.value ∙ placed_at items declarations.layout.items c.args.number declarations.declared.items
     ∙ ap (λ n. option_map placed_item (slice_get items n)) c.requires.number)))
 
 pub returns-in-None : goal.returns-in-None
@@ -51,5 +51,5 @@ returns-in-None c =
     sym (joined_nothing old)
     ∙ ap (append old) (no_place items one old (slice_get items (item_number items one.item)) one.part
     (c.is_none.ensures ∙ ap not c.if-is_none.false)
-    (c.in-None.ensures.value ∙ placed_at items declarations.layout.items c.args.number c.requires.declared.items
+    (c.in-None.ensures.value ∙ placed_at items declarations.layout.items c.args.number declarations.declared.items
     ∙ ap (λ n. option_map placed_item (slice_get items n)) c.requires.number))

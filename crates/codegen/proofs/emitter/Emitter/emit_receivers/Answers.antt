@@ -9,11 +9,13 @@ use Rattle.codegen.proofs.Fragments.{goes_on}
 use Rattle.codegen.proofs.Kept.{one_kept}
 use Rattle.codegen.proofs.emitter.Emitter.emit_receivers.Goals as goal
 
-pub emit_taking-requires-clause-rules : goal.emit_taking-requires-clause-rules
-emit_taking-requires-clause-rules c =
+pub emit_taking-requires : goal.emit_taking-requires
+emit_taking-requires c =
     let kept = number_rules_of (items_in c.args.self.now.declarations.now) in
-    ap kept c.one-item.is
-    ∙ one_kept kept c.args.all.now c.loop-one.one-index c.one-item.result c.loop-one-test.true c.requires.rules
+    record {
+      rules = ap kept c.one-item.is
+          ∙ one_kept kept c.args.all.now c.loop-one.one-index c.one-item.result c.loop-one-test.true c.requires.rules;
+    }
 
 pub loop-one-preserved : goal.loop-one-preserved
 loop-one-preserved c =

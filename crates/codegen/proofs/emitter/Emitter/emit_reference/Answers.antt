@@ -6,14 +6,17 @@ use Rattle.codegen.proofs.Kept.{subscripts_kept, part_kept}
 use Rattle.codegen.proofs.ReferencePieces.{reference_so}
 use Rattle.codegen.proofs.emitter.Emitter.emit_reference.Goals as goal
 
-pub emit_subscripts-requires-clause-rules : goal.emit_subscripts-requires-clause-rules
-emit_subscripts-requires-clause-rules c =
+pub emit_subscripts-requires : goal.emit_subscripts-requires
+emit_subscripts-requires c =
     let items = items_in c.args.self.now.declarations.now in
-    ap (each (subscript_rules items)) c.as_slice.ensures ∙ subscripts_kept items c.args.one.now c.requires.rules
+    record {
+      rules =
+          ap (each (subscript_rules items)) c.as_slice.ensures ∙ subscripts_kept items c.args.one.now c.requires.rules;
+    }
 
-pub emit_making-requires-clause-rules : goal.emit_making-requires-clause-rules
-emit_making-requires-clause-rules c =
-    part_kept (items_in c.args.self.now.declarations.now) c.args.one.now c.requires.rules
+pub emit_making-requires : goal.emit_making-requires
+emit_making-requires c =
+    record { rules = part_kept (items_in c.args.self.now.declarations.now) c.args.one.now c.requires.rules }
 
 pub returns : goal.returns
 returns c =

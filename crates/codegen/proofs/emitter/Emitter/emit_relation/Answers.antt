@@ -37,13 +37,15 @@ pub emit_numbers_compared-requires-then-is_numeric_operand-clause-right :
 emit_numbers_compared-requires-then-is_numeric_operand-clause-right c =
     right_kept (items_in c.args.self.now.declarations.now) c.args.left.now c.args.right.now c.requires.rules
 
-pub emit_look-requires-clause-rules : goal.emit_look-requires-clause-rules
-emit_look-requires-clause-rules c =
+pub emit_look-requires : goal.emit_look-requires
+emit_look-requires c =
     let items = items_in c.args.self.now.declarations.now in
     let told : alone_side c.args.left.now ≡ Some (operand_of c.in-Some.one) =
     sym c.alone_side.ensures ∙ ap (option_map operand_of) c.in-Some.is in
-    side_kept items c.args.left.now (operand_of c.in-Some.one) told
-    (left_kept items c.args.left.now c.args.right.now c.requires.rules)
+    record {
+      rules = side_kept items c.args.left.now (operand_of c.in-Some.one) told
+          (left_kept items c.args.left.now c.args.right.now c.requires.rules);
+    }
 
 pub emit_pair_compared-requires-clause-left : goal.emit_pair_compared-requires-clause-left
 emit_pair_compared-requires-clause-left c =

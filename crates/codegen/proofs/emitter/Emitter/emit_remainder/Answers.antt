@@ -12,13 +12,19 @@ use Rattle.codegen.proofs.Kept.{front_kept, back_kept, item_kept}
 use Rattle.codegen.proofs.Sequences.{four_so}
 use Rattle.codegen.proofs.emitter.Emitter.emit_remainder.Goals as goal
 
-pub emit_give-requires-clause-rules : goal.emit_give-requires-clause-rules
-emit_give-requires-clause-rules c = item_kept (items_in c.args.self.now.declarations.now) number_receiver
-    c.args.quotient.now.item (front_kept _ _ c.requires.rules)
+pub emit_give-requires : goal.emit_give-requires
+emit_give-requires c =
+    record {
+      rules = item_kept (items_in c.args.self.now.declarations.now) number_receiver
+          c.args.quotient.now.item (front_kept _ _ c.requires.rules);
+    }
 
-pub emit_taking-requires-clause-rules : goal.emit_taking-requires-clause-rules
-emit_taking-requires-clause-rules c = item_kept (items_in c.args.self.now.declarations.now) number_receiver
-    c.args.remainder.now (back_kept _ _ c.requires.rules)
+pub emit_taking-requires : goal.emit_taking-requires
+emit_taking-requires c =
+    record {
+      rules = item_kept (items_in c.args.self.now.declarations.now) number_receiver
+          c.args.remainder.now (back_kept _ _ c.requires.rules);
+    }
 
 pub returns : goal.returns
 returns c =

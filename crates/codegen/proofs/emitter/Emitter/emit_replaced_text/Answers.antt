@@ -6,29 +6,33 @@ use Rattle.codegen.proofs.InspectMaking.{replaced_put}
 use Rattle.codegen.proofs.Sequences.{on_ok}
 use Rattle.codegen.proofs.emitter.Emitter.emit_replaced_text.Goals as goal
 
-pub emit_source-requires-clause-rules : goal.emit_source-requires-clause-rules
-emit_source-requires-clause-rules c =
+pub emit_source-requires : goal.emit_source-requires
+emit_source-requires c =
     let items = items_in c.args.self.now.declarations.now in
     let one = c.args.one.now in
     let text = inspected_rules items one.text in
     let by = by_rules items (size_of items one.text) one.by in
-    front_kept text by (front_kept (text ++ by) (limits_rules items one.limits) c.requires.rules)
+    record { rules = front_kept text by (front_kept (text ++ by) (limits_rules items one.limits) c.requires.rules) }
 
-pub emit_by-requires-clause-rules : goal.emit_by-requires-clause-rules
-emit_by-requires-clause-rules c =
+pub emit_by-requires : goal.emit_by-requires
+emit_by-requires c =
     let items = items_in c.args.self.now.declarations.now in
     let one = c.args.one.now in
     let text = inspected_rules items one.text in
     let by = by_rules items (size_of items one.text) one.by in
-    front_kept (inspected_rules items one.by) _ (back_kept text by
-    (front_kept (text ++ by) (limits_rules items one.limits) c.requires.rules))
+    record {
+      rules = front_kept (inspected_rules items one.by) _ (back_kept text by
+          (front_kept (text ++ by) (limits_rules items one.limits) c.requires.rules));
+    }
 
-pub emit_limits-requires-clause-rules : goal.emit_limits-requires-clause-rules
-emit_limits-requires-clause-rules c =
+pub emit_limits-requires : goal.emit_limits-requires
+emit_limits-requires c =
     let items = items_in c.args.self.now.declarations.now in
     let one = c.args.one.now in
-    back_kept (inspected_rules items one.text ++ by_rules items (size_of items one.text) one.by)
-    (limits_rules items one.limits) c.requires.rules
+    record {
+      rules = back_kept (inspected_rules items one.text ++ by_rules items (size_of items one.text) one.by)
+          (limits_rules items one.limits) c.requires.rules;
+    }
 
 pub returns : goal.returns
 returns c =

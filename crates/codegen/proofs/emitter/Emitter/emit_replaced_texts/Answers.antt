@@ -6,11 +6,14 @@ use Rattle.codegen.proofs.Kept.{one_kept}
 use Rattle.codegen.proofs.InspectMaking.{puts_none, puts_more, puts_all}
 use Rattle.codegen.proofs.emitter.Emitter.emit_replaced_texts.Goals as goal
 
-pub emit_replaced_text-requires-clause-rules : goal.emit_replaced_text-requires-clause-rules
-emit_replaced_text-requires-clause-rules c =
-    ap (replaced_text_rules (items_in c.args.self.now.declarations.now)) c.one-item.is
-    ∙ one_kept (replaced_text_rules (items_in c.args.self.now.declarations.now)) c.args.all.now c.loop-one.one-index
-    c.one-item.result c.loop-one-test.true c.requires.rules
+pub emit_replaced_text-requires : goal.emit_replaced_text-requires
+emit_replaced_text-requires c =
+    record {
+      rules = ap (replaced_text_rules (items_in c.args.self.now.declarations.now)) c.one-item.is
+          ∙ one_kept (replaced_text_rules (items_in c.args.self.now.declarations.now)) c.args.all.now
+          c.loop-one.one-index
+          c.one-item.result c.loop-one-test.true c.requires.rules;
+    }
 
 pub loop-one-preserved : goal.loop-one-preserved
 loop-one-preserved c =

@@ -7,11 +7,13 @@ use Rattle.codegen.proofs.PatternCodes.{set_kept}
 use Rattle.codegen.proofs.ReferencePieces.{set_so}
 use Rattle.codegen.proofs.emitter.Emitter.emit_set.Goals as goal
 
-pub emit_subscripts-requires-clause-rules : goal.emit_subscripts-requires-clause-rules
-emit_subscripts-requires-clause-rules c =
+pub emit_subscripts-requires : goal.emit_subscripts-requires
+emit_subscripts-requires c =
     let items = items_in c.args.self.now.declarations.now in
-    ap (each (subscript_rules items)) c.as_slice.ensures
-    ∙ subscripts_kept items c.args.one.now (back_kept _ _ (set_kept items c.args.one.now c.requires.rules))
+    record {
+      rules = ap (each (subscript_rules items)) c.as_slice.ensures
+          ∙ subscripts_kept items c.args.one.now (back_kept _ _ (set_kept items c.args.one.now c.requires.rules));
+    }
 
 pub returns : goal.returns
 returns c =

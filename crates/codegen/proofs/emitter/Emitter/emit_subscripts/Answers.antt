@@ -12,10 +12,13 @@ returns-in_default c =
     subscripts_done (items_in c.args.self.now.declarations.now) c.args.dimensions.now c.args.subscripts.now
     c.loop-number.number c.loop-number.code _ le c.loop-number.invariant
 
-pub emit_indexing-requires-clause-rules : goal.emit_indexing-requires-clause-rules
-emit_indexing-requires-clause-rules c =
+pub emit_indexing-requires : goal.emit_indexing-requires
+emit_indexing-requires c =
     let items = items_in c.args.self.now.declarations.now in
     let lt : c.loop-number.number < length c.args.subscripts.now = grind (arith, common_steps) in
     let seen = c.in-Some.ensures.lookup in
-    ap (subscript_rules items) seen.1
-    ∙ one_kept (subscript_rules items) c.args.subscripts.now c.loop-number.number c.in-Some.one.now lt c.requires.rules
+    record {
+      rules = ap (subscript_rules items) seen.1
+          ∙ one_kept (subscript_rules items) c.args.subscripts.now c.loop-number.number c.in-Some.one.now lt
+          c.requires.rules;
+    }

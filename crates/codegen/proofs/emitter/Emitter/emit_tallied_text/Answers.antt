@@ -5,15 +5,21 @@ use Rattle.codegen.proofs.InspectMaking.{tallied_put}
 use Rattle.codegen.proofs.Sequences.{on_ok}
 use Rattle.codegen.proofs.emitter.Emitter.emit_tallied_text.Goals as goal
 
-pub emit_source-requires-clause-rules : goal.emit_source-requires-clause-rules
-emit_source-requires-clause-rules c =
+pub emit_source-requires : goal.emit_source-requires
+emit_source-requires c =
     let items = items_in c.args.self.now.declarations.now in
-    front_kept (inspected_rules items c.args.one.now.text) (limits_rules items c.args.one.now.limits) c.requires.rules
+    record {
+      rules = front_kept (inspected_rules items c.args.one.now.text) (limits_rules items c.args.one.now.limits)
+          c.requires.rules;
+    }
 
-pub emit_limits-requires-clause-rules : goal.emit_limits-requires-clause-rules
-emit_limits-requires-clause-rules c =
+pub emit_limits-requires : goal.emit_limits-requires
+emit_limits-requires c =
     let items = items_in c.args.self.now.declarations.now in
-    back_kept (inspected_rules items c.args.one.now.text) (limits_rules items c.args.one.now.limits) c.requires.rules
+    record {
+      rules = back_kept (inspected_rules items c.args.one.now.text) (limits_rules items c.args.one.now.limits)
+          c.requires.rules;
+    }
 
 pub returns : goal.returns
 returns c =

@@ -5,14 +5,20 @@ use Rattle.declarations.specs.Named.{items_in}
 use Rattle.codegen.proofs.Kept.{front_kept, back_kept}
 use Rattle.codegen.proofs.emitter.Emitter.emit_total.Goals as goal
 
-pub emit_value-requires-clause-rules : goal.emit_value-requires-clause-rules
-emit_value-requires-clause-rules c =
+pub emit_value-requires : goal.emit_value-requires
+emit_value-requires c =
     let kept = number_rules (items_in c.args.self.now.declarations.now) in
-    front_kept (kept c.in-Some.first.now) (each kept c.in-Some.more.now) (sym (ap (each kept) c.in-Some.ensures.cases.0)
-    ∙ c.requires.rules)
+    record {
+      rules = front_kept (kept c.in-Some.first.now) (each kept c.in-Some.more.now)
+          (sym (ap (each kept) c.in-Some.ensures.cases.0)
+          ∙ c.requires.rules);
+    }
 
-pub emit_all_added-requires-clause-rules : goal.emit_all_added-requires-clause-rules
-emit_all_added-requires-clause-rules c =
+pub emit_all_added-requires : goal.emit_all_added-requires
+emit_all_added-requires c =
     let kept = number_rules (items_in c.args.self.now.declarations.now) in
-    back_kept (kept c.in-Some.first.now) (each kept c.in-Some.more.now) (sym (ap (each kept) c.in-Some.ensures.cases.0)
-    ∙ c.requires.rules)
+    record {
+      rules = back_kept (kept c.in-Some.first.now) (each kept c.in-Some.more.now)
+          (sym (ap (each kept) c.in-Some.ensures.cases.0)
+          ∙ c.requires.rules);
+    }

@@ -1,8 +1,10 @@
 use Rattle.codegen.proofs.Kept.{front_kept, back_kept}
 use Rattle.codegen.proofs.emitter.Emitter.emit_total_and.Goals as goal
 
-pub emit_total-requires-clause-rules : goal.emit_total-requires-clause-rules
-emit_total-requires-clause-rules c = front_kept _ _ c.requires.rules
+pub emit_total-requires : goal.emit_total-requires
+emit_total-requires c =
+    record { rules = front_kept _ _ c.requires.rules }
 
-pub emit_value-requires-clause-rules : goal.emit_value-requires-clause-rules
-emit_value-requires-clause-rules c = back_kept _ _ c.requires.rules
+pub emit_value-requires : goal.emit_value-requires
+emit_value-requires c =
+    record { rules = back_kept _ _ c.requires.rules }

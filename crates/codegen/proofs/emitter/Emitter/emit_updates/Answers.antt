@@ -10,12 +10,14 @@ use Rattle.codegen.proofs.Fragments.{goes_on}
 use Rattle.codegen.proofs.Kept.{receiver_kept}
 use Rattle.codegen.proofs.emitter.Emitter.emit_updates.Goals as goal
 
-pub emit_update-requires-clause-rules : goal.emit_update-requires-clause-rules
-emit_update-requires-clause-rules c =
+pub emit_update-requires : goal.emit_update-requires
+emit_update-requires c =
     let items = items_in c.args.self.now.declarations.now in
-    ap (λ (r : Receiver). number_rules_of items r.item) c.one-item.is
-    ∙ receiver_kept items numeric_item c.args.all.now c.loop-one.one-index c.one-item.result c.loop-one-test.true
-    c.requires.rules
+    record {
+      rules = ap (λ (r : Receiver). number_rules_of items r.item) c.one-item.is
+          ∙ receiver_kept items numeric_item c.args.all.now c.loop-one.one-index c.one-item.result c.loop-one-test.true
+          c.requires.rules;
+    }
 
 pub loop-one-preserved : goal.loop-one-preserved
 loop-one-preserved c =

@@ -4,12 +4,16 @@ use Rattle.declarations.specs.Named.{items_in}
 use Rattle.codegen.proofs.Varying.{from_kept, varied_kept}
 use Rattle.codegen.proofs.emitter.Emitter.emit_vary_begin.Goals as goal
 
-pub emit_sender-requires-clause-rules : goal.emit_sender-requires-clause-rules
-emit_sender-requires-clause-rules c =
+pub emit_sender-requires : goal.emit_sender-requires
+emit_sender-requires c =
     let items = items_in c.args.self.now.declarations.now in
-    from_kept items c.in-Some.varying (sym (ap (varying_rules items) c.in-Some.is) ∙ c.requires.rules)
+    record {
+      rules = from_kept items c.in-Some.varying (sym (ap (varying_rules items) c.in-Some.is) ∙ c.requires.rules);
+    }
 
-pub emit_taking-requires-clause-rules : goal.emit_taking-requires-clause-rules
-emit_taking-requires-clause-rules c =
+pub emit_taking-requires : goal.emit_taking-requires
+emit_taking-requires c =
     let items = items_in c.args.self.now.declarations.now in
-    varied_kept items c.in-Some.varying (sym (ap (varying_rules items) c.in-Some.is) ∙ c.requires.rules)
+    record {
+      rules = varied_kept items c.in-Some.varying (sym (ap (varying_rules items) c.in-Some.is) ∙ c.requires.rules);
+    }

@@ -13,15 +13,17 @@ use Rattle.codegen.proofs.Sequences.{four_so, on_ok}
 use Rattle.codegen.proofs.Varying.{varied, by_kept, varied_kept, vary_on_is}
 use Rattle.codegen.proofs.emitter.Emitter.emit_vary_on.Goals as goal
 
-pub emit_value-requires-clause-rules : goal.emit_value-requires-clause-rules
-emit_value-requires-clause-rules c =
+pub emit_value-requires : goal.emit_value-requires
+emit_value-requires c =
     let items = items_in c.args.self.now.declarations.now in
-    by_kept items c.in-Some.varying (sym (ap (varying_rules items) c.in-Some.is) ∙ c.requires.rules)
+    record { rules = by_kept items c.in-Some.varying (sym (ap (varying_rules items) c.in-Some.is) ∙ c.requires.rules) }
 
-pub emit_update-requires-clause-rules : goal.emit_update-requires-clause-rules
-emit_update-requires-clause-rules c =
+pub emit_update-requires : goal.emit_update-requires
+emit_update-requires c =
     let items = items_in c.args.self.now.declarations.now in
-    varied_kept items c.in-Some.varying (sym (ap (varying_rules items) c.in-Some.is) ∙ c.requires.rules)
+    record {
+      rules = varied_kept items c.in-Some.varying (sym (ap (varying_rules items) c.in-Some.is) ∙ c.requires.rules);
+    }
 
 pub returns : goal.returns
 returns c =

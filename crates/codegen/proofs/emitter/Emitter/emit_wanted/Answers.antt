@@ -10,12 +10,15 @@ use Rattle.codegen.proofs.Questions.{unless_is, told_rules}
 use Rattle.codegen.proofs.Sequences.{is_so, ends_so}
 use Rattle.codegen.proofs.emitter.Emitter.emit_wanted.Goals as goal
 
-pub emit_within-requires-clause-rules : goal.emit_within-requires-clause-rules
-emit_within-requires-clause-rules c =
+pub emit_within-requires : goal.emit_within-requires
+emit_within-requires c =
     let items = items_in c.args.self.now.declarations.now in
     let wanted = c.args.wanted in
-    sym (told_rules items (not wanted.negated) (value_within c.args.value.now wanted.first.now wanted.last.now))
-    ∙ c.requires.rules
+    record {
+      rules =
+          sym (told_rules items (not wanted.negated) (value_within c.args.value.now wanted.first.now wanted.last.now))
+          ∙ c.requires.rules;
+    }
 
 pub returns : goal.returns
 returns c =

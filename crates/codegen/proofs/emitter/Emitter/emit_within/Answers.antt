@@ -11,13 +11,16 @@ use Rattle.codegen.proofs.Questions.{between_is, from_rules, last_rules}
 use Rattle.codegen.proofs.Sequences.{is_so}
 use Rattle.codegen.proofs.emitter.Emitter.emit_within.Goals as goal
 
-pub emit_relation-requires-clause-rules : goal.emit_relation-requires-clause-rules
-emit_relation-requires-clause-rules c =
+pub emit_relation-requires : goal.emit_relation-requires
+emit_relation-requires c =
     let items = items_in c.args.self.now.declarations.now in
-    sym (relation_kept items c.args.value.now Equal c.args.first.now)
-    ∙ sym
-    (ap (λ (o : Option Side). condition_rules items (value_within c.args.value.now c.args.first.now o)) c.in-None.is)
-    ∙ c.requires.rules
+    record {
+      rules = sym (relation_kept items c.args.value.now Equal c.args.first.now)
+          ∙ sym
+          (ap (λ (o : Option Side). condition_rules items (value_within c.args.value.now c.args.first.now o))
+          c.in-None.is)
+          ∙ c.requires.rules;
+    }
 
 pub emit_between-requires-clause-first : goal.emit_between-requires-clause-first
 emit_between-requires-clause-first c =

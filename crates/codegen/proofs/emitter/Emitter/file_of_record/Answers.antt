@@ -12,7 +12,7 @@ pub returns-in_err-found : goal.returns-in_err-found
 returns-in_err-found c =
     let declarations = c.args.self.now.declarations.now in
     absurd (not_missing (items_in declarations) c.args.one.now c.requires.named declarations.layout.items
-    c.item_number-number.result c.requires.declared.items
+    c.item_number-number.result declarations.declared.items
     c.item_number-number.ensures c.in_err-found.ensures.value)
 
 pub returns : goal.returns
@@ -25,5 +25,5 @@ returns c =
     ap (λ (one : Option LocatedItem). file_with_record files one) (ap first named.named)
     ∙ ap (λ (area : ℕ). first (files_with files area))
     (sym (area_named items c.args.one.now named declarations.layout.items c.item_number-number.result
-    c.requires.declared.items c.item_number-number.ensures found c.in_ok-found.ensures.value))
-    ∙ c.file_with.ensures items (data_in declarations) c.requires.declared.files
+    declarations.declared.items c.item_number-number.ensures found c.in_ok-found.ensures.value))
+    ∙ c.file_with.ensures items (data_in declarations) declarations.declared.files

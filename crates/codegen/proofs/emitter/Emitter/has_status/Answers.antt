@@ -13,7 +13,7 @@ returns-in-Some c =
     let items = items_in declarations in
     c.is_some.ensures
     ∙ same_there c.get.result (slice_get items c.in-Some.number)
-    (c.get.ensures.value ∙ placed_at items declarations.layout.items c.in-Some.number c.requires.items)
+    (c.get.ensures.value ∙ placed_at items declarations.layout.items c.in-Some.number declarations.declared.items)
     ∙ place_there (slice_get items c.in-Some.number) ∙ ap (λ o. is_some (place_at items o)) (sym c.in-Some.is)
 
 pub returns-in-None : goal.returns-in-None

@@ -9,7 +9,7 @@ use Rattle.codegen.proofs.emitter.Emitter.initial_overlay.Goals as goal
 pub initialized_item-requires-clause-files : goal.initialized_item-requires-clause-files
 initialized_item-requires-clause-files c =
     let declarations = c.args.self.now.declarations.now in
-    descriptions_kept (items_in declarations) (data_in declarations) c.requires.declared.file_rules
+    descriptions_kept (items_in declarations) (data_in declarations) declarations.declared.file_rules
 
 pub returns-then-is_some-clause-bytes : goal.returns-then-is_some-clause-bytes
 returns-then-is_some-clause-bytes c =

@@ -13,7 +13,8 @@ returns-in-Some c =
     let items = items_in declarations in
     c.has_room.ensures
     ∙ measured_there c.args.one.now (slice_get items (item_number items c.args.one.now.item)) c.in-Some.found.now
-    (c.in-Some.ensures.value ∙ placed_at items declarations.layout.items c.item_number.result c.requires.items
+    (c.in-Some.ensures.value
+    ∙ placed_at items declarations.layout.items c.item_number.result declarations.declared.items
     ∙ ap (λ n. option_map placed_item (slice_get items n)) c.item_number.ensures)
 
 pub returns-in-None : goal.returns-in-None
@@ -21,5 +22,6 @@ returns-in-None c =
     let declarations = c.args.self.now.declarations.now in
     let items = items_in declarations in
     not_measured c.args.one.now (slice_get items (item_number items c.args.one.now.item))
-    (c.in-None.ensures.value ∙ placed_at items declarations.layout.items c.item_number.result c.requires.items
+    (c.in-None.ensures.value
+    ∙ placed_at items declarations.layout.items c.item_number.result declarations.declared.items
     ∙ ap (λ n. option_map placed_item (slice_get items n)) c.item_number.ensures)

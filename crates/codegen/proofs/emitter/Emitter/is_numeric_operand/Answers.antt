@@ -13,7 +13,7 @@ returns-in-Some c =
     c.is_number.ensures
     ∙ numeric_there items one c.in-Some.found.now
     (c.in-Some.ensures.value
-    ∙ placed_named items declarations.layout.items one.item c.item_number.result c.requires.items
+    ∙ placed_named items declarations.layout.items one.item c.item_number.result declarations.declared.items
     c.item_number.ensures)
     ∙ ap (λ a. is_numeric_operand items (operand_of a)) (sym c.in-Item.is)
 
@@ -24,6 +24,6 @@ returns-in-None c =
     let one = c.in-Item.reference.now in
     not_numeric items one
     (c.in-None.ensures.value
-    ∙ placed_named items declarations.layout.items one.item c.item_number.result c.requires.items
+    ∙ placed_named items declarations.layout.items one.item c.item_number.result declarations.declared.items
     c.item_number.ensures)
     ∙ ap (λ a. is_numeric_operand items (operand_of a)) (sym c.in-Item.is)

@@ -16,7 +16,7 @@ returns-in-Some c =
     ∙ ap (λ (l : List Dimension). not (is_some one.part) && length l == 0) c.as_slice.ensures
     ∙ hand_there items one c.in-Some.found.now
     (c.in-Some.ensures.value
-    ∙ placed_named items declarations.layout.items one.item c.item_number.result c.requires.items
+    ∙ placed_named items declarations.layout.items one.item c.item_number.result declarations.declared.items
     c.item_number.ensures)
     ∙ ap (λ a. is_operand_at_hand items (operand_of a)) (sym c.in-Item.is)
 
@@ -27,6 +27,6 @@ returns-in-None c =
     let one = c.in-Item.reference.now in
     not_at_hand items one
     (c.in-None.ensures.value
-    ∙ placed_named items declarations.layout.items one.item c.item_number.result c.requires.items
+    ∙ placed_named items declarations.layout.items one.item c.item_number.result declarations.declared.items
     c.item_number.ensures)
     ∙ ap (λ a. is_operand_at_hand items (operand_of a)) (sym c.in-Item.is)

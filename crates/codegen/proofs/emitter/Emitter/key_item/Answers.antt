@@ -6,26 +6,26 @@ pub returns-in-Some-clause-offset : goal.returns-in-Some-clause-offset
 returns-in-Some-clause-offset c =
     let declarations = c.args.self.now.declarations.now in
     key_offset (items_in declarations) c.args.one.now c.requires.named declarations.layout.items c.item_number.result
-    c.requires.declared.items c.item_number.ensures
+    declarations.declared.items c.item_number.ensures
     c.in-Some.found.now c.in-Some.ensures.value
 
 pub returns-in-Some-clause-length : goal.returns-in-Some-clause-length
 returns-in-Some-clause-length c =
     let declarations = c.args.self.now.declarations.now in
     key_bytes (items_in declarations) c.args.one.now c.requires.named declarations.layout.items c.item_number.result
-    c.requires.declared.items c.item_number.ensures
+    declarations.declared.items c.item_number.ensures
     c.in-Some.found.now c.in-Some.ensures.value
 
 pub returns-in-None-clause-offset : goal.returns-in-None-clause-offset
 returns-in-None-clause-offset c =
     let declarations = c.args.self.now.declarations.now in
     absurd (not_missing (items_in declarations) c.args.one.now c.requires.named declarations.layout.items
-    c.item_number.result c.requires.declared.items c.item_number.ensures
+    c.item_number.result declarations.declared.items c.item_number.ensures
     c.in-None.ensures.value)
 
 pub returns-in-None-clause-length : goal.returns-in-None-clause-length
 returns-in-None-clause-length c =
     let declarations = c.args.self.now.declarations.now in
     absurd (not_missing (items_in declarations) c.args.one.now c.requires.named declarations.layout.items
-    c.item_number.result c.requires.declared.items c.item_number.ensures
+    c.item_number.result declarations.declared.items c.item_number.ensures
     c.in-None.ensures.value)

@@ -6,11 +6,13 @@ use Rattle.declarations.specs.Named.{items_in, files_in}
 use Rattle.codegen.proofs.FilingKept.{read_key_names_one}
 use Rattle.codegen.proofs.emitter.Emitter.read_verb.Goals as goal
 
-pub key_item-item-requires-clause-named : goal.key_item-item-requires-clause-named
-key_item-item-requires-clause-named c =
+pub key_item-item-requires : goal.key_item-item-requires
+key_item-item-requires c =
     let items = items_in c.args.self.now.declarations.now in
     let files = files_in c.args.self.now.declarations.now in
     let file = file_in items c.args.file.now in
     let in_sequence = is_in_sequence file c.args.next in
-    read_key_names_one items files in_sequence file c.in-Some.key
-    (sym (ap (read_key_rules items files in_sequence file) c.in-Some.is) ∙ c.requires.rules)
+    record {
+      named = read_key_names_one items files in_sequence file c.in-Some.key
+          (sym (ap (read_key_rules items files in_sequence file) c.in-Some.is) ∙ c.requires.rules);
+    }

@@ -14,7 +14,8 @@ returns-in-Some c =
     let items = items_in declarations in
     c.scale_kept.ensures
     ∙ scale_there (slice_get items (item_number items c.args.name.now)) c.in-Some.found.now
-    (c.in-Some.ensures.value ∙ placed_at items declarations.layout.items c.item_number.result c.requires.items
+    (c.in-Some.ensures.value
+    ∙ placed_at items declarations.layout.items c.item_number.result declarations.declared.items
     ∙ ap (λ n. option_map placed_item (slice_get items n)) c.item_number.ensures)
 
 pub returns-in-None : goal.returns-in-None
@@ -22,5 +23,6 @@ returns-in-None c =
     let declarations = c.args.self.now.declarations.now in
     let items = items_in declarations in
     no_scale (slice_get items (item_number items c.args.name.now))
-    (c.in-None.ensures.value ∙ placed_at items declarations.layout.items c.item_number.result c.requires.items
+    (c.in-None.ensures.value
+    ∙ placed_at items declarations.layout.items c.item_number.result declarations.declared.items
     ∙ ap (λ n. option_map placed_item (slice_get items n)) c.item_number.ensures)

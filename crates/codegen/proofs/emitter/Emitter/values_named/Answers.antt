@@ -19,7 +19,7 @@ returns-in-Some c =
     let within : n < length all = omega (arith, lt, ap length c.deref.ensures.value) in
     let seen = c.in-Some.ensures.lookup in
     c.as_slice.ensures
-    ∙ values_there items all c.requires.conditions.found n one within
+    ∙ values_there items all declarations.declared.conditions.found n one within
     (seen.1 ∙ ap (λ (l : List DeclaredCondition). get_or l n one) c.deref.ensures.value)
     ∙ ap (λ m. values_of (slice_get (all_conditions items) m)) c.condition_number-number.ensures
 
@@ -31,5 +31,5 @@ returns-in-None c =
     let n = c.condition_number-number.result in
     let le : length c.deref.result.now ≤ n = grind (arith, common_steps) in
     let past : length all ≤ n = omega (arith, le, ap length c.deref.ensures.value) in
-    sym (no_values items all c.requires.conditions.found n past)
+    sym (no_values items all declarations.declared.conditions.found n past)
     ∙ ap (λ m. values_of (slice_get (all_conditions items) m)) c.condition_number-number.ensures

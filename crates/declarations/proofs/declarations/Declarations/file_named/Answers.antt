@@ -6,14 +6,16 @@ use Rattle.declarations.proofs.declarations.Declarations.file_named.Goals as goa
 
 pub returns-in-Some : goal.returns-in-Some
 returns-in-Some c =
-    let items = items_in c.args.self.now in
-    let program = data_in c.args.self.now in
+    let all = c.args.self.now in
+    let items = items_in all in
+    let program = data_in all in
     c.files_named_once.ensures items program c.args.name.now (file_in items c.in-Some.file.now)
-    (once items program c.requires.file_rules) (c.in-Some.ensures items program c.requires.files)
+    (once items program all.declared.file_rules) (c.in-Some.ensures items program all.declared.files)
 
 pub returns-in-None : goal.returns-in-None
 returns-in-None c =
-    let items = items_in c.args.self.now in
-    let program = data_in c.args.self.now in
+    let all = c.args.self.now in
+    let items = items_in all in
+    let program = data_in all in
     let found = files_named (files_of items program) c.args.name.now in
-    unnamed_none c.args.name.now.place found (none_first found (c.in-None.ensures items program c.requires.files))
+    unnamed_none c.args.name.now.place found (none_first found (c.in-None.ensures items program all.declared.files))

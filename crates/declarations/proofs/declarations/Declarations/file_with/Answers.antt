@@ -15,7 +15,7 @@ returns-in-None c =
     let items = items_in all in
     let files = c.deref-file-items.result.now in
     unnamed_none c.args.place (tree.files_with (tree.files_of items (data_in all)) c.args.area)
-    (of_program items (data_in all) all.files.files.items files c.args.area _ c.requires.files.files
+    (of_program items (data_in all) all.files.files.items files c.args.area _ all.declared.files.files
     c.deref-file-items.ensures.value
     (c.loop-file.invariant.same
     ∙ ap (λ (l : List ProgramFile). listed items c.args.area c.loop-file.found
@@ -27,6 +27,6 @@ pub returns-in-Some : goal.returns-in-Some
 returns-in-Some c =
     let all = c.args.self.now in
     second_in_area (items_in all) (data_in all) all.files.files.items c.deref-file-items.result.now c.args.area
-    c.loop-file.file-index c.args.place c.loop-file.found c.in-Some.field-0 c.file-item.result c.requires.files.files
+    c.loop-file.file-index c.args.place c.loop-file.found c.in-Some.field-0 c.file-item.result all.declared.files.files
     c.deref-file-items.ensures.value c.loop-file.invariant c.in-Some.is c.loop-file-test.true c.file-item.is
     c.if-file-area.true

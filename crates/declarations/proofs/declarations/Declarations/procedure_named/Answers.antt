@@ -9,8 +9,9 @@ use Rattle.declarations.proofs.declarations.Declarations.procedure_named.Goals a
 
 pub returns-in-None-clause-rules : goal.returns-in-None-clause-rules
 returns-in-None-clause-rules c =
-    let procedures = procedures_in c.args.self.now in
+    let all = c.args.self.now in
+    let procedures = procedures_in all in
     let name = c.args.name.now in
-    let none : range_named procedures name ≡ None = sym (c.in-None.ensures procedures c.requires.procedures) in
+    let none : range_named procedures name ≡ None = sym (c.in-None.ensures procedures all.declared.procedures) in
     ap (λ (l : List Procedure). first (unique_name_rules name.place no_rules l))
-    (not_given procedures c.args.self.now.procedures name c.requires.procedures none)
+    (not_given procedures all.procedures name all.declared.procedures none)

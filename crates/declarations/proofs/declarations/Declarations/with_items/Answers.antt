@@ -3,7 +3,7 @@ use Rattle.std.proofs.lemmas.Result.{err_from_is_err_and}
 use Rattle.source_tree.specs.declared.program.Section.{Section}
 use Rattle.source_tree.specs.Procedures.{procedures_of}
 use Rattle.name_table.specs.Procedures.{AreProcedures}
-use Rattle.declarations.proofs.Declared.{declared_by}
+use Rattle.declarations.proofs.Declared.{declared_by, same_data}
 use Rattle.declarations.proofs.declarations.Declarations.with_items.Goals as goal
 
 pub returns-clause-program : goal.returns-clause-program
@@ -14,17 +14,19 @@ returns-clause-program c = record {
   procedures = c.in_ok-procedure_list.ensures ∙ ap procedures_of c.as_slice-sections.ensures;
 }
 
-pub returns-clause-declared : goal.returns-clause-declared
-returns-clause-declared c =
-    declared_by c.args.items.program.now _ (record {
-      selects = c.as_slice-selects.ensures;
-      descriptions = c.as_slice-descriptions.ensures;
-      storage = c.as_slice-storage.ensures;
-      procedures = c.in_ok-procedure_list.ensures ∙ ap procedures_of c.as_slice-sections.ensures;
-    }) c.requires.declared.table c.requires.declared.calls c.requires.declared.items c.in_ok-conditions.ensures
-    c.in_ok-files.ensures c.requires.files
-    (subst (λ (l : List Section). AreProcedures (procedures_of l) c.in_ok-procedures.procedures)
-    c.as_slice-sections.ensures c.in_ok-procedures.ensures.procedures)
+pub invariant_of-result : goal.invariant_of-result
+invariant_of-result c =
+    let same = same_data c.args.items.program.now _ _ _ c.as_slice-selects.ensures c.as_slice-descriptions.ensures
+    c.as_slice-storage.ensures in
+    let given = c.requires.declared in record {
+      declared = declared_by c.args.items.program.now _ c.args.items.names c.args.items.layout
+          c.in_ok-conditions.conditions c.in_ok-files.files c.in_ok-procedure_list.procedure_list.items
+          c.in_ok-procedures.procedures same
+          (c.in_ok-procedure_list.ensures ∙ ap procedures_of c.as_slice-sections.ensures)
+          given.table given.calls given.items c.in_ok-conditions.ensures c.in_ok-files.ensures c.requires.files
+          (subst (λ (l : List Section). AreProcedures (procedures_of l) c.in_ok-procedures.procedures)
+          c.as_slice-sections.ensures c.in_ok-procedures.ensures.procedures);
+    }
 
 pub returns-in_err-procedure_list-clause-names : goal.returns-in_err-procedure_list-clause-names
 returns-in_err-procedure_list-clause-names c =
