@@ -1,6 +1,6 @@
 -- What follows where a character begins no fit.
 use Rattle.std.proofs.Common.{◌≡◌, ◌&&◌, leb, eqb, nat_eq, ℕ, zero, suc, ◌+◌, ◌<◌, ◌≤◌, Bool, true, false, List, []}
-use Rattle.std.proofs.Common.{◌∷◌, length, drop, length-drop, drop-drop, get_or, set, refl, ap, sym, subst, ◌∙◌, arith}
+use Rattle.std.proofs.Common.{◌∷◌, length, drop, length-drop, get_or, set, refl, ap, sym, subst, ◌∙◌, arith}
 use Rattle.std.proofs.Common.{inl, inr}
 use Rattle.std.specs.Prelude.{Some, None, replicate, if◌then◌else◌}
 use Rattle.std.specs.Option.{option_map}
@@ -14,11 +14,10 @@ use Rattle.text_ops.specs.declared.entry.Span.{Span}
 use Rattle.text_ops.specs.declared.entry.Entry.{Entry}
 use Rattle.text_ops.specs.declared.entry.Fit.{Fit}
 use Rattle.text_ops.specs.declared.entry.Fit.TheVariants as f
-use Rattle.text_ops.specs.Walk.{fits_at, fits, later, first_fit}
+use Rattle.text_ops.specs.Walk.{fits_at, fits, later, first_fit, FitsNone}
 use Rattle.text_ops.specs.Beginnings.{text_of, Skips, AreMarked, entries_on}
 use Rattle.text_ops.specs.declared.progress.Progress.{Progress}
 use Rattle.text_ops.specs.declared.progress.Fitted.{Fitted}
-use Rattle.text_ops.proofs.Walks.{Goes, goes_on}
 
 -- where no entry fits, none is the first that does
 pub none_fits : (texts : List ℕ) (marks : List Bool) (active : List Progress) (at : ℕ) (rest : List ℕ)
@@ -123,29 +122,27 @@ own_skips texts marks entry text first is some front = λ p at rest same more un
     let bound = leb (at + fit_length p.entry.fit) p.limit in
     ap (λ (b : Bool). bound && b) (stands_not texts p p.entry.fit at rest text looks not) ∙ and-false bound
 
--- a walk passes over characters that aren't marked
-pub past_unmarked : (texts : List ℕ) (marks : List Bool) (active : List Progress) (at n : ℕ) (subject rest : List ℕ)
-    (all : List Fitted) → Goes texts active at (drop at subject) all → rest ≡ drop at subject → n ≤ length rest
-    → AreMarked texts marks active
+-- no entry fits at characters that aren't marked
+pub none_unmarked : (texts : List ℕ) (marks : List Bool) (active : List Progress) (at n : ℕ) (rest : List ℕ)
+    → AreMarked texts marks active → n ≤ length rest
     → ((k : ℕ) → k < n → get_or marks (get_or rest k 0) true ≡ false)
-    → Goes texts active (at + n) (drop (at + n) subject) all
-past_unmarked texts marks active at zero subject rest all goes is low are un =
-    let same : at + 0 ≡ at = omega arith in
-    subst (λ (place : ℕ). Goes texts active place (drop place subject) all) (sym same) goes
-past_unmarked texts marks active at (suc n) subject rest all goes is low are un =
-    let before =
-    past_unmarked texts marks active at n subject rest all goes is (omega arith) are (λ k h. un k (omega arith)) in
-    let place = at + n in
-    let long : length rest ≡ length (drop at subject) = ap length is in
-    let some : 1 ≤ length (drop place subject) =
-    omega (arith, length-drop place subject, length-drop at subject, long) in
-    let first : get_or (drop place subject) 0 0 ≡ get_or rest n 0 =
-    get_or-drop place subject 0 0 ∙ ap (λ (k : ℕ). get_or subject k 0) (let e : place + 0 ≡ at + n = omega arith in e)
-    ∙ sym (get_or-drop at subject n 0) ∙ ap (λ (xs : List ℕ). get_or xs n 0) (sym is) in
-    let none = none_fits texts marks active place (drop place subject) are some
-    (ap (λ (c : ℕ). get_or marks c true) first ∙ un n (omega arith)) in
-    let next : Goes texts active (place + 1) (drop (place + 1) subject) all =
-    subst (λ (xs : List ℕ). Goes texts active (place + 1) xs all) (drop-drop 1 place subject)
-    (goes_on texts active place (drop place subject) all before some none) in
-    let same : place + 1 ≡ at + suc n = omega arith in
-    subst (λ (k : ℕ). Goes texts active k (drop k subject) all) same next
+    → (k : ℕ) → k < n → first_fit texts active (at + k) (drop k rest) ≡ None
+none_unmarked texts marks active at n rest are low un k lt =
+    let some : 1 ≤ length (drop k rest) = omega (arith, length-drop k rest) in
+    let first : get_or (drop k rest) 0 0 ≡ get_or rest k 0 =
+    get_or-drop k rest 0 0 ∙ ap (λ (j : ℕ). get_or rest j 0) (let e : k + 0 ≡ k = omega arith in e) in
+    none_fits texts marks active (at + k) (drop k rest) are some
+    (ap (λ (c : ℕ). get_or marks c true) first ∙ un k lt)
+
+-- the first of them
+pub none_here : (texts : List ℕ) (active : List Progress) (at : ℕ) (rest : List ℕ)
+    → None ≡ first_fit texts active at rest → 1 ≤ length rest → FitsNone texts active at rest 1
+none_here texts active at rest none some = record {
+  some = omega arith;
+  within = some;
+  none = λ k lt.
+      let zero-th : k ≡ 0 = omega arith in
+      subst (λ (j : ℕ). first_fit texts active (at + j) (drop j rest) ≡ None) (sym zero-th)
+      (let same : at + 0 ≡ at = omega arith in
+      ap (λ (place : ℕ). first_fit texts active place rest) same ∙ sym none);
+}

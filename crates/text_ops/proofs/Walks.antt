@@ -14,7 +14,7 @@ use Rattle.text_ops.specs.declared.entry.Entry.{Entry}
 use Rattle.text_ops.specs.declared.entry.Fit.{Fit}
 use Rattle.text_ops.specs.declared.entry.Fit.TheVariants as f
 use Rattle.text_ops.specs.Walk.{initial_progress, fits_at, fits, progress_after, later, first_fit, walk_after, size_of}
-use Rattle.text_ops.specs.Walk.{walk_on, walk, AreActive, IsFitted}
+use Rattle.text_ops.specs.Walk.{walk_on, walk, AreActive, IsFitted, FitsNone}
 use Rattle.text_ops.specs.declared.progress.Progress.{Progress}
 use Rattle.text_ops.specs.declared.progress.Fitted.{Fitted}
 
@@ -226,14 +226,31 @@ past_fit texts active new at size subject rest all fitted goes h rest-is first s
     let R : List ℕ → Type 0 = λ xs. Goes texts (walk_after active (Some fitted)) (at + size_of fitted) xs past.0 in
     (past.0, past.1, subst P (sym new-is) (subst Q (sym size-is) (subst R further past.2)))
 
-pub past_place : (texts : List ℕ) (active new : List Progress) (at : ℕ) (subject rest : List ℕ) (all : List Fitted)
-    → Goes texts active at (drop at subject) all → at < length subject
-    → rest ≡ drop at subject → None ≡ first_fit texts active at rest → new ≡ walk_after active None
-    → Goes texts new (at + 1) (drop (at + 1) subject) all
-past_place texts active new at subject rest all goes h rest-is first new-is =
-    let left = drop at subject in
-    let some-left : 1 ≤ length left = omega (arith, length-drop at subject) in
-    let none : first_fit texts active at left ≡ None = ap (first_fit texts active at) (sym rest-is) ∙ sym first in
-    let P : List Progress → Type 0 = λ xs. Goes texts xs (at + 1) (drop (at + 1) subject) all in
-    let R : List ℕ → Type 0 = λ xs. Goes texts active (at + 1) xs all in
-    subst P (sym new-is) (subst R (drop-drop 1 at subject) (goes_on texts active at left all goes some-left none))
+pub past_none : (texts : List ℕ) (active : List Progress) (at n : ℕ) (subject rest : List ℕ) (all : List Fitted)
+    → Goes texts active at (drop at subject) all → rest ≡ drop at subject → n ≤ length rest
+    → ((k : ℕ) → k < n → first_fit texts active (at + k) (drop k rest) ≡ None)
+    → Goes texts active (at + n) (drop (at + n) subject) all
+past_none texts active at zero subject rest all goes is low none =
+    let same : at + 0 ≡ at = omega arith in
+    subst (λ (place : ℕ). Goes texts active place (drop place subject) all) (sym same) goes
+past_none texts active at (suc n) subject rest all goes is low none =
+    let before = past_none texts active at n subject rest all goes is (omega arith) (λ k h. none k (omega arith)) in
+    let place = at + n in
+    let long : length rest ≡ length (drop at subject) = ap length is in
+    let some : 1 ≤ length (drop place subject) =
+    omega (arith, length-drop place subject, length-drop at subject, long) in
+    let same-rest : drop n rest ≡ drop place subject = ap (drop n) is ∙ drop-drop n at subject in
+    let here : first_fit texts active place (drop place subject) ≡ None =
+    ap (first_fit texts active place) (sym same-rest) ∙ none n (omega arith) in
+    let next : Goes texts active (place + 1) (drop (place + 1) subject) all =
+    subst (λ (xs : List ℕ). Goes texts active (place + 1) xs all) (drop-drop 1 place subject)
+    (goes_on texts active place (drop place subject) all before some here) in
+    let same : place + 1 ≡ at + suc n = omega arith in
+    subst (λ (k : ℕ). Goes texts active k (drop k subject) all) same next
+
+pub past_places : (texts : List ℕ) (active new : List Progress) (at n : ℕ) (subject rest : List ℕ) (all : List Fitted)
+    → Goes texts active at (drop at subject) all → rest ≡ drop at subject → FitsNone texts active at rest n
+    → new ≡ active → Goes texts new (at + n) (drop (at + n) subject) all
+past_places texts active new at n subject rest all goes is none same =
+    let P : List Progress → Type 0 = λ xs. Goes texts xs (at + n) (drop (at + n) subject) all in
+    subst P (sym same) (past_none texts active at n subject rest all goes is none.within none.none)

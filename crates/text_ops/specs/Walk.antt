@@ -104,3 +104,9 @@ pub record IsFitted (size : ℕ) (count : ℕ) (place : ℕ) (room : ℕ) (fitte
   pub at : fitted.at ≡ place
   pub some : 1 ≤ size_of fitted
   pub within : size_of fitted ≤ room
+
+-- No entry fits at any of so many places from this one on, where the subject goes on as `rest`.
+pub record FitsNone (texts : List ℕ) (active : List Progress) (at : ℕ) (rest : List ℕ) (count : ℕ) : Type 0 where
+  pub some : 1 ≤ count
+  pub within : count ≤ length rest
+  pub none : (k : ℕ) → k < count → first_fit texts active (at + k) (drop k rest) ≡ None

@@ -9,7 +9,7 @@ use crate::entry::Entry;
 use crate::progress::Progress;
 
 /// How many characters there are.
-const CHARACTERS: usize = 256;
+pub const CHARACTERS: usize = 256;
 
 /// Marks the characters that a fit of some of these entries may begin with.
 pub fn beginnings(texts: &[u8], active: &[Progress]) -> [bool; CHARACTERS]

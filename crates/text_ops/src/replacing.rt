@@ -5,9 +5,10 @@ ghost use Rattle.text_ops.specs.Entries.{AreWithin, IsEntry, fit_length};
 ghost use Rattle.text_ops.specs.Walk.{AreActive, walk};
 ghost use Rattle.text_ops.specs.Inspect as spec;
 
-use crate::beginnings::{beginnings, unmarked};
+use crate::beginnings::beginnings;
 use crate::entry::Entry;
-use crate::progress::{Progress, begin, step};
+use crate::front::fit_at_front;
+use crate::progress::{Progress, begin};
 
 /// Replaces each fit of an entry by its text (COBOL-85, Nucleus, the INSPECT statement with REPLACING). The entries' texts are
 /// spans of `texts`; `room` is used up.
@@ -46,18 +47,13 @@ fn replace_fits(texts: &[u8], active: &mut [Progress], subject: &mut [u8])
     let mut at = 0;
     while at < subject.len() {
         let (_, rest) = subject.split_at(at);
-        let passed = unmarked(&marks, rest);
-        if passed > 0 {
-            at += passed;
-            continue;
-        }
-        match step(texts, active, at, rest) {
-            Some(fitted) => {
+        match fit_at_front(texts, &marks, active, at, rest) {
+            Ok(fitted) => {
                 let entry = fitted.progress.entry;
                 put_replacement(texts, entry, at, subject);
                 at += entry.fit.size();
             }
-            None => at += 1,
+            Err(passed) => at += passed,
         }
     }
 }

@@ -5,9 +5,10 @@ ghost use Rattle.text_ops.specs.Entries.{AreWithin};
 ghost use Rattle.text_ops.specs.Walk.{AreActive, walk};
 ghost use Rattle.text_ops.specs.Inspect as spec;
 
-use crate::beginnings::{beginnings, unmarked};
+use crate::beginnings::beginnings;
 use crate::entry::Entry;
-use crate::progress::{Progress, begin, step};
+use crate::front::fit_at_front;
+use crate::progress::{Progress, begin};
 
 /// Writes how often each entry fits (COBOL-85, Nucleus, the INSPECT statement with TALLYING). The entries' texts are spans of
 /// `texts`; `room` is used up.
@@ -44,17 +45,12 @@ fn count_fits(texts: &[u8], active: &mut [Progress], subject: &[u8], counts: &mu
     let mut at = 0;
     while at < subject.len() {
         let (_, rest) = subject.split_at(at);
-        let passed = unmarked(&marks, rest);
-        if passed > 0 {
-            at += passed;
-            continue;
-        }
-        match step(texts, active, at, rest) {
-            Some(fitted) => {
+        match fit_at_front(texts, &marks, active, at, rest) {
+            Ok(fitted) => {
                 counts[fitted.number] += 1;
                 at += fitted.progress.entry.fit.size();
             }
-            None => at += 1,
+            Err(passed) => at += passed,
         }
     }
 }

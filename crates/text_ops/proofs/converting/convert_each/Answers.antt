@@ -1,4 +1,4 @@
-use Rattle.std.proofs.Common.{◌∙◌, ap, arith, drop, get_or, map, set, sym, take, ◌+◌, ◌++◌}
+use Rattle.std.proofs.Common.{◌∙◌, ap, arith, drop, map, set, sym, take, ◌+◌, ◌++◌}
 use Rattle.std.proofs.lemmas.List.{length-set}
 use Rattle.text_ops.proofs.Conversions.{turn, through}
 use Rattle.text_ops.proofs.converting.convert_each.Goals as goal

@@ -1,6 +1,6 @@
-use Rattle.std.proofs.Common.{refl, arith}
-use Rattle.text_ops.proofs.Marking.{still_marked, past_unmarked}
-use Rattle.text_ops.proofs.Walks.{past_place}
+use Rattle.std.proofs.Common.{length, ap, arith}
+use Rattle.text_ops.proofs.Marking.{still_marked}
+use Rattle.text_ops.proofs.Walks.{past_places}
 use Rattle.text_ops.proofs.Counts.{tally_begun, tally_fit, tally_later, tally_ended}
 use Rattle.text_ops.proofs.tallying.count_fits.Goals as goal
 
@@ -13,42 +13,30 @@ loop-at-init c = record {
       c.requires.zero;
 }
 
-pub loop-at-preserved-then-passed-gt0 : goal.loop-at-preserved-then-passed-gt0
-loop-at-preserved-then-passed-gt0 c =
+pub loop-at-preserved-in-Ok : goal.loop-at-preserved-in-Ok
+loop-at-preserved-in-Ok c =
     let inv = c.loop-at.invariant in
-    record {
-      bound = omega (arith, c.unmarked-passed.ensures.within, c.split_at.ensures.back_len);
-      within = inv.within;
-      marked = inv.marked;
-      tally = tally_later _ c.loop-at.active c.loop-at.active c.loop-at.at _ c.args.subject.now _ _ inv.tally
-          (omega arith) refl (past_unmarked _ _ c.loop-at.active c.loop-at.at c.unmarked-passed.result
-          c.args.subject.now _ inv.tally.all inv.tally.goes c.split_at.ensures.back c.unmarked-passed.ensures.within
-          inv.marked c.unmarked-passed.ensures.unmarked);
-    }
-
-pub loop-at-preserved-in-Some : goal.loop-at-preserved-in-Some
-loop-at-preserved-in-Some c =
-    let inv = c.loop-at.invariant in
-    let is = c.in-Some.ensures.fitted in
+    let is = c.in-Ok.ensures.fitted in
     record {
       bound = omega (arith, is.within, c.size-at.ensures, c.split_at.ensures.back_len);
-      within = c.in-Some.ensures.within;
-      marked = still_marked _ _ c.loop-at.active _ c.in-Some.ensures.entries inv.marked;
-      tally = tally_fit c.args.texts.now c.loop-at.active c.step.new.active c.loop-at.at c.size-at.result
-          c.args.subject.now _ c.loop-at.counts _ c.in-Some.fitted c.loop-at-test.true c.split_at.ensures.back
-          c.in-Some.ensures.fit c.in-Some.ensures.after c.size-at.ensures is (omega arith) inv.tally;
+      within = c.in-Ok.ensures.within;
+      marked = still_marked _ _ c.loop-at.active _ c.in-Ok.ensures.entries inv.marked;
+      tally = tally_fit c.args.texts.now c.loop-at.active c.fit_at_front.new.active c.loop-at.at c.size-at.result
+          c.args.subject.now _ c.loop-at.counts _ c.in-Ok.fitted c.loop-at-test.true c.split_at.ensures.back
+          c.in-Ok.ensures.fit c.in-Ok.ensures.after c.size-at.ensures is (omega arith) inv.tally;
     }
 
 pub loop-at-preserved : goal.loop-at-preserved
 loop-at-preserved c =
     let inv = c.loop-at.invariant in
+    let none = c.in-Err.ensures.none in
     record {
-      bound = omega arith;
-      within = c.step.ensures.within;
-      marked = still_marked _ _ c.loop-at.active _ c.step.ensures.entries inv.marked;
-      tally = tally_later _ c.loop-at.active c.step.new.active c.loop-at.at _ c.args.subject.now _ _ inv.tally
-          (omega arith) (omega arith) (past_place _ c.loop-at.active _ c.loop-at.at c.args.subject.now _ inv.tally.all
-          inv.tally.goes c.loop-at-test.true c.split_at.ensures.back c.in-None.ensures.fit c.in-None.ensures.after);
+      bound = omega (arith, none.within, c.split_at.ensures.back_len);
+      within = c.in-Err.ensures.within;
+      marked = still_marked _ _ c.loop-at.active _ c.in-Err.ensures.entries inv.marked;
+      tally = tally_later _ c.loop-at.active c.fit_at_front.new.active c.loop-at.at _ c.args.subject.now _ _ inv.tally
+          (omega arith) (ap length c.in-Err.ensures.same) (past_places _ c.loop-at.active _ c.loop-at.at _
+          c.args.subject.now _ inv.tally.all inv.tally.goes c.split_at.ensures.back none c.in-Err.ensures.same);
     }
 
 pub returns : goal.returns
