@@ -12,6 +12,8 @@ CYCLE = re.compile(r"\s*#\[cycle\((\w+)\)\]")
 LACKING = re.compile(r"has no field|is not a field of|is not in scope|has no `|was not admitted|is no name|no such|record `[^`]+` \(nearest: ")
 # A message's further lines begin with a blank.
 FURTHER = re.compile(r"\n[ \t]+(?=\S)")
+# What a check says of an open goal: of a clause, or of an invariant, of which it has no text.
+OPEN = re.compile(r"note: (src/\S+?):(\d+):\d+: (?:it is not proved that|`search` found no proof) .*?(\(`([^`]+)`\)|$)(.*)")
 LIMIT = re.compile(r"antt ran out of|outgrew the memory limit|stopped at the step limit")
 
 # A function: the file and lines that it takes, the type and trait of its impl if it is a method, and its text.
@@ -209,7 +211,7 @@ def first_error(text):
 
 def goals_in(edit, line):
     """The goals of the wrong body's own functions that a line says are open or false."""
-    if match := re.match(r"note: (src/\S+?):(\d+):\d+: it is not proved that .*?(\(`([^`]+)`\)|$)(.*)", line):
+    if match := OPEN.match(line):
         if has_line(edit, match[1], int(match[2])):
             return [f"{place_of(edit, match)}: {match[4] or 'a goal'}{' is false' if 'is false' in match[5] else ' is open'}"]
     elif match := re.match(r"note: `([^`]+)` of (proofs/\S+?) may be false", line):
