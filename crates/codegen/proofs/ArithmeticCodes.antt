@@ -41,17 +41,19 @@ use Rattle.data_instructions.specs.ArithmeticCodes.{IsValueCode, AreAddedCode, I
 use Rattle.data_instructions.specs.ArithmeticCodes.{AreUpdatesCode, IsGiveCode, AreGivesCode, IsRemainderCode}
 use Rattle.data_instructions.specs.ArithmeticCodes.{IsDivisionCode, IsOperationCode, IsArithmeticCode}
 use Rattle.code_image.specs.declared.code.Code.{Code}
-use Rattle.codegen.specs.Fragments.{Fragment, sequence, in_order}
-use Rattle.codegen.specs.DataCode.{item_number, works_fragment, take_fragment}
-use Rattle.codegen.specs.ArithmeticCode.{zero_number, receiver_scale, scale_of_item, division_fragment, void_code}
-use Rattle.codegen.specs.ArithmeticCode.{value_fragment, added_fragment, total_fragment, expression_fragment}
-use Rattle.codegen.specs.ArithmeticCode.{quotient_scale, store_fragment, update_fragment, updates_fragment}
-use Rattle.codegen.specs.ArithmeticCode.{give_fragment, gives_fragment, remainder_fragment, operation_fragment}
-use Rattle.codegen.specs.ArithmeticCode.{arithmetic_fragment}
-use Rattle.codegen.proofs.Codes.{left_none, right_none, item_there, keeps, Coded}
+use Rattle.condition_codegen.specs.Fragments.{Fragment, sequence, in_order}
+use Rattle.condition_codegen.specs.DataCode.{item_number, works_fragment, take_fragment}
+use Rattle.condition_codegen.specs.ArithmeticCode.{zero_number, receiver_scale, scale_of_item, division_fragment}
+use Rattle.condition_codegen.specs.ArithmeticCode.{void_code, value_fragment, added_fragment, total_fragment}
+use Rattle.condition_codegen.specs.ArithmeticCode.{expression_fragment, quotient_scale, store_fragment, update_fragment}
+use Rattle.condition_codegen.specs.ArithmeticCode.{updates_fragment, give_fragment, gives_fragment, remainder_fragment}
+use Rattle.condition_codegen.specs.ArithmeticCode.{operation_fragment, arithmetic_fragment}
+use Rattle.condition_codegen.proofs.Lists.{left_none, right_none}
+use Rattle.statement_codegen.proofs.NamedItems.{item_there}
+use Rattle.codegen.proofs.Codes.{keeps, Coded}
 use Rattle.codegen.proofs.CodedPieces.{CodedBy, weaker_by, both_by, before_by, behind_by}
 use Rattle.codegen.proofs.ExpressionCodes.{number_codes, taking_codes, value_codes, expression_codes}
-use Rattle.codegen.proofs.Integers.{kept, not_false}
+use Rattle.condition_codegen.proofs.Integers.{kept, not_false}
 use Rattle.codegen.proofs.Standing.{Stands}
 
 -- A numeric item, or an edited one with its picture, receives numbers.

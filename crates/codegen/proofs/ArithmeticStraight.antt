@@ -21,13 +21,14 @@ use Rattle.data_instructions.specs.declared.calculation.Calculation.TheVariants 
 use Rattle.data_instructions.specs.declared.instruction.DataInstruction.{DataInstruction}
 use Rattle.data_instructions.specs.declared.instruction.DataInstruction.TheVariants as i
 use Rattle.data_instructions.specs.ArithmeticCodes.{operator_code, duplicate, discard}
-use Rattle.codegen.specs.Fragments.{Fragment, sequence, in_order}
-use Rattle.codegen.specs.DataCode.{work_fragment, works_fragment, take_fragment}
-use Rattle.codegen.specs.ArithmeticCode.{zero_number, or_zero, division_fragment, void_code, value_fragment}
-use Rattle.codegen.specs.ArithmeticCode.{added_fragment, total_fragment, chain_fragment, expression_layer_fragment}
-use Rattle.codegen.specs.ArithmeticCode.{expression_fragment, quotient_scale, store_fragment, update_fragment}
-use Rattle.codegen.specs.ArithmeticCode.{updates_fragment, give_fragment, gives_fragment, remainder_fragment}
-use Rattle.codegen.specs.ArithmeticCode.{operation_fragment, arithmetic_fragment}
+use Rattle.condition_codegen.specs.Fragments.{Fragment, sequence, in_order}
+use Rattle.condition_codegen.specs.DataCode.{work_fragment, works_fragment, take_fragment}
+use Rattle.condition_codegen.specs.ArithmeticCode.{zero_number, or_zero, division_fragment, void_code, value_fragment}
+use Rattle.condition_codegen.specs.ArithmeticCode.{added_fragment, total_fragment, chain_fragment}
+use Rattle.condition_codegen.specs.ArithmeticCode.{expression_layer_fragment, expression_fragment, quotient_scale}
+use Rattle.condition_codegen.specs.ArithmeticCode.{store_fragment, update_fragment, updates_fragment, give_fragment}
+use Rattle.condition_codegen.specs.ArithmeticCode.{gives_fragment, remainder_fragment, operation_fragment}
+use Rattle.condition_codegen.specs.ArithmeticCode.{arithmetic_fragment}
 use Rattle.codegen.proofs.ExpressionLayers.{mapped_piece}
 use Rattle.codegen.proofs.Straight.{AlwaysStraight, both_straight, in_order_straight, nothing_straight, works_straight}
 use Rattle.codegen.proofs.Straight.{work_straight, number_straight, taking_straight}

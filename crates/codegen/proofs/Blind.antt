@@ -43,18 +43,18 @@ use Rattle.data_instructions.specs.TextCodes.{new_byte, new_mark}
 use Rattle.data_instructions.specs.InspectCodes.{gather_by, taken_numbers, inspect_by, convert_by}
 use Rattle.code_image.specs.declared.code.Code.{Code}
 use Rattle.code_image.specs.declared.instruction.Instruction.TheVariants as instruction
-use Rattle.codegen.specs.Fragments.{Fragment, no_tables, empty_code, joined_tables, append, sequence, in_order}
-use Rattle.codegen.specs.Fragments.{plain_code}
-use Rattle.codegen.specs.DataCode.{item_number, item_index, dimensions_of, work_fragment, works_fragment}
-use Rattle.codegen.specs.DataCode.{number_fragment, integer_fragment, adjustment_fragment, text_fragment, literal_entry}
-use Rattle.codegen.specs.DataCode.{literal_fragment, line_end_fragment, show_fragment, subscript_fragment}
-use Rattle.codegen.specs.DataCode.{subscripts_fragment, reference_fragment, take_fragment, sender_fragment}
-use Rattle.codegen.specs.DataCode.{receivers_fragment, operand_fragment, operands_fragment, entry_fragment}
-use Rattle.codegen.specs.DataCode.{place_fragment, unknown_fragment, making_fragment}
-use Rattle.codegen.specs.ConditionCode.{condition_number, condition_item}
-use Rattle.codegen.specs.PatternCode.{overlay_fragment, pattern_fragment, pattern_of, set_of, initialize_fragment}
-use Rattle.codegen.specs.PatternCode.{set_fragment}
-use Rattle.codegen.specs.InspectCode.{inspecting_fragment, inspection_entry, taken_fragment, takings_fragment}
+use Rattle.condition_codegen.specs.Fragments.{Fragment, no_tables, empty_code, joined_tables, append, sequence}
+use Rattle.condition_codegen.specs.Fragments.{in_order, plain_code}
+use Rattle.condition_codegen.specs.DataCode.{item_number, item_index, dimensions_of, work_fragment, works_fragment}
+use Rattle.condition_codegen.specs.DataCode.{number_fragment, integer_fragment, adjustment_fragment, text_fragment}
+use Rattle.condition_codegen.specs.DataCode.{literal_entry, literal_fragment, line_end_fragment, show_fragment}
+use Rattle.condition_codegen.specs.DataCode.{subscript_fragment, subscripts_fragment, reference_fragment, take_fragment}
+use Rattle.condition_codegen.specs.DataCode.{sender_fragment, receivers_fragment, operand_fragment, operands_fragment}
+use Rattle.condition_codegen.specs.DataCode.{entry_fragment, place_fragment, unknown_fragment, making_fragment}
+use Rattle.condition_codegen.specs.ConditionCode.{condition_number, condition_item}
+use Rattle.condition_codegen.specs.PatternCode.{overlay_fragment, pattern_fragment, pattern_of, set_of}
+use Rattle.condition_codegen.specs.PatternCode.{initialize_fragment, set_fragment}
+use Rattle.statement_codegen.specs.InspectCode.{inspecting_fragment, inspection_entry, taken_fragment, takings_fragment}
 use Rattle.codegen.specs.Layout.{data_fragment, texts_fragment}
 
 -- Two codes that no piece tells apart: the same tables, and as many instructions.

@@ -22,13 +22,14 @@ use Rattle.data_instructions.specs.declared.calculation.Calculation.TheVariants 
 use Rattle.data_instructions.specs.declared.instruction.DataInstruction.{DataInstruction}
 use Rattle.data_instructions.specs.declared.instruction.DataInstruction.TheVariants as i
 use Rattle.data_instructions.specs.ArithmeticCodes.{operator_code, duplicate, discard}
-use Rattle.codegen.specs.Fragments.{Fragment, sequence, in_order}
-use Rattle.codegen.specs.DataCode.{work_fragment, works_fragment, take_fragment}
-use Rattle.codegen.specs.ArithmeticCode.{zero_number, or_zero, division_fragment, void_code, value_fragment}
-use Rattle.codegen.specs.ArithmeticCode.{added_fragment, total_fragment, chain_fragment, expression_layer_fragment}
-use Rattle.codegen.specs.ArithmeticCode.{expression_fragment, quotient_scale, store_fragment, update_fragment}
-use Rattle.codegen.specs.ArithmeticCode.{updates_fragment, give_fragment, gives_fragment, remainder_fragment}
-use Rattle.codegen.specs.ArithmeticCode.{discard_fragment, operation_fragment, arithmetic_fragment}
+use Rattle.condition_codegen.specs.Fragments.{Fragment, sequence, in_order}
+use Rattle.condition_codegen.specs.DataCode.{work_fragment, works_fragment, take_fragment}
+use Rattle.condition_codegen.specs.ArithmeticCode.{zero_number, or_zero, division_fragment, void_code, value_fragment}
+use Rattle.condition_codegen.specs.ArithmeticCode.{added_fragment, total_fragment, chain_fragment}
+use Rattle.condition_codegen.specs.ArithmeticCode.{expression_layer_fragment, expression_fragment, quotient_scale}
+use Rattle.condition_codegen.specs.ArithmeticCode.{store_fragment, update_fragment, updates_fragment, give_fragment}
+use Rattle.condition_codegen.specs.ArithmeticCode.{gives_fragment, remainder_fragment, discard_fragment}
+use Rattle.condition_codegen.specs.ArithmeticCode.{operation_fragment, arithmetic_fragment}
 use Rattle.codegen.proofs.Blind.{Blind, both_blind, in_order_blind, work_blind, works_blind, number_blind, taking_blind}
 
 division_blind : (order : DivisionOrder) (inner : Fragment) → Blind inner → Blind (division_fragment order inner)

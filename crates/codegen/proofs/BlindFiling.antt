@@ -21,11 +21,11 @@ use Rattle.data_instructions.specs.declared.instruction.DataInstruction.TheVaria
 use Rattle.file_image.specs.declared.class.StatusClass.{StatusClass}
 use Rattle.file_image.specs.declared.class.StatusClass.TheVariants as class
 use Rattle.code_image.specs.declared.instruction.Instruction.TheVariants.{File, TestStatus, Unheard}
-use Rattle.codegen.specs.Fragments.{Fragment, sequence, plain_code}
-use Rattle.codegen.specs.Meeting.{either_fragment, nothing_fragment}
-use Rattle.codegen.specs.DataCode.{works_fragment, take_fragment, receivers_fragment}
-use Rattle.codegen.specs.FileCode.{sent_index, file_fragment, test_fragment, unheard_fragment, on_file_fragment}
-use Rattle.codegen.specs.FileCode.{into_fragment, from_fragment, on_record_fragment}
+use Rattle.condition_codegen.specs.Fragments.{Fragment, sequence, plain_code}
+use Rattle.condition_codegen.specs.Meeting.{either_fragment, nothing_fragment}
+use Rattle.condition_codegen.specs.DataCode.{works_fragment, take_fragment, receivers_fragment}
+use Rattle.statement_codegen.specs.FileCode.{sent_index, file_fragment, test_fragment, unheard_fragment}
+use Rattle.statement_codegen.specs.FileCode.{on_file_fragment, into_fragment, from_fragment, on_record_fragment}
 use Rattle.codegen.specs.Layout.{phrase_fragment, taken_fragment, success_fragment, class_fragment, failure_fragment}
 use Rattle.codegen.specs.Layout.{status_fragment, statement_on_fragment, alone_fragment, open_fragment, close_fragment}
 use Rattle.codegen.specs.Layout.{record_fragment, file_statement_fragment}

@@ -28,14 +28,14 @@ use Rattle.source_tree.specs.Setting.{Scope}
 use Rattle.data_instructions.specs.declared.instruction.DataInstruction.TheVariants as i
 use Rattle.code_image.specs.declared.code.Code.{Code}
 use Rattle.code_image.specs.declared.instruction.Instruction.TheVariants.{Tick, Stop, Count, CountNumber}
-use Rattle.codegen.specs.Fragments.{Fragment, empty_code, append, sequence, in_order, plain_code}
-use Rattle.codegen.specs.DataCode.{take_fragment}
-use Rattle.codegen.specs.ArithmeticCode.{arithmetic_fragment}
-use Rattle.codegen.specs.Meeting.{either_fragment, nothing_fragment}
-use Rattle.codegen.specs.ConditionCode.{condition_fragment}
-use Rattle.codegen.specs.StringCode.{string_fragment}
-use Rattle.codegen.specs.SubjectCode.{first_object, look, look_fragment, subject_fragment, is_asked_first, taken_from}
-use Rattle.codegen.specs.SubjectCode.{subjects_fragment}
+use Rattle.condition_codegen.specs.Fragments.{Fragment, empty_code, append, sequence, in_order, plain_code}
+use Rattle.condition_codegen.specs.DataCode.{take_fragment}
+use Rattle.condition_codegen.specs.ArithmeticCode.{arithmetic_fragment}
+use Rattle.condition_codegen.specs.Meeting.{either_fragment, nothing_fragment}
+use Rattle.condition_codegen.specs.ConditionCode.{condition_fragment}
+use Rattle.statement_codegen.specs.StringCode.{string_fragment}
+use Rattle.statement_codegen.specs.SubjectCode.{first_object, look, look_fragment, subject_fragment, is_asked_first}
+use Rattle.statement_codegen.specs.SubjectCode.{taken_from, subjects_fragment}
 use Rattle.codegen.specs.UntilCode.{tick_fragment, until_fragment}
 use Rattle.codegen.specs.Layout.{control_fragment, loop_begin, count_begin, turn_end, counted_turn, times_fragment}
 use Rattle.codegen.specs.Layout.{counted_fragment, turns_fragment, data_fragment, texts_fragment, range_fragment}

@@ -11,11 +11,11 @@ use Rattle.data_instructions.specs.declared.gather.Gather.TheVariants as g
 use Rattle.data_instructions.specs.declared.tables.DataTables.{DataTables}
 use Rattle.data_instructions.specs.declared.instruction.DataInstruction.TheVariants as i
 use Rattle.code_image.specs.declared.instruction.Instruction.TheVariants.{Data}
-use Rattle.codegen.specs.Fragments.{no_tables, empty_code, sequence, in_order}
-use Rattle.codegen.specs.DataCode.{work_fragment, reference_fragment}
-use Rattle.codegen.specs.StringCode.{up_to_text_fragment, text_up_to_place_fragment, sent_item_fragment, sent_fragment}
-use Rattle.codegen.specs.StringCode.{found_fragment, up_to_place_fragment, sender_by_fragment, sender_fragment}
-use Rattle.codegen.specs.StringCode.{sendings_fragment, put_fragment, string_fragment}
+use Rattle.condition_codegen.specs.Fragments.{no_tables, empty_code, sequence, in_order}
+use Rattle.condition_codegen.specs.DataCode.{work_fragment, reference_fragment}
+use Rattle.statement_codegen.specs.StringCode.{up_to_text_fragment, text_up_to_place_fragment, sent_item_fragment}
+use Rattle.statement_codegen.specs.StringCode.{sent_fragment, found_fragment, up_to_place_fragment, sender_by_fragment}
+use Rattle.statement_codegen.specs.StringCode.{sender_fragment, sendings_fragment, put_fragment, string_fragment}
 use Rattle.codegen.proofs.Blind.{Blind, constant_blind, tables_blind, both_blind, in_order_blind, work_blind}
 use Rattle.codegen.proofs.Blind.{text_blind, reference_blind, taking_blind}
 

@@ -3,8 +3,8 @@ use Rattle.std.proofs.Common.{◌≡◌, ℕ, ◌≤◌, ◌<◌, Bool, true, fa
 use Rattle.source_tree.specs.State.{State, Outcome}
 use Rattle.code_image.specs.declared.code.Code.{Code}
 use Rattle.code_image.specs.Points.{Own}
-use Rattle.codegen.specs.Fragments.{Fragment, append}
-use Rattle.codegen.specs.Meeting.{either_fragment}
+use Rattle.condition_codegen.specs.Fragments.{Fragment, append}
+use Rattle.condition_codegen.specs.Meeting.{either_fragment}
 use Rattle.codegen.proofs.Blind.{Blind}
 use Rattle.codegen.proofs.Doing.{end_of, keeps_all, Does, PartDoes, Sits, within_sits, IsRoom, after, then_comes, wider}
 use Rattle.codegen.proofs.Doing.{Repeats}

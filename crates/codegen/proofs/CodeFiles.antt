@@ -19,8 +19,8 @@ use Rattle.data_instructions.specs.Codes.{data_item}
 use Rattle.file_image.specs.declared.file.CodeFile.{CodeFile}
 use Rattle.file_image.specs.Files as table
 use Rattle.file_image.specs.Files.{place_at, entry_of, places_of, NamesPlaces, IsTwoCharacters, IsCodeFile}
-use Rattle.codegen.specs.FileCode.{clause_index, code_file, code_files}
-use Rattle.codegen.proofs.Codes.{left_none, right_none}
+use Rattle.statement_codegen.specs.FileCode.{clause_index, code_file, code_files}
+use Rattle.condition_codegen.proofs.Lists.{left_none, right_none}
 use Rattle.codegen.proofs.FileTable.{file_of, FileAt, file_at, NamesOne, clauses_named, place_is, index_there}
 use Rattle.codegen.proofs.HasFiles.{IsNumbered}
 

@@ -3,9 +3,10 @@ use Rattle.std.proofs.Common.{◌≡◌, List, ◌++◌, map, refl, sym, ap, sub
 use Rattle.data_instructions.specs.declared.instruction.DataInstruction.{DataInstruction}
 use Rattle.code_image.specs.declared.code.Code.{Code}
 use Rattle.code_image.specs.declared.instruction.Instruction.TheVariants.{Data}
-use Rattle.codegen.specs.Fragments.{Fragment, append, sequence}
-use Rattle.codegen.specs.DataCode.{works_fragment}
-use Rattle.codegen.proofs.Codes.{map_both, Coded}
+use Rattle.condition_codegen.specs.Fragments.{Fragment, append, sequence}
+use Rattle.condition_codegen.specs.DataCode.{works_fragment}
+use Rattle.condition_codegen.proofs.Lists.{map_both}
+use Rattle.codegen.proofs.Codes.{Coded}
 use Rattle.codegen.proofs.Standing.{Stands, front, back}
 
 module _ (whole : Code) where

@@ -1,8 +1,7 @@
 -- The code of references, MOVE, DISPLAY and ACCEPT is what the laws of instructions on data speak of, where the rules
 -- are kept.
 use Rattle.std.proofs.Common.{◌≡◌, ℕ, Bool, true, false, List, [], ◌∷◌, ◌++◌, length, map, Some, None, Option, refl}
-use Rattle.std.proofs.Common.{sym, ap, subst}
-use Rattle.std.proofs.Common.{◌∙◌, arith, append_assoc}
+use Rattle.std.proofs.Common.{sym, ap, subst, ◌∙◌, arith, append_assoc}
 use Rattle.std.specs.Prelude.{slice_get, not, ◌==◌}
 use Rattle.std.proofs.lemmas.Bool.Decides.{nat_tests}
 use Rattle.lexical.specs.declared.place.Place.{Place}
@@ -35,70 +34,26 @@ use Rattle.data_instructions.specs.declared.index.ItemIndex.{ItemIndex}
 use Rattle.data_instructions.specs.declared.part.Part.TheVariants as made
 use Rattle.data_instructions.specs.PartForms.{PartForm, Whole, Settled, OfLength, Counted, Rest, known_begin, form_by}
 use Rattle.data_instructions.specs.PartForms.{part_form, part_entry}
-use Rattle.data_instructions.specs.Codes.{IsPartCode}
-use Rattle.data_instructions.specs.Codes.{data_item, index_code, HasItem, IsAdjustmentCode, IsSubscriptCode}
+use Rattle.data_instructions.specs.Codes.{IsPartCode, data_item, index_code, HasItem, IsAdjustmentCode, IsSubscriptCode}
 use Rattle.data_instructions.specs.Codes.{AreSubscriptsCode, IsReferenceCode, IsTakingCode, IsSenderCode}
 use Rattle.data_instructions.specs.Codes.{AreReceiversCode, IsMoveCode, IsTextCode, IsOperandCode, AreOperandsCode}
 use Rattle.data_instructions.specs.Codes.{IsLineEndCode, IsDisplayCode}
-use Rattle.name_table.specs.declared.look_up.LookUp.{LookUp}
-use Rattle.name_table.specs.declared.look_up.LookUp.TheVariants.{Unknown, One, Several}
-use Rattle.name_table.specs.Items.{called_item, IsNamed}
-use Rattle.name_table.specs.Positions.{look_up}
-use Rattle.name_table.proofs.Picked.{named_items}
 use Rattle.code_image.specs.declared.code.Code.{Code}
 use Rattle.code_image.specs.declared.instruction.Instruction.{Instruction}
 use Rattle.code_image.specs.declared.instruction.Instruction.TheVariants.{Data, Accept, Date}
-use Rattle.codegen.specs.Fragments.{append, sequence, plain_code}
-use Rattle.codegen.specs.DataCode.{found_number, item_number, item_index, dimensions_of, work_fragment}
-use Rattle.codegen.specs.DataCode.{integer_fragment, adjustment_fragment, text_fragment, literal_fragment}
-use Rattle.codegen.specs.DataCode.{line_end_fragment, subscript_fragment, subscripts_fragment, reference_fragment}
-use Rattle.codegen.specs.DataCode.{entry_fragment, place_fragment, making_fragment, referred_fragment}
-use Rattle.codegen.specs.DataCode.{take_fragment, sender_fragment, receivers_fragment, move_fragment, operand_fragment}
-use Rattle.codegen.specs.DataCode.{operands_fragment, accept_fragment, date_fragment}
-use Rattle.codegen.proofs.Integers.{kept, not_false, small_integer}
+use Rattle.condition_codegen.specs.Fragments.{append, sequence, plain_code}
+use Rattle.condition_codegen.specs.DataCode.{item_number, item_index, dimensions_of, work_fragment, integer_fragment}
+use Rattle.condition_codegen.specs.DataCode.{adjustment_fragment, text_fragment, literal_fragment, line_end_fragment}
+use Rattle.condition_codegen.specs.DataCode.{subscript_fragment, subscripts_fragment, reference_fragment}
+use Rattle.condition_codegen.specs.DataCode.{entry_fragment, place_fragment, making_fragment, referred_fragment}
+use Rattle.condition_codegen.specs.DataCode.{take_fragment, sender_fragment, receivers_fragment, move_fragment}
+use Rattle.condition_codegen.specs.DataCode.{operand_fragment, operands_fragment, accept_fragment, date_fragment}
+use Rattle.condition_codegen.proofs.Integers.{kept, not_false, small_integer}
 use Rattle.codegen.proofs.Standing.{Stands, front, back, number_stands, item_stands, sender_stands, text_stands}
-
--- ---- rules that are kept
-
-pub left_none : {A : Type 0} (xs ys : List A) → xs ++ ys ≡ [] → xs ≡ []
-left_none [] ys e = refl
-left_none (x ∷ xs) ys e = absurd cc
-
-pub right_none : {A : Type 0} (xs ys : List A) → xs ++ ys ≡ [] → ys ≡ []
-right_none [] ys e = e
-right_none (x ∷ xs) ys e = absurd cc
-
--- the only item that a name names
-pub only_named : (place : Place) (rules : LocatedItem → List RuleBreach) (found : List LocatedItem)
-    → unique_name_rules place rules found ≡ [] → (one : LocatedItem) × (found ≡ one ∷ []) × (rules one ≡ [])
-only_named place rules [] e = absurd cc
-only_named place rules (one ∷ []) e = (one, refl, e)
-only_named place rules (one ∷ other ∷ more) e = absurd cc
-
-found_one : (items : List LocatedItem) (name : QualifiedName) (one : LocatedItem) (found : LookUp)
-    → IsNamed items name found → items_named items name ≡ one ∷ [] → slice_get items (found_number found) ≡ Some one
-found_one items name one Unknown is e = absurd (none is e)
-  where
-    none : items_named items name ≡ [] → items_named items name ≡ one ∷ [] → ⊥
-    none a b = cc
-found_one items name one (One n) is e = is.1 ∙ ap Some (same is.0 (sym is.2 ∙ e))
-  where
-    same : (x : LocatedItem) → x ∷ [] ≡ one ∷ [] → x ≡ one
-    same x e = cc
-found_one items name one Several is e = absurd (more is.0 is.1 is.2 (sym is.3 ∙ e))
-  where
-    more : (x y : LocatedItem) (zs : List LocatedItem) → x ∷ y ∷ zs ≡ one ∷ [] → ⊥
-    more x y zs e = cc
-
-pub item_there : (items : List LocatedItem) (name : QualifiedName) (one : LocatedItem)
-    → items_named items name ≡ one ∷ [] → slice_get items (item_number items name) ≡ Some one
-item_there items name one e = found_one items name one (look_up name (map called_item items)) (named_items items name) e
+use Rattle.condition_codegen.proofs.Lists.{left_none, right_none, map_both}
+use Rattle.statement_codegen.proofs.NamedItems.{only_named, item_there}
 
 -- ---- code that stands in the whole
-
-pub map_both : {A B : Type 0} (f : A → B) (xs ys : List A) → map f (xs ++ ys) ≡ map f xs ++ map f ys
-map_both f [] ys = refl
-map_both f (x ∷ xs) ys = ap (λ l. f x ∷ l) (map_both f xs ys)
 
 -- an instruction on data, and others in two pieces
 all_data : (one : DataInstruction) (first last : List DataInstruction) (a b c : List Instruction) → a ≡ Data one ∷ []

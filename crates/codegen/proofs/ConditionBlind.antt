@@ -24,16 +24,17 @@ use Rattle.data_instructions.specs.declared.test.Test.TheVariants as t
 use Rattle.data_instructions.specs.declared.instruction.DataInstruction.TheVariants as i
 use Rattle.data_instructions.specs.ConditionCodes.{negation}
 use Rattle.code_image.specs.declared.instruction.Instruction.TheVariants.{Data}
-use Rattle.codegen.specs.Fragments.{Fragment, no_tables, sequence, in_order}
-use Rattle.codegen.specs.Meeting.{nothing_fragment}
-use Rattle.codegen.specs.DataCode.{dimensions_of, work_fragment, works_fragment, number_fragment, literal_entry}
-use Rattle.codegen.specs.DataCode.{subscripts_fragment, take_fragment, sender_fragment}
-use Rattle.codegen.specs.ArithmeticCode.{zero_number, expression_fragment}
-use Rattle.codegen.specs.ConditionCode.{condition_item, values_named, range_fragment, value_range_fragment}
-use Rattle.codegen.specs.ConditionCode.{values_fragment, and_fragment, or_fragment, all_fragment, any_fragment}
-use Rattle.codegen.specs.ConditionCode.{condition_name_fragment, compared_fragment, zero_literal, side_fragment}
-use Rattle.codegen.specs.ConditionCode.{pair_fragment, is_numeric_operand, is_operand_at_hand, taken_first}
-use Rattle.codegen.specs.ConditionCode.{relation_from, condition_layer_fragment, condition_fragment}
+use Rattle.condition_codegen.specs.Fragments.{Fragment, no_tables, sequence, in_order}
+use Rattle.condition_codegen.specs.Meeting.{nothing_fragment}
+use Rattle.condition_codegen.specs.DataCode.{dimensions_of, work_fragment, works_fragment, number_fragment}
+use Rattle.condition_codegen.specs.DataCode.{literal_entry, subscripts_fragment, take_fragment, sender_fragment}
+use Rattle.condition_codegen.specs.ArithmeticCode.{zero_number, expression_fragment}
+use Rattle.condition_codegen.specs.ConditionCode.{condition_item, values_named, range_fragment, value_range_fragment}
+use Rattle.condition_codegen.specs.ConditionCode.{values_fragment, and_fragment, or_fragment, all_fragment}
+use Rattle.condition_codegen.specs.ConditionCode.{any_fragment, condition_name_fragment, compared_fragment}
+use Rattle.condition_codegen.specs.ConditionCode.{zero_literal, side_fragment, pair_fragment, is_numeric_operand}
+use Rattle.condition_codegen.specs.ConditionCode.{is_operand_at_hand, taken_first, relation_from}
+use Rattle.condition_codegen.specs.ConditionCode.{condition_layer_fragment, condition_fragment}
 use Rattle.codegen.proofs.Blind.{Blind, tables_blind, both_blind, in_order_blind, work_blind, works_blind, number_blind}
 use Rattle.codegen.proofs.Blind.{subscripts_blind, taking_blind, sender_blind}
 use Rattle.codegen.proofs.BlindArithmetic.{value_blind, expression_blind}

@@ -1,8 +1,7 @@
 -- The code of conditions without AND and OR is what the laws of instructions on data speak of, where the rules are
 -- kept: it decides their truth, and finds what it needs.
 use Rattle.std.proofs.Common.{◌≡◌, ℕ, ◌+◌, Bool, true, false, List, [], ◌∷◌, ◌++◌, length, map, Option, Some, None}
-use Rattle.std.proofs.Common.{refl}
-use Rattle.std.proofs.Common.{sym, ap, subst, ◌∙◌, arith, append_assoc, length-append}
+use Rattle.std.proofs.Common.{refl, sym, ap, subst, ◌∙◌, arith, append_assoc, length-append}
 use Rattle.std.specs.Prelude.{slice_get, not, ◌&&◌, ◌||◌, ◌==◌}
 use Rattle.std.proofs.lemmas.Bool.Decides.{nat_tests}
 use Rattle.std.proofs.lemmas.Option.{same_Some}
@@ -40,10 +39,9 @@ use Rattle.source_tree.specs.Evaluated.{◌>>=◌}
 use Rattle.source_tree.specs.Literals.{literal_sender}
 use Rattle.source_tree.specs.LookUp.{NamedCondition, items_named, conditions_named, first}
 use Rattle.source_tree.specs.NameRules as name_rules
-use Rattle.source_tree.specs.NameRules.{part_item_rules, no_part_rules, part_rules}
+use Rattle.source_tree.specs.NameRules.{part_item_rules, no_part_rules, part_rules, unique_name_rules, subscript_rules}
+use Rattle.source_tree.specs.NameRules.{literal_rules, reference_rules, any_item, operand_rules}
 use Rattle.source_tree.specs.Parts.{seen_through}
-use Rattle.source_tree.specs.NameRules.{unique_name_rules, subscript_rules, literal_rules, reference_rules, any_item}
-use Rattle.source_tree.specs.NameRules.{operand_rules}
 use Rattle.source_tree.specs.Places.{LocatedItem}
 use Rattle.source_tree.specs.Storage.{Storage}
 use Rattle.data_instructions.specs.declared.tables.DataTables.{DataTables}
@@ -65,22 +63,23 @@ use Rattle.data_instructions.proofs.Conditions.{both_decide, decides_alike, pair
 use Rattle.data_instructions.proofs.Conditions.{class_works, name_works}
 use Rattle.data_instructions.proofs.Expressions.{value_works, value_known}
 use Rattle.code_image.specs.declared.code.Code.{Code}
-use Rattle.codegen.specs.Fragments.{Fragment, sequence}
-use Rattle.codegen.specs.DataCode.{dimensions_of, work_fragment, works_fragment, number_fragment, literal_entry}
-use Rattle.codegen.specs.DataCode.{subscripts_fragment, take_fragment, sender_fragment}
-use Rattle.codegen.specs.ArithmeticCode.{zero_number, value_fragment, expression_fragment}
-use Rattle.codegen.specs.ConditionCode.{condition_number, condition_item, values_of, values_named, range_fragment}
-use Rattle.codegen.specs.ConditionCode.{value_range_fragment, values_fragment, condition_name_fragment, zero_literal}
-use Rattle.codegen.specs.ConditionCode.{compared_fragment, side_fragment, numbers_fragment, pair_fragment}
-use Rattle.codegen.specs.ConditionCode.{is_numeric_operand, is_operand_at_hand, taken_first, relation_from}
-use Rattle.codegen.specs.ConditionCode.{relation_fragment}
-use Rattle.codegen.proofs.Codes.{left_none, right_none, Coded, sender_coded, subscripts_coded}
+use Rattle.condition_codegen.specs.Fragments.{Fragment, sequence}
+use Rattle.condition_codegen.specs.DataCode.{dimensions_of, work_fragment, works_fragment, number_fragment}
+use Rattle.condition_codegen.specs.DataCode.{literal_entry, subscripts_fragment, take_fragment, sender_fragment}
+use Rattle.condition_codegen.specs.ArithmeticCode.{zero_number, value_fragment, expression_fragment}
+use Rattle.condition_codegen.specs.ConditionCode.{condition_number, condition_item, values_of, values_named}
+use Rattle.condition_codegen.specs.ConditionCode.{range_fragment, value_range_fragment, values_fragment}
+use Rattle.condition_codegen.specs.ConditionCode.{condition_name_fragment, zero_literal, compared_fragment}
+use Rattle.condition_codegen.specs.ConditionCode.{side_fragment, numbers_fragment, pair_fragment, is_numeric_operand}
+use Rattle.condition_codegen.specs.ConditionCode.{is_operand_at_hand, taken_first, relation_from, relation_fragment}
+use Rattle.condition_codegen.proofs.Lists.{left_none, right_none}
+use Rattle.codegen.proofs.Codes.{Coded, sender_coded, subscripts_coded}
 use Rattle.codegen.proofs.CodedPieces.{CodedBy, weaker_by, both_by, before_by, behind_by}
-use Rattle.codegen.proofs.ConditionItems.{condition_there, condition_item_there}
+use Rattle.condition_codegen.proofs.ConditionItems.{condition_there, condition_item_there, only_condition}
 use Rattle.codegen.proofs.ExpressionCodes.{number_codes, taking_codes, value_codes, expression_codes}
-use Rattle.codegen.proofs.Integers.{kept, not_false}
+use Rattle.condition_codegen.proofs.Integers.{kept, not_false}
 use Rattle.codegen.proofs.Lying.{lies_all, lies_operand}
-use Rattle.codegen.proofs.OperandOrder.{taken_alike, looked_first, numbers_alike, compared_as_number}
+use Rattle.statement_codegen.proofs.OperandOrder.{taken_alike, looked_first, numbers_alike, compared_as_number}
 use Rattle.codegen.proofs.Standing.{Stands, at_seam, sender_stands}
 
 -- It decides this truth, and leaves all as it was except for the sender.
@@ -191,14 +190,6 @@ module _ (items : List LocatedItem) where
   pub alone_keeps : (one : Side) (a : Operand) → alone_side one ≡ Some a → side_rules items one ≡ []
       → operand_rules items a ≡ []
   alone_keeps one a is e = sym (ap (λ (o : Option Operand). side_from items o one) is) ∙ e
-
--- the only condition name that is named
-pub only_condition : (place : Place) (rules : NamedCondition → List RuleBreach) (found : List NamedCondition)
-    → unique_name_rules place rules found ≡ []
-    → (one : NamedCondition) × (found ≡ one ∷ []) × (rules one ≡ [])
-only_condition place rules [] e = absurd cc
-only_condition place rules (one ∷ []) e = (one, refl, e)
-only_condition place rules (one ∷ other ∷ more) e = absurd cc
 
 same_count : (n m : ℕ) → (n == m) ≡ true → n ≡ m
 same_count n m e = grind (arith, nat_tests)

@@ -25,14 +25,15 @@ use Rattle.code_image.specs.declared.code.Code.{Code}
 use Rattle.code_image.specs.declared.instruction.Instruction.TheVariants.{Data}
 use Rattle.code_image.specs.Points.{Own, scratch_of}
 use Rattle.code_image.specs.Table.{exec_code}
-use Rattle.codegen.specs.Fragments.{Fragment, empty_code, append, sequence, in_order}
-use Rattle.codegen.specs.Meeting.{nothing_fragment, either_fragment}
-use Rattle.codegen.specs.DataCode.{work_fragment, works_fragment, number_fragment, take_fragment}
-use Rattle.codegen.specs.ArithmeticCode.{zero_number, expression_fragment}
-use Rattle.codegen.specs.ConditionCode.{and_fragment, or_fragment, all_fragment, any_fragment, condition_name_fragment}
-use Rattle.codegen.specs.ConditionCode.{relation_fragment, condition_layer_fragment, condition_fragment}
+use Rattle.condition_codegen.specs.Fragments.{Fragment, empty_code, append, sequence, in_order}
+use Rattle.condition_codegen.specs.Meeting.{nothing_fragment, either_fragment}
+use Rattle.condition_codegen.specs.DataCode.{work_fragment, works_fragment, number_fragment, take_fragment}
+use Rattle.condition_codegen.specs.ArithmeticCode.{zero_number, expression_fragment}
+use Rattle.condition_codegen.specs.ConditionCode.{and_fragment, or_fragment, all_fragment, any_fragment}
+use Rattle.condition_codegen.specs.ConditionCode.{condition_name_fragment, relation_fragment, condition_layer_fragment}
+use Rattle.condition_codegen.specs.ConditionCode.{condition_fragment}
 use Rattle.codegen.proofs.Blind.{Blind}
-use Rattle.codegen.proofs.Codes.{left_none, right_none}
+use Rattle.condition_codegen.proofs.Lists.{left_none, right_none}
 use Rattle.codegen.proofs.CodedPieces.{CodedBy}
 use Rattle.codegen.proofs.ConditionBlind.{nothing_blind, condition_blind}
 use Rattle.codegen.proofs.ConditionCodes.{Tested, relation_tested, sign_tested, class_tested, name_tested}
@@ -40,7 +41,7 @@ use Rattle.codegen.proofs.ConditionForms.{mapped_piece, mapped_rules, mapped_tru
 use Rattle.codegen.proofs.DataDoing.{behind_code}
 use Rattle.codegen.proofs.Doing.{end_of, any, keeps_all, keeps_then, keeps_more, Comes, steps_to}
 use Rattle.codegen.proofs.Evaluating.{Evaluates}
-use Rattle.codegen.proofs.Fragments.{joined_assoc, joined_nothing}
+use Rattle.condition_codegen.proofs.Fragments.{joined_assoc, joined_nothing}
 use Rattle.codegen.proofs.Running.{at, one_step, WorksFrom, works_from}
 use Rattle.codegen.proofs.Standing.{Stands, front, back, first_stands, code_stands}
 use Rattle.codegen.proofs.Ways.{ways}

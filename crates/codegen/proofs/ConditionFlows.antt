@@ -16,13 +16,14 @@ use Rattle.data_instructions.specs.Chains.{LiesWhole}
 use Rattle.data_instructions.specs.ConditionCodes.{negation, sign_truth, class_truth}
 use Rattle.code_image.specs.declared.code.Code.{Code}
 use Rattle.code_image.specs.Known.{known_along}
-use Rattle.codegen.specs.Fragments.{Fragment, append, sequence, in_order}
-use Rattle.codegen.specs.Meeting.{nothing_fragment}
-use Rattle.codegen.specs.DataCode.{work_fragment, works_fragment, number_fragment, take_fragment}
-use Rattle.codegen.specs.ArithmeticCode.{zero_number, expression_fragment}
-use Rattle.codegen.specs.ConditionCode.{and_fragment, or_fragment, all_fragment, any_fragment, condition_name_fragment}
-use Rattle.codegen.specs.ConditionCode.{relation_fragment, condition_layer_fragment, condition_fragment}
-use Rattle.codegen.proofs.Codes.{left_none, right_none}
+use Rattle.condition_codegen.specs.Fragments.{Fragment, append, sequence, in_order}
+use Rattle.condition_codegen.specs.Meeting.{nothing_fragment}
+use Rattle.condition_codegen.specs.DataCode.{work_fragment, works_fragment, number_fragment, take_fragment}
+use Rattle.condition_codegen.specs.ArithmeticCode.{zero_number, expression_fragment}
+use Rattle.condition_codegen.specs.ConditionCode.{and_fragment, or_fragment, all_fragment, any_fragment}
+use Rattle.condition_codegen.specs.ConditionCode.{condition_name_fragment, relation_fragment, condition_layer_fragment}
+use Rattle.condition_codegen.specs.ConditionCode.{condition_fragment}
+use Rattle.condition_codegen.proofs.Lists.{left_none, right_none}
 use Rattle.codegen.proofs.CodedPieces.{CodedBy}
 use Rattle.codegen.proofs.ConditionBlind.{nothing_blind, condition_blind}
 use Rattle.codegen.proofs.ConditionCodes.{Tested, relation_tested, sign_tested, class_tested, name_tested}

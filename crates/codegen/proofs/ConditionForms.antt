@@ -7,8 +7,8 @@ use Rattle.source_tree.specs.Broken.{RuleBreach}
 use Rattle.source_tree.specs.ConditionRules.{condition_layer_rules, condition_rules}
 use Rattle.source_tree.specs.Conditions.{ConditionValue, condition_layer, holds}
 use Rattle.source_tree.specs.Places.{LocatedItem}
-use Rattle.codegen.specs.Fragments.{Fragment}
-use Rattle.codegen.specs.ConditionCode.{condition_layer_fragment, condition_fragment}
+use Rattle.condition_codegen.specs.Fragments.{Fragment}
+use Rattle.condition_codegen.specs.ConditionCode.{condition_layer_fragment, condition_fragment}
 
 module _ {A B C : Type 0} (f : A → B) (g : B → C) where
   all_twice : (all : List A) → map g (map f all) ≡ map (λ a. g (f a)) all

@@ -10,16 +10,16 @@ use Rattle.source_tree.specs.Places.{LocatedItem}
 use Rattle.data_instructions.specs.declared.test.Test.TheVariants as t
 use Rattle.data_instructions.specs.declared.instruction.DataInstruction.TheVariants as i
 use Rattle.code_image.specs.declared.code.Code.{Code}
-use Rattle.codegen.specs.Fragments.{Fragment, append, sequence, in_order}
-use Rattle.codegen.specs.Meeting.{nothing_fragment}
-use Rattle.codegen.specs.DataCode.{work_fragment, works_fragment}
-use Rattle.codegen.specs.ConditionCode.{and_fragment, or_fragment, all_fragment, any_fragment, condition_layer_fragment}
-use Rattle.codegen.specs.ConditionCode.{condition_fragment}
-use Rattle.codegen.proofs.Codes.{left_none, right_none}
+use Rattle.condition_codegen.specs.Fragments.{Fragment, append, sequence, in_order}
+use Rattle.condition_codegen.specs.Meeting.{nothing_fragment}
+use Rattle.condition_codegen.specs.DataCode.{work_fragment, works_fragment}
+use Rattle.condition_codegen.specs.ConditionCode.{and_fragment, or_fragment, all_fragment, any_fragment}
+use Rattle.condition_codegen.specs.ConditionCode.{condition_layer_fragment, condition_fragment}
+use Rattle.condition_codegen.proofs.Lists.{left_none, right_none}
 use Rattle.codegen.proofs.ConditionBlind.{nothing_blind, condition_blind}
 use Rattle.codegen.proofs.ConditionForms.{mapped_piece, mapped_rules}
 use Rattle.codegen.proofs.ConditionStraight.{relation_straight, sign_straight, class_straight, name_straight}
-use Rattle.codegen.proofs.ConditionValues.{AreFormed}
+use Rattle.condition_codegen.proofs.ConditionValues.{AreFormed}
 use Rattle.codegen.proofs.Leading.{Asks, Meets, both_meet, nothing_meets, straight_meets, either_meets}
 use Rattle.codegen.proofs.Straight.{AlwaysStraight, works_straight, work_straight}
 

@@ -23,20 +23,20 @@ use Rattle.data_entries.proofs.Forms.{sender_formed}
 use Rattle.data_instructions.specs.declared.test.Test.TheVariants as t
 use Rattle.data_instructions.specs.declared.instruction.DataInstruction.TheVariants as i
 use Rattle.data_instructions.specs.ConditionCodes.{negation}
-use Rattle.codegen.specs.Fragments.{sequence}
-use Rattle.codegen.specs.DataCode.{dimensions_of, work_fragment, works_fragment, number_fragment, subscripts_fragment}
-use Rattle.codegen.specs.DataCode.{take_fragment, sender_fragment}
-use Rattle.codegen.specs.ArithmeticCode.{zero_number, expression_fragment}
-use Rattle.codegen.specs.Values.{HasForms, AreFormedValues}
-use Rattle.codegen.specs.ConditionCode.{condition_number, condition_item, values_of, values_named, range_fragment}
-use Rattle.codegen.specs.ConditionCode.{value_range_fragment, values_fragment, condition_name_fragment}
-use Rattle.codegen.specs.ConditionCode.{compared_fragment, zero_literal, side_fragment, pair_fragment}
-use Rattle.codegen.specs.ConditionCode.{is_numeric_operand, is_operand_at_hand, taken_first, relation_from}
-use Rattle.codegen.specs.ConditionCode.{relation_fragment}
+use Rattle.condition_codegen.specs.Fragments.{sequence}
+use Rattle.condition_codegen.specs.DataCode.{dimensions_of, work_fragment, works_fragment, number_fragment}
+use Rattle.condition_codegen.specs.DataCode.{subscripts_fragment, take_fragment, sender_fragment}
+use Rattle.condition_codegen.specs.ArithmeticCode.{zero_number, expression_fragment}
+use Rattle.condition_codegen.specs.Values.{HasForms, AreFormedValues}
+use Rattle.condition_codegen.specs.ConditionCode.{condition_number, condition_item, values_of, values_named}
+use Rattle.condition_codegen.specs.ConditionCode.{range_fragment, value_range_fragment, values_fragment}
+use Rattle.condition_codegen.specs.ConditionCode.{condition_name_fragment, compared_fragment, zero_literal}
+use Rattle.condition_codegen.specs.ConditionCode.{side_fragment, pair_fragment, is_numeric_operand, is_operand_at_hand}
+use Rattle.condition_codegen.specs.ConditionCode.{taken_first, relation_from, relation_fragment}
 use Rattle.codegen.proofs.ArithmeticStraight.{value_straight, expression_straight}
 use Rattle.codegen.proofs.ConditionCodes.{KeepsRelation, keeps_relation, alone_keeps}
-use Rattle.codegen.proofs.ConditionValues.{AreFormed}
-use Rattle.codegen.proofs.Integers.{kept, not_false}
+use Rattle.condition_codegen.proofs.ConditionValues.{AreFormed}
+use Rattle.condition_codegen.proofs.Integers.{kept, not_false}
 use Rattle.codegen.proofs.Straight.{AlwaysStraight, both_straight, nothing_straight, works_straight, work_straight}
 use Rattle.codegen.proofs.Straight.{number_straight, subscripts_straight, taking_straight, sender_straight}
 

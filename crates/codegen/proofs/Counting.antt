@@ -25,11 +25,11 @@ use Rattle.code_image.specs.declared.code.Code.{Code}
 use Rattle.code_image.specs.declared.instruction.Instruction.TheVariants.{CountNumber}
 use Rattle.code_image.specs.Points.{Own, scratch_of}
 use Rattle.code_image.specs.Table.{counted_by, exec_code}
-use Rattle.codegen.specs.Fragments.{Fragment, append, sequence}
-use Rattle.codegen.specs.Meeting.{either_fragment, nothing_fragment}
-use Rattle.codegen.specs.DataCode.{take_fragment}
+use Rattle.condition_codegen.specs.Fragments.{Fragment, append, sequence}
+use Rattle.condition_codegen.specs.Meeting.{either_fragment, nothing_fragment}
+use Rattle.condition_codegen.specs.DataCode.{take_fragment}
 use Rattle.codegen.specs.Layout.{count_begin, counted_turn, counted_fragment}
-use Rattle.codegen.proofs.Fragments.{joined_assoc}
+use Rattle.condition_codegen.proofs.Fragments.{joined_assoc}
 use Rattle.codegen.proofs.Standing.{front, first_stands, code_stands}
 use Rattle.codegen.proofs.Blind.{Blind}
 use Rattle.codegen.proofs.ConditionBlind.{nothing_blind}

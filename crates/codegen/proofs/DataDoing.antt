@@ -24,7 +24,7 @@ use Rattle.code_image.specs.declared.code.Code.{Code}
 use Rattle.code_image.specs.declared.instruction.Instruction.TheVariants.{Show, Data}
 use Rattle.code_image.specs.Points.{Own, scratch_of, state_with, own_with}
 use Rattle.code_image.specs.Table.{over, data_from, exec_code}
-use Rattle.codegen.specs.Fragments.{append}
+use Rattle.condition_codegen.specs.Fragments.{append}
 use Rattle.codegen.proofs.Running.{at, one_step, WorksFrom}
 use Rattle.codegen.proofs.Doing.{end_of, keeps_all, Does, IsRoom, after}
 

@@ -15,8 +15,8 @@ use Rattle.declarations.specs.declared.declarations.Declarations.{Declarations}
 use Rattle.declarations.specs.Named.{Declares, data_in, files_in, items_in, scope_in}
 use Rattle.declarations.proofs.Declared.{same_scope}
 use Rattle.codegen.specs.Layout.{code_of, end_fragment, section_fragment, storage_code, storage_with}
-use Rattle.codegen.specs.Fragments.{in_order, append}
-use Rattle.codegen.proofs.ConditionValues.{descriptions_kept}
+use Rattle.condition_codegen.specs.Fragments.{in_order, append}
+use Rattle.condition_codegen.proofs.ConditionValues.{descriptions_kept}
 
 module _ (program : Program) (all : Declarations) (h : Declares program all) where
   pub entries_by : entry_rules program.storage ≡ [] → entry_rules all.storage.now ≡ []

@@ -55,30 +55,30 @@ use Rattle.code_image.specs.declared.instruction.Instruction.TheVariants.{Tick, 
 use Rattle.code_image.specs.Demands.{UsesBudget, ends_in, JumpsBack}
 use Rattle.declarations.proofs.RuleLayers.{mapped_rules}
 use Rattle.declarations.proofs.PerformLayers.{mapped_performs}
-use Rattle.codegen.specs.Fragments.{Fragment, append, sequence, in_order}
-use Rattle.codegen.specs.Meeting.{branch_code, either_fragment, nothing_fragment}
-use Rattle.codegen.specs.DataCode.{work_fragment, take_fragment}
-use Rattle.codegen.specs.ArithmeticCode.{arithmetic_fragment}
-use Rattle.codegen.specs.StringCode.{string_fragment}
-use Rattle.codegen.specs.ConditionCode.{condition_fragment}
+use Rattle.condition_codegen.specs.Fragments.{Fragment, append, sequence, in_order}
+use Rattle.condition_codegen.specs.Meeting.{branch_code, either_fragment, nothing_fragment}
+use Rattle.condition_codegen.specs.DataCode.{work_fragment, take_fragment}
+use Rattle.condition_codegen.specs.ArithmeticCode.{arithmetic_fragment}
+use Rattle.statement_codegen.specs.StringCode.{string_fragment}
+use Rattle.condition_codegen.specs.ConditionCode.{condition_fragment}
 use Rattle.codegen.specs.UntilCode.{tick_fragment, repetition_fragment, until_before_fragment, until_after_fragment}
 use Rattle.codegen.specs.UntilCode.{until_from_fragment, vary_begin_fragment, vary_on_fragment, until_fragment}
-use Rattle.codegen.specs.SubjectCode.{first_object, look, look_fragment, subject_fragment, each_subject_fragment}
-use Rattle.codegen.specs.SubjectCode.{is_asked_first, taken_from, subjects_fragment}
+use Rattle.statement_codegen.specs.SubjectCode.{first_object, look, look_fragment, subject_fragment}
+use Rattle.statement_codegen.specs.SubjectCode.{each_subject_fragment, is_asked_first, taken_from, subjects_fragment}
 use Rattle.codegen.specs.Layout.{loop_begin, count_begin, turn_end, counted_turn, times_fragment, counted_fragment}
 use Rattle.codegen.specs.Layout.{range_fragment, turn_fragment, turns_fragment, data_fragment, texts_fragment}
 use Rattle.codegen.specs.Layout.{phrase_fragment, phrases_from, phrases_fragment, selection_fragment, evaluate_fragment}
 use Rattle.codegen.specs.Layout.{conditional_fragment, stop_run_fragment, file_statement_fragment, verb_fragment}
 use Rattle.codegen.specs.Layout.{statement_fragment, sentence_fragment}
-use Rattle.codegen.proofs.Codes.{left_none, right_none}
+use Rattle.condition_codegen.proofs.Lists.{left_none, right_none}
 use Rattle.codegen.proofs.Layers.{verb_map, rolled_is}
 use Rattle.codegen.proofs.Standing.{at_seam}
 use Rattle.codegen.proofs.Blind.{Blind, in_order_blind}
 use Rattle.codegen.proofs.ConditionBlind.{nothing_blind, condition_blind}
 use Rattle.codegen.proofs.UntilBlind.{turn_before_blind, onward_blind, vary_on_blind}
-use Rattle.codegen.proofs.SubjectLooks.{look_rules, look_kept}
-use Rattle.codegen.proofs.EvaluateKept.{statements_of, selected_kept, first_group, other_groups, subjects_of, groups_of}
-use Rattle.codegen.proofs.EvaluateKept.{other_of}
+use Rattle.statement_codegen.proofs.SubjectLooks.{look_rules, look_kept}
+use Rattle.condition_codegen.proofs.EvaluateKept.{statements_of, selected_kept, first_group, other_groups, subjects_of}
+use Rattle.condition_codegen.proofs.EvaluateKept.{groups_of, other_of}
 use Rattle.codegen.proofs.BlindStatements.{counted_turn_blind, turn_blind, phrase_blind, selecting_blind}
 use Rattle.codegen.proofs.BlindStatements.{statement_blind}
 use Rattle.codegen.proofs.Straight.{AlwaysStraight, work_straight, taking_straight, moving_straight}
@@ -91,7 +91,7 @@ use Rattle.codegen.proofs.Leading.{straight_meets, branch_meets, either_meets}
 use Rattle.codegen.proofs.FileMeets.{PhrasesMeet, filing_meets}
 use Rattle.codegen.proofs.HasFiles.{IsNumbered, IsSuited}
 use Rattle.codegen.proofs.Ranges.{IsWithin, EndsWithin, FoundWithin, range_within}
-use Rattle.codegen.proofs.ConditionValues.{AreFormed}
+use Rattle.condition_codegen.proofs.ConditionValues.{AreFormed}
 use Rattle.codegen.proofs.ConditionMeets.{condition_meets}
 
 -- ---- what begins with what uses one of the budget

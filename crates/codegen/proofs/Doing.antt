@@ -13,13 +13,13 @@ use Rattle.code_image.specs.declared.code.Code.{Code}
 use Rattle.code_image.specs.declared.instruction.Instruction.TheVariants.{Tick, Stop, Count, Turn, Branch, Jump, Join}
 use Rattle.code_image.specs.Points.{Own}
 use Rattle.code_image.specs.Table.{onward, over, tick_from, turn_from, branch_from, exec_code}
-use Rattle.codegen.specs.Fragments.{Fragment, empty_code, append, in_order}
+use Rattle.condition_codegen.specs.Fragments.{Fragment, empty_code, append, in_order}
 use Rattle.codegen.specs.Layout.{stop_run_fragment, control_fragment}
 use Rattle.codegen.specs.UntilCode.{tick_fragment}
-use Rattle.codegen.proofs.Fragments.{joined_assoc, joined_nothing}
+use Rattle.condition_codegen.proofs.Fragments.{joined_assoc, joined_nothing}
 use Rattle.codegen.proofs.Standing.{Stands, front, back, first_stands, second_stands}
 use Rattle.codegen.proofs.Running.{at, one_step}
-use Rattle.codegen.proofs.Codes.{left_none, right_none}
+use Rattle.condition_codegen.proofs.Lists.{left_none, right_none}
 
 -- the address after a code
 abbrev pub end_of : Code → ℕ

@@ -2,9 +2,9 @@
 use Rattle.std.proofs.Common.{◌≡◌, ℕ, ◌+◌, length, refl, sym, ap, ◌∙◌, arith, length-append}
 use Rattle.code_image.specs.declared.code.Code.{Code}
 use Rattle.data_instructions.specs.declared.tables.DataTables.{DataTables}
-use Rattle.codegen.specs.Fragments.{Fragment, no_tables, joined_tables, append, sequence}
-use Rattle.codegen.specs.Meeting.{branch_code, jump_code, join_code, either_fragment}
-use Rattle.codegen.proofs.Fragments.{tables_nothing}
+use Rattle.condition_codegen.specs.Fragments.{Fragment, no_tables, joined_tables, append, sequence}
+use Rattle.condition_codegen.specs.Meeting.{branch_code, jump_code, join_code, either_fragment}
+use Rattle.condition_codegen.proofs.Fragments.{tables_nothing}
 use Rattle.codegen.proofs.Blind.{Alike, alike_joined, Blind}
 
 -- the branch, both parts, and what stands between and after them

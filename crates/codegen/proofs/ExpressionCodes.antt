@@ -32,14 +32,15 @@ use Rattle.data_instructions.specs.ArithmeticCodes.{IsNumberCode, IsValueCode}
 use Rattle.data_instructions.proofs.Expressions.{negated_works, first_works, further_works, negated_known, first_known}
 use Rattle.data_instructions.proofs.Expressions.{further_known, value_works, value_known}
 use Rattle.code_image.specs.declared.code.Code.{Code}
-use Rattle.codegen.specs.Fragments.{Fragment, in_order}
-use Rattle.codegen.specs.DataCode.{number_fragment, take_fragment}
-use Rattle.codegen.specs.ArithmeticCode.{or_zero, value_fragment, chain_fragment, expression_layer_fragment}
-use Rattle.codegen.specs.ArithmeticCode.{expression_fragment}
-use Rattle.codegen.proofs.Codes.{left_none, right_none, taking_coded}
+use Rattle.condition_codegen.specs.Fragments.{Fragment, in_order}
+use Rattle.condition_codegen.specs.DataCode.{number_fragment, take_fragment}
+use Rattle.condition_codegen.specs.ArithmeticCode.{or_zero, value_fragment, chain_fragment, expression_layer_fragment}
+use Rattle.condition_codegen.specs.ArithmeticCode.{expression_fragment}
+use Rattle.condition_codegen.proofs.Lists.{left_none, right_none}
+use Rattle.codegen.proofs.Codes.{taking_coded}
 use Rattle.codegen.proofs.CodedPieces.{CodedBy, weaker_by, both_by, behind_by}
 use Rattle.codegen.proofs.ExpressionLayers.{mapped_piece, mapped_rules, mapped_value}
-use Rattle.codegen.proofs.Integers.{kept, not_false}
+use Rattle.condition_codegen.proofs.Integers.{kept, not_false}
 use Rattle.codegen.proofs.Lying.{lies_operand}
 use Rattle.codegen.proofs.Standing.{number_stands}
 

@@ -8,8 +8,8 @@ use Rattle.source_tree.specs.ArithmeticRules.{expression_layer_rules, expression
 use Rattle.source_tree.specs.Broken.{RuleBreach}
 use Rattle.source_tree.specs.Computed.{ExpressionValue, expression_layer, expression_value}
 use Rattle.source_tree.specs.Places.{LocatedItem}
-use Rattle.codegen.specs.Fragments.{Fragment}
-use Rattle.codegen.specs.ArithmeticCode.{expression_layer_fragment, expression_fragment}
+use Rattle.condition_codegen.specs.Fragments.{Fragment}
+use Rattle.condition_codegen.specs.ArithmeticCode.{expression_layer_fragment, expression_fragment}
 
 module _ {A B C : Type 0} (f : A → B) (g : B → C) where
   -- Operands after their operators; the first is any.

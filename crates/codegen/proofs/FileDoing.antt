@@ -18,8 +18,8 @@ use Rattle.code_image.specs.declared.code.Code.{Code}
 use Rattle.code_image.specs.declared.instruction.Instruction.TheVariants.{File, TestStatus, Unheard}
 use Rattle.code_image.specs.Points.{Own}
 use Rattle.code_image.specs.Table.{received_point, filed_from, exec_code}
-use Rattle.codegen.specs.Fragments.{append}
-use Rattle.codegen.specs.FileCode.{file_fragment, test_fragment, unheard_fragment}
+use Rattle.condition_codegen.specs.Fragments.{append}
+use Rattle.statement_codegen.specs.FileCode.{file_fragment, test_fragment, unheard_fragment}
 use Rattle.codegen.proofs.Standing.{Stands, first_stands}
 use Rattle.codegen.proofs.Running.{at, one_step}
 use Rattle.codegen.proofs.Doing.{end_of, PartDoes, steps_to, after, moved_from, behind, nothing_does}

@@ -6,14 +6,14 @@ use Rattle.source_tree.specs.ProgramFiles.{ProgramFile}
 use Rattle.source_tree.specs.Setting.{Scope}
 use Rattle.file_image.specs.declared.class.StatusClass.TheVariants.{Successful}
 use Rattle.code_image.specs.declared.code.Code.{Code}
-use Rattle.codegen.specs.Fragments.{Fragment, append, sequence}
-use Rattle.codegen.specs.Meeting.{branch_code, jump_code, either_fragment, nothing_fragment}
-use Rattle.codegen.specs.FileCode.{file_fragment, test_fragment, unheard_fragment}
+use Rattle.condition_codegen.specs.Fragments.{Fragment, append, sequence}
+use Rattle.condition_codegen.specs.Meeting.{branch_code, jump_code, either_fragment, nothing_fragment}
+use Rattle.statement_codegen.specs.FileCode.{file_fragment, test_fragment, unheard_fragment}
 use Rattle.codegen.specs.Layout.{alone_fragment}
-use Rattle.codegen.specs.Phrases.{patched_code}
-use Rattle.codegen.proofs.Fragments.{joined_nothing}
-use Rattle.codegen.proofs.Meeting.{meeting}
-use Rattle.codegen.proofs.Sequences.{then_piece}
+use Rattle.condition_codegen.specs.Phrases.{patched_code}
+use Rattle.condition_codegen.proofs.Fragments.{joined_nothing}
+use Rattle.condition_codegen.proofs.Meeting.{meeting}
+use Rattle.condition_codegen.proofs.Sequences.{then_piece}
 
 pub alone_made : (scope : Scope) {S : Type 0} (inside : S → Fragment) (verb : on_files.Verb) (file : ProgramFile)
     (old filed tested begun middle behind end : Code) (branch other : ℕ)

@@ -33,8 +33,9 @@ use Rattle.name_table.specs.Items.{called_item, IsNamed}
 use Rattle.name_table.specs.Positions.{look_up}
 use Rattle.name_table.proofs.Picked.{named_items}
 use Rattle.file_descriptions.specs.Clauses.{only_number}
-use Rattle.codegen.specs.FileCode.{index_at, clause_index, code_file, code_files}
-use Rattle.codegen.proofs.Codes.{left_none, right_none, only_named}
+use Rattle.statement_codegen.specs.FileCode.{index_at, clause_index, code_file, code_files}
+use Rattle.condition_codegen.proofs.Lists.{left_none, right_none}
+use Rattle.statement_codegen.proofs.NamedItems.{only_named}
 
 -- ---- by their places
 

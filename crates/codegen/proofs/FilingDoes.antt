@@ -22,7 +22,7 @@ use Rattle.source_tree.specs.Filing.{from_item, on_file, file_with_record, is_in
 use Rattle.source_tree.specs.Filing.{statement_on, on_name, open_one, close_one, phrases_of, file_outcome}
 use Rattle.source_tree.specs.FilingRules.{open_rules, close_rules, read_rules}
 use Rattle.source_tree.specs.FilingRules.{read_phrase_rules, read_key_rules, into_rules, from_rules}
-use Rattle.codegen.proofs.FilingKept.{whole_record}
+use Rattle.statement_codegen.proofs.FilingKept.{whole_record}
 use Rattle.source_tree.specs.FilingRules.{record_rules, delete_rules, start_rules, filing_rules, is_random}
 use Rattle.source_tree.specs.LookUp.{items_named, first}
 use Rattle.source_tree.specs.NameRules.{unique_name_rules, reference_rules}
@@ -40,21 +40,21 @@ use Rattle.file_image.specs.declared.class.StatusClass.TheVariants as class
 use Rattle.file_image.specs.Classes.{is_of, has_class}
 use Rattle.code_image.specs.declared.code.Code.{Code}
 use Rattle.code_image.specs.Points.{Own}
-use Rattle.codegen.specs.Fragments.{Fragment, append, sequence}
-use Rattle.codegen.specs.Meeting.{either_fragment, nothing_fragment}
-use Rattle.codegen.specs.FileCode.{file_fragment, test_fragment, unheard_fragment, on_file_fragment, into_fragment}
-use Rattle.codegen.specs.FileCode.{from_fragment}
+use Rattle.condition_codegen.specs.Fragments.{Fragment, append, sequence}
+use Rattle.condition_codegen.specs.Meeting.{either_fragment, nothing_fragment}
+use Rattle.statement_codegen.specs.FileCode.{file_fragment, test_fragment, unheard_fragment, on_file_fragment}
+use Rattle.statement_codegen.specs.FileCode.{into_fragment, from_fragment}
 use Rattle.codegen.specs.Layout.{phrase_fragment, taken_fragment, success_fragment, class_fragment, failure_fragment}
 use Rattle.codegen.specs.Layout.{status_fragment, statement_on_fragment, alone_fragment, open_fragment, close_fragment}
 use Rattle.codegen.specs.Layout.{record_fragment, file_statement_fragment}
 use Rattle.codegen.proofs.Blind.{Blind, both_blind}
 use Rattle.codegen.proofs.BlindFiling.{unheard_blind, into_blind, taken_blind, success_blind, failure_blind}
 use Rattle.codegen.proofs.ConditionBlind.{nothing_blind}
-use Rattle.codegen.proofs.Codes.{left_none, right_none}
+use Rattle.condition_codegen.proofs.Lists.{left_none, right_none}
 use Rattle.codegen.proofs.Standing.{Stands}
 use Rattle.codegen.proofs.Branching.{either_at, either_does}
-use Rattle.codegen.proofs.Doing.{PartDoes, Sits, front_sits, back_sits, IsRoom, parts_do, nothing_does}
-use Rattle.codegen.proofs.Doing.{in_order_does, Repeats}
+use Rattle.codegen.proofs.Doing.{PartDoes, Sits, front_sits, back_sits, IsRoom, parts_do, nothing_does, in_order_does}
+use Rattle.codegen.proofs.Doing.{Repeats}
 use Rattle.codegen.proofs.FileDoing.{ended, tested, test_then, unheard_does, file_then}
 use Rattle.codegen.proofs.HasFiles.{IsFiled, HasFiles, first_so}
 use Rattle.codegen.proofs.MoveDoing.{move_does, into_does}

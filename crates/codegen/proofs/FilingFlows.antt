@@ -42,24 +42,23 @@ use Rattle.file_image.specs.declared.class.StatusClass.{StatusClass}
 use Rattle.file_image.specs.declared.class.StatusClass.TheVariants as class
 use Rattle.code_image.specs.declared.code.Code.{Code}
 use Rattle.code_image.specs.Known.{known_along}
-use Rattle.codegen.specs.Fragments.{Fragment, append, sequence, in_order}
-use Rattle.codegen.specs.DataCode.{move_fragment}
-use Rattle.codegen.specs.Meeting.{either_fragment, nothing_fragment}
-use Rattle.codegen.specs.FileCode.{sent_index, file_fragment, test_fragment, unheard_fragment, on_file_fragment}
-use Rattle.codegen.specs.FileCode.{into_fragment, from_fragment, on_record_fragment}
+use Rattle.condition_codegen.specs.Fragments.{Fragment, append, sequence, in_order}
+use Rattle.condition_codegen.specs.DataCode.{move_fragment}
+use Rattle.condition_codegen.specs.Meeting.{either_fragment, nothing_fragment}
+use Rattle.statement_codegen.specs.FileCode.{sent_index, file_fragment, test_fragment, unheard_fragment}
+use Rattle.statement_codegen.specs.FileCode.{on_file_fragment, into_fragment, from_fragment, on_record_fragment}
 use Rattle.codegen.specs.Layout.{phrase_fragment, taken_fragment, success_fragment, class_fragment, failure_fragment}
 use Rattle.codegen.specs.Layout.{status_fragment, statement_on_fragment, alone_fragment, open_fragment, close_fragment}
 use Rattle.codegen.specs.Layout.{record_fragment, file_statement_fragment}
 use Rattle.codegen.proofs.Blind.{Blind, both_blind}
 use Rattle.codegen.proofs.BlindFiling.{unheard_blind, into_blind, taken_blind, success_blind, failure_blind}
 use Rattle.codegen.proofs.ConditionBlind.{nothing_blind}
-use Rattle.codegen.proofs.Codes.{left_none, right_none}
+use Rattle.condition_codegen.proofs.Lists.{left_none, right_none}
 use Rattle.codegen.proofs.Doing.{any}
 use Rattle.codegen.proofs.FilingDoes.{first_asked, into_kept}
-use Rattle.codegen.proofs.Flowing.{rest, along_data, Flows, both_flow, nothing_flows, BodyFlows}
-use Rattle.codegen.proofs.Flowing.{either_flows}
+use Rattle.codegen.proofs.Flowing.{rest, along_data, Flows, both_flow, nothing_flows, BodyFlows, either_flows}
 use Rattle.codegen.proofs.HasFiles.{IsFiled, HasFiles, first_so}
-use Rattle.codegen.proofs.FilingKept.{whole_record}
+use Rattle.statement_codegen.proofs.FilingKept.{whole_record}
 use Rattle.codegen.proofs.Lying.{receive_each}
 use Rattle.codegen.proofs.MoveDoing.{into_coded}
 use Rattle.codegen.proofs.Standing.{Stands, front, back}

@@ -20,10 +20,10 @@ use Rattle.file_image.specs.declared.class.StatusClass.{StatusClass}
 use Rattle.file_image.specs.declared.class.StatusClass.TheVariants as class
 use Rattle.code_image.specs.declared.code.Code.{Code}
 use Rattle.declarations.proofs.FilingLayers.{mapped_phrases, mapped_filing}
-use Rattle.codegen.specs.Fragments.{Fragment, append, sequence, in_order}
-use Rattle.codegen.specs.Meeting.{either_fragment, nothing_fragment}
-use Rattle.codegen.specs.FileCode.{file_fragment, test_fragment, unheard_fragment, on_file_fragment, into_fragment}
-use Rattle.codegen.specs.FileCode.{from_fragment}
+use Rattle.condition_codegen.specs.Fragments.{Fragment, append, sequence, in_order}
+use Rattle.condition_codegen.specs.Meeting.{either_fragment, nothing_fragment}
+use Rattle.statement_codegen.specs.FileCode.{file_fragment, test_fragment, unheard_fragment, on_file_fragment}
+use Rattle.statement_codegen.specs.FileCode.{into_fragment, from_fragment}
 use Rattle.codegen.specs.Layout.{phrase_fragment, taken_fragment, success_fragment, class_fragment, failure_fragment}
 use Rattle.codegen.specs.Layout.{status_fragment, statement_on_fragment, alone_fragment, record_fragment}
 use Rattle.codegen.specs.Layout.{file_statement_fragment}

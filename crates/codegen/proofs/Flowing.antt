@@ -11,9 +11,9 @@ use Rattle.code_image.specs.declared.code.Code.{Code}
 use Rattle.code_image.specs.declared.instruction.Instruction.{Instruction}
 use Rattle.code_image.specs.declared.instruction.Instruction.TheVariants as instruction
 use Rattle.code_image.specs.Known.{known_after, known_along}
-use Rattle.codegen.specs.Fragments.{Fragment, empty_code, append, in_order}
-use Rattle.codegen.specs.Meeting.{branch_code, jump_code, join_code, either_fragment}
-use Rattle.codegen.proofs.Codes.{left_none, right_none}
+use Rattle.condition_codegen.specs.Fragments.{Fragment, empty_code, append, in_order}
+use Rattle.condition_codegen.specs.Meeting.{branch_code, jump_code, join_code, either_fragment}
+use Rattle.condition_codegen.proofs.Lists.{left_none, right_none}
 use Rattle.codegen.proofs.Standing.{Stands, front, back}
 use Rattle.codegen.proofs.Blind.{Blind}
 use Rattle.codegen.proofs.Either.{either_laid}

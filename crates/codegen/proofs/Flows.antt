@@ -72,24 +72,24 @@ use Rattle.code_image.specs.declared.instruction.Instruction.{Instruction}
 use Rattle.code_image.specs.declared.instruction.Instruction.TheVariants as instruction
 use Rattle.code_image.specs.Known.{known_after, known_along}
 use Rattle.declarations.proofs.RuleLayers.{mapped_rules}
-use Rattle.codegen.specs.Fragments.{Fragment, append, sequence, in_order, plain_code}
-use Rattle.codegen.specs.Meeting.{branch_code, either_fragment, nothing_fragment}
-use Rattle.codegen.specs.DataCode.{work_fragment, take_fragment, reference_fragment, operands_fragment}
-use Rattle.codegen.specs.DataCode.{line_end_fragment, show_fragment}
-use Rattle.codegen.specs.ArithmeticCode.{arithmetic_fragment}
-use Rattle.codegen.specs.ConditionCode.{condition_fragment}
-use Rattle.codegen.specs.StringCode.{string_fragment}
+use Rattle.condition_codegen.specs.Fragments.{Fragment, append, sequence, in_order, plain_code}
+use Rattle.condition_codegen.specs.Meeting.{branch_code, either_fragment, nothing_fragment}
+use Rattle.condition_codegen.specs.DataCode.{work_fragment, take_fragment, reference_fragment, operands_fragment}
+use Rattle.condition_codegen.specs.DataCode.{line_end_fragment, show_fragment}
+use Rattle.condition_codegen.specs.ArithmeticCode.{arithmetic_fragment}
+use Rattle.condition_codegen.specs.ConditionCode.{condition_fragment}
+use Rattle.statement_codegen.specs.StringCode.{string_fragment}
 use Rattle.codegen.specs.UntilCode.{tick_fragment, repetition_fragment, until_before_fragment, until_after_fragment}
 use Rattle.codegen.specs.UntilCode.{until_from_fragment, vary_begin_fragment, vary_on_fragment, until_fragment}
-use Rattle.codegen.specs.SubjectCode.{first_object, look, look_fragment, subject_fragment, is_asked_first, taken_from}
-use Rattle.codegen.specs.SubjectCode.{subjects_fragment}
+use Rattle.statement_codegen.specs.SubjectCode.{first_object, look, look_fragment, subject_fragment, is_asked_first}
+use Rattle.statement_codegen.specs.SubjectCode.{taken_from, subjects_fragment}
 use Rattle.codegen.specs.Layout.{loop_begin, count_begin, turn_end, counted_turn, times_fragment, counted_fragment}
 use Rattle.codegen.specs.Layout.{turns_fragment, range_fragment, turn_fragment, data_fragment, texts_fragment}
 use Rattle.codegen.specs.Layout.{phrase_fragment, phrases_from, phrases_fragment, selection_fragment, evaluate_fragment}
 use Rattle.codegen.specs.Layout.{conditional_fragment, file_statement_fragment, verb_fragment, statement_fragment}
 use Rattle.codegen.specs.Layout.{sentence_fragment, start_fragment, back_fragment, paragraph_fragment}
-use Rattle.codegen.proofs.Codes.{left_none, right_none, taking_coded, move_coded, display_coded, accept_coded}
-use Rattle.codegen.proofs.Codes.{date_coded}
+use Rattle.condition_codegen.proofs.Lists.{left_none, right_none}
+use Rattle.codegen.proofs.Codes.{taking_coded, move_coded, display_coded, accept_coded, date_coded}
 use Rattle.codegen.proofs.ArithmeticCodes.{arithmetic_coded}
 use Rattle.codegen.proofs.PatternCodes.{initializes_codes, sets_codes, lie_each, lie_conditions}
 use Rattle.codegen.proofs.StringCodes.{string_codes, lies_string}
@@ -97,7 +97,7 @@ use Rattle.codegen.proofs.InspectCodes.{inspect_codes, convert_codes, lies_inspe
 use Rattle.codegen.proofs.Lying.{lies_all, shows_all, sends, receives_one, receive_each, lies_operation}
 use Rattle.codegen.proofs.Layers.{verb_map, rolled_is}
 use Rattle.codegen.proofs.Standing.{Stands, front, back}
-use Rattle.codegen.proofs.Fragments.{joined_assoc}
+use Rattle.condition_codegen.proofs.Fragments.{joined_assoc}
 use Rattle.codegen.proofs.Blind.{Blind, in_order_blind}
 use Rattle.codegen.proofs.FilingFlows.{filing_flows}
 use Rattle.codegen.proofs.HasFiles.{HasFiles}
@@ -106,9 +106,9 @@ use Rattle.codegen.proofs.Flowing.{branch_flows, AllFlow, in_order_flows, BodyFl
 use Rattle.codegen.proofs.ConditionBlind.{nothing_blind, condition_blind}
 use Rattle.codegen.proofs.ConditionFlows.{condition_flows}
 use Rattle.codegen.proofs.UntilBlind.{turn_before_blind, onward_blind, vary_on_blind}
-use Rattle.codegen.proofs.SubjectLooks.{look_rules, look_kept}
-use Rattle.codegen.proofs.EvaluateKept.{statements_of, selected_kept, first_group, other_groups, subjects_of, groups_of}
-use Rattle.codegen.proofs.EvaluateKept.{other_of}
+use Rattle.statement_codegen.proofs.SubjectLooks.{look_rules, look_kept}
+use Rattle.condition_codegen.proofs.EvaluateKept.{statements_of, selected_kept, first_group, other_groups, subjects_of}
+use Rattle.condition_codegen.proofs.EvaluateKept.{groups_of, other_of}
 use Rattle.codegen.proofs.BlindStatements.{counted_turn_blind, turn_blind, phrase_blind, selecting_blind}
 use Rattle.codegen.proofs.BlindStatements.{statement_blind}
 

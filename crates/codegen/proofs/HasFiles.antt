@@ -15,7 +15,7 @@ use Rattle.file_image.specs.declared.file.CodeFile.{CodeFile}
 use Rattle.file_image.specs.Files as table
 use Rattle.file_image.specs.Files.{places_of}
 use Rattle.code_image.specs.declared.code.Code.{Code}
-use Rattle.codegen.specs.FileCode.{sent_entry}
+use Rattle.statement_codegen.specs.FileCode.{sent_entry}
 
 -- A file stands in the table, with its places, and after the items stands what READ INTO sends of it.
 pub record IsFiled (whole : Code) (items : List LocatedItem) (file : ProgramFile) : Type 0 where

@@ -25,14 +25,14 @@ use Rattle.data_instructions.specs.InspectCodes.{IsTakenCode, AreTakenCode, HasI
 use Rattle.data_instructions.specs.InspectCodes.{LieTakings, LiesInspect, IsConvertCode, gather_by, taken_numbers}
 use Rattle.data_instructions.specs.InspectCodes.{inspect_by, convert_by}
 use Rattle.code_image.specs.declared.code.Code.{Code}
-use Rattle.codegen.specs.Fragments.{sequence}
-use Rattle.codegen.specs.DataCode.{reference_fragment}
-use Rattle.codegen.specs.InspectCode.{inspecting_fragment, taken_fragment, takings_fragment, inspection_entry}
-use Rattle.codegen.specs.InspectCode.{inspect_fragment, convert_fragment}
+use Rattle.condition_codegen.specs.Fragments.{sequence}
+use Rattle.condition_codegen.specs.DataCode.{reference_fragment}
+use Rattle.statement_codegen.specs.InspectCode.{inspecting_fragment, taken_fragment, takings_fragment, inspection_entry}
+use Rattle.statement_codegen.specs.InspectCode.{inspect_fragment, convert_fragment}
 use Rattle.codegen.proofs.Codes.{reference_coded, text_coded}
 use Rattle.codegen.proofs.CodedPieces.{CodedBy, both_by}
 use Rattle.codegen.proofs.ExpressionCodes.{taking_codes}
-use Rattle.codegen.proofs.InspectKept.{KeepsTaking, keeps_inspect, takings_keep}
+use Rattle.statement_codegen.proofs.InspectKept.{KeepsTaking, keeps_inspect, takings_keep}
 use Rattle.codegen.proofs.Lying.{lies_all}
 use Rattle.codegen.proofs.Standing.{inspection_stands}
 

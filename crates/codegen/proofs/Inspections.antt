@@ -7,8 +7,8 @@ use Rattle.source_tree.specs.InspectRules.{inspect_rules}
 use Rattle.source_tree.specs.InspectLayout.{all_tallied}
 use Rattle.source_tree.proofs.InspectKept.{inspection_within}
 use Rattle.data_instructions.specs.Tables.{IsInspection}
-use Rattle.codegen.specs.InspectCode.{inspection_entry}
-use Rattle.codegen.proofs.InspectLists.{total_counts, so_many}
+use Rattle.statement_codegen.specs.InspectCode.{inspection_entry}
+use Rattle.statement_codegen.proofs.InspectLists.{total_counts, so_many}
 
 -- each item has a byte or more
 abbrev pub AreSized : List LocatedItem → Type 0

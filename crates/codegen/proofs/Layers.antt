@@ -22,8 +22,8 @@ use Rattle.source_tree.specs.Performing.{turns_of}
 use Rattle.source_tree.specs.Places.{LocatedItem}
 use Rattle.source_tree.specs.Setting.{Scope}
 use Rattle.declarations.proofs.FilingLayers.{filing_mapped}
-use Rattle.codegen.specs.Fragments.{Fragment, append, sequence, in_order}
-use Rattle.codegen.specs.ArithmeticCode.{arithmetic_fragment}
+use Rattle.condition_codegen.specs.Fragments.{Fragment, append, sequence, in_order}
+use Rattle.condition_codegen.specs.ArithmeticCode.{arithmetic_fragment}
 use Rattle.source_tree.specs.declared.conditional_statement.ConditionalStatement.{ConditionalStatement}
 use Rattle.source_tree.specs.declared.conditional_statement.ConditionalStatement.TheVariants as branch
 use Rattle.source_tree.specs.declared.evaluate_statement.Subject.{Subject}
@@ -34,13 +34,13 @@ use Rattle.source_tree.specs.declared.until.TestTime.{TestTime}
 use Rattle.source_tree.specs.declared.until.TestTime.TheVariants.{Before, After}
 use Rattle.source_tree.specs.declared.until.Until as until
 use Rattle.data_instructions.specs.declared.instruction.DataInstruction.TheVariants as i
-use Rattle.codegen.specs.Meeting.{branch_code, either_fragment, nothing_fragment}
-use Rattle.codegen.specs.DataCode.{work_fragment, take_fragment}
-use Rattle.codegen.specs.ConditionCode.{condition_fragment}
-use Rattle.codegen.specs.StringCode.{string_fragment}
+use Rattle.condition_codegen.specs.Meeting.{branch_code, either_fragment, nothing_fragment}
+use Rattle.condition_codegen.specs.DataCode.{work_fragment, take_fragment}
+use Rattle.condition_codegen.specs.ConditionCode.{condition_fragment}
+use Rattle.statement_codegen.specs.StringCode.{string_fragment}
 use Rattle.codegen.specs.UntilCode.{tick_fragment, repetition_fragment, until_from_fragment, vary_begin_fragment}
 use Rattle.codegen.specs.UntilCode.{vary_on_fragment, until_fragment}
-use Rattle.codegen.specs.SubjectCode.{first_object, subjects_fragment}
+use Rattle.statement_codegen.specs.SubjectCode.{first_object, subjects_fragment}
 use Rattle.codegen.specs.Layout.{loop_begin, count_begin, turn_end, counted_turn, times_fragment, counted_fragment}
 use Rattle.codegen.specs.Layout.{turns_fragment, turn_fragment, phrase_fragment, phrases_from, selection_fragment}
 use Rattle.codegen.specs.Layout.{verb_fragment, statement_layer, statement_fragment}

@@ -13,13 +13,14 @@ use Rattle.code_image.specs.declared.instruction.Instruction.TheVariants.{Accept
 use Rattle.code_image.specs.declared.instruction.Instruction.TheVariants.{Back, File, TestStatus, Unheard, Data}
 use Rattle.code_image.specs.Demands.{NamesCounter, UsesBudget, IsJoin, back_count, ends_in, paragraph_at, Stays}
 use Rattle.code_image.specs.Demands.{LeadsOn, JumpsBack, HasValidTargets, AllLead}
-use Rattle.codegen.specs.Fragments.{Fragment, empty_code, append, sequence, plain_code}
-use Rattle.codegen.specs.Meeting.{branch_code, jump_code, join_code, either_fragment}
+use Rattle.condition_codegen.specs.Fragments.{Fragment, empty_code, append, sequence, plain_code}
+use Rattle.condition_codegen.specs.Meeting.{branch_code, jump_code, join_code, either_fragment}
 use Rattle.codegen.proofs.Standing.{at_seam}
 use Rattle.codegen.proofs.Blind.{Blind}
 use Rattle.codegen.proofs.Either.{either_laid}
 use Rattle.data_instructions.specs.Tables.{IsInspection}
-use Rattle.codegen.proofs.Straight.{all_both, IsSent, IsStraight, IsPartOf, Straight}
+use Rattle.condition_codegen.proofs.Lists.{all_both}
+use Rattle.codegen.proofs.Straight.{IsSent, IsStraight, IsPartOf, Straight}
 
 pub all_weaker : {A : Type 0} (P Q : A → Type 0) → ((x : A) → P x → Q x) → (xs : List A) → AllByRecursion P xs
     → AllByRecursion Q xs

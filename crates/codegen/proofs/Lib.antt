@@ -13,36 +13,15 @@ pub mod BlindFiling
 pub mod FilingLayers
 pub mod BlindStatements
 -- What the code is made from
-pub mod Works
-pub mod Sequences
 pub mod Meeting
+pub mod WaysMet
 pub mod Opening
-pub mod ExpressionForms
-pub mod Kept
-pub mod FilingKept
-pub mod OneNamed
 pub mod FileParts
 pub mod OnFiles
-pub mod Operations
-pub mod NewBytes
-pub mod PartBytes
-pub mod Subscripts
-pub mod ItemParts
 pub mod StorageItems
-pub mod ConditionItems
-pub mod ConditionValues
 pub mod Declared
-pub mod ConditionNames
-pub mod ConditionLayers
-pub mod EvaluateKept
-pub mod SubjectFaults
-pub mod OperandOrder
-pub mod Questions
-pub mod SubjectLooks
-pub mod Sides
 pub mod Varying
 -- The code of references, of statements on data and of conditions, and the machine along it
-pub mod Integers
 pub mod Codes
 pub mod CodedPieces
 pub mod Lying
@@ -52,11 +31,7 @@ pub mod ArithmeticCodes
 pub mod ConditionCodes
 pub mod PatternCodes
 pub mod StringCodes
-pub mod InspectLists
-pub mod InspectMaking
-pub mod InspectKept
 pub mod InspectCodes
-mod RelationPieces
 pub mod Running
 -- The machine does what the tree means
 pub mod Doing
@@ -100,7 +75,3 @@ pub mod CodeFiles
 pub mod Verified
 -- The run is what the program means
 pub mod Meaning
-pub mod PlacedItems
-pub mod WaysMet
-pub mod ReferencePieces
-pub mod AskedPairs

@@ -26,9 +26,11 @@ use Rattle.data_instructions.specs.Codes.{data_item}
 use Rattle.data_instructions.specs.Chains.{LiesWhole, LiesAll, ShowsAll, SendsAs, MayReceive, MayReceiveEach}
 use Rattle.data_instructions.specs.ArithmeticCodes.{LiesOperand, LieOperands, LieReceivers, LiesOperation}
 use Rattle.code_image.specs.declared.code.Code.{Code}
-use Rattle.codegen.specs.DataCode.{item_number}
-use Rattle.codegen.proofs.Codes.{left_none, right_none, item_there, keeps}
-use Rattle.codegen.proofs.Integers.{kept, not_false}
+use Rattle.condition_codegen.specs.DataCode.{item_number}
+use Rattle.condition_codegen.proofs.Lists.{left_none, right_none}
+use Rattle.statement_codegen.proofs.NamedItems.{item_there}
+use Rattle.codegen.proofs.Codes.{keeps}
+use Rattle.condition_codegen.proofs.Integers.{kept, not_false}
 
 module _ (items : List LocatedItem) (whole : Code) (entries : (n : ℕ) (one : LocatedItem) → slice_get items n ≡ Some one
     → slice_get whole.tables.items n ≡ Some (data_item one))

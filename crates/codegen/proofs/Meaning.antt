@@ -32,12 +32,13 @@ use Rattle.file_image.specs.declared.file.CodeFile.{CodeFile}
 use Rattle.code_image.specs.declared.code.Code.{Code}
 use Rattle.code_image.specs.Points.{nothing_own, all_closed, start_state}
 use Rattle.code_image.specs.Table.{exec_code, Runs}
-use Rattle.codegen.specs.Fragments.{empty_code, append, in_order}
+use Rattle.condition_codegen.specs.Fragments.{empty_code, append, in_order}
 use Rattle.codegen.specs.Layout.{section_fragment, paragraph_fragment, end_fragment, storage_code, code_of}
-use Rattle.codegen.proofs.Codes.{left_none, right_none}
+use Rattle.condition_codegen.proofs.Lists.{left_none, right_none}
 use Rattle.codegen.proofs.CodeFiles.{kept_at}
 use Rattle.codegen.proofs.Demands.{all_front, all_back, paragraph_meets}
-use Rattle.codegen.proofs.Fragments.{joined_assoc, joined_nothing, flat}
+use Rattle.condition_codegen.proofs.Fragments.{joined_assoc, joined_nothing}
+use Rattle.codegen.proofs.Fragments.{flat}
 use Rattle.codegen.proofs.Procedures.{Laid, AreBare, laid_out, below, below_is}
 use Rattle.codegen.proofs.ProgramDoes.{range_ends}
 use Rattle.codegen.proofs.Ranges.{EndsWithin, FoundWithin, range_within, procedures_end}

@@ -25,10 +25,11 @@ use Rattle.data_instructions.proofs.Codes.{move_works, receivers_works}
 use Rattle.code_image.specs.declared.code.Code.{Code}
 use Rattle.code_image.specs.declared.instruction.Instruction.TheVariants.{Data}
 use Rattle.code_image.specs.Points.{Own, scratch_of}
-use Rattle.codegen.specs.Fragments.{append}
-use Rattle.codegen.specs.DataCode.{works_fragment, receivers_fragment, move_fragment}
-use Rattle.codegen.specs.FileCode.{sent_entry, sent_index, into_fragment}
-use Rattle.codegen.proofs.Codes.{Coded, map_both, receivers_coded, move_coded}
+use Rattle.condition_codegen.specs.Fragments.{append}
+use Rattle.condition_codegen.specs.DataCode.{works_fragment, receivers_fragment, move_fragment}
+use Rattle.statement_codegen.specs.FileCode.{sent_entry, sent_index, into_fragment}
+use Rattle.codegen.proofs.Codes.{Coded, receivers_coded, move_coded}
+use Rattle.condition_codegen.proofs.Lists.{map_both}
 use Rattle.codegen.proofs.DataDoing.{behind_code, stored_does, moved_does}
 use Rattle.codegen.proofs.Doing.{end_of, PartDoes, nothing_does}
 use Rattle.codegen.proofs.HasFiles.{IsFiled}

@@ -2,9 +2,9 @@
 use Rattle.std.proofs.Common.{◌≡◌, Option, Some, None, sym, ap, ◌∙◌}
 use Rattle.source_tree.specs.ProgramFiles.{ProgramFile}
 use Rattle.code_image.specs.declared.code.Code.{Code}
-use Rattle.codegen.specs.Fragments.{Fragment, append}
-use Rattle.codegen.specs.FileCode.{on_file_fragment}
-use Rattle.codegen.proofs.Fragments.{joined_nothing}
+use Rattle.condition_codegen.specs.Fragments.{Fragment, append}
+use Rattle.statement_codegen.specs.FileCode.{on_file_fragment}
+use Rattle.condition_codegen.proofs.Fragments.{joined_nothing}
 
 -- There is none, and so no code.
 pub none_found : (found : Option ProgramFile) (piece : ProgramFile → Fragment) (code : Code) → found ≡ None

@@ -11,14 +11,15 @@ use Rattle.source_tree.specs.Setting.{Scope}
 use Rattle.code_image.specs.declared.code.Code.{Code}
 use Rattle.code_image.specs.declared.instruction.Instruction.TheVariants.{Branch, Jump, Join}
 use Rattle.codegen.specs.declared.phrases.Way.{Way}
-use Rattle.codegen.specs.Fragments.{Fragment, append, sequence, in_order}
-use Rattle.codegen.specs.Meeting.{branch_code, jump_code, either_fragment}
-use Rattle.codegen.specs.ConditionCode.{condition_fragment}
+use Rattle.condition_codegen.specs.Fragments.{Fragment, append, sequence, in_order}
+use Rattle.condition_codegen.specs.Meeting.{branch_code, jump_code, either_fragment}
+use Rattle.condition_codegen.specs.ConditionCode.{condition_fragment}
 use Rattle.codegen.specs.Layout.{phrase_fragment, selection_fragment}
-use Rattle.codegen.specs.Phrases.{patched_code, IsWay, met_all, opened_fragment, Opens}
-use Rattle.codegen.proofs.Fragments.{both_joined}
-use Rattle.codegen.proofs.Sequences.{then_piece}
-use Rattle.codegen.proofs.Meeting.{meeting}
+use Rattle.condition_codegen.specs.Phrases.{patched_code}
+use Rattle.codegen.specs.Phrases.{IsWay, met_all, opened_fragment, Opens}
+use Rattle.condition_codegen.proofs.Fragments.{both_joined}
+use Rattle.condition_codegen.proofs.Sequences.{then_piece}
+use Rattle.condition_codegen.proofs.Meeting.{meeting}
 
 -- ---- one way
 

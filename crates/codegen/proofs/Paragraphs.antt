@@ -22,10 +22,10 @@ use Rattle.code_image.specs.declared.instruction.Instruction.TheVariants.{Accept
 use Rattle.code_image.specs.declared.instruction.Instruction.TheVariants.{Back, File, TestStatus, Unheard, Data}
 use Rattle.code_image.specs.Demands.{NamesParagraph, IsBack, back_count, ends_in, paragraph_at, IsFront, StartsAt}
 use Rattle.code_image.specs.Demands.{performs, performed_from}
-use Rattle.codegen.specs.Fragments.{empty_code, append, in_order}
+use Rattle.condition_codegen.specs.Fragments.{empty_code, append, in_order}
 use Rattle.codegen.specs.Layout.{sentence_fragment, start_fragment, back_fragment, paragraph_fragment}
-use Rattle.codegen.proofs.Codes.{left_none, right_none}
-use Rattle.codegen.proofs.ConditionValues.{AreFormed}
+use Rattle.condition_codegen.proofs.Lists.{left_none, right_none, all_both}
+use Rattle.condition_codegen.proofs.ConditionValues.{AreFormed}
 use Rattle.codegen.proofs.Inspections.{AreSized}
 use Rattle.codegen.proofs.Demands.{Asked, asks_of, paragraph_meets}
 use Rattle.codegen.proofs.HasFiles.{IsNumbered, IsSuited}
@@ -33,7 +33,6 @@ use Rattle.codegen.proofs.Leading.{ends_append, taken_behind, paragraph_stays, p
 use Rattle.codegen.proofs.Leading.{both_ways, Names, both_name, plain_names, all_weaker, Asks, PerformsOnly, Meets}
 use Rattle.codegen.proofs.Ranges.{EndsWithin}
 use Rattle.codegen.proofs.Standing.{at_seam}
-use Rattle.codegen.proofs.Straight.{all_both}
 
 -- ---- what instructions perform
 

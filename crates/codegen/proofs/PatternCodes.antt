@@ -4,16 +4,14 @@ use Rattle.std.proofs.Common.{◌≡◌, ℕ, ◌+◌, List, [], ◌∷◌, ◌+
 use Rattle.std.proofs.Common.{append_assoc, length-append}
 use Rattle.std.specs.Prelude.{slice_get}
 use Rattle.std.proofs.lemmas.Option.{same_Some}
-use Rattle.lexical.specs.declared.place.Place.{Place}
 use Rattle.source_tree.specs.declared.reference.Reference.{Reference}
-use Rattle.source_tree.specs.Broken.{RuleBreach, each}
-use Rattle.source_tree.specs.ConditionRules.{condition_subscripts, condition_name_rules}
+use Rattle.source_tree.specs.Broken.{each}
 use Rattle.source_tree.specs.Initializing.{Pattern, named_pattern, set_pattern}
-use Rattle.source_tree.specs.LookUp.{NamedCondition, items_named, conditions_named, all_conditions, first}
-use Rattle.source_tree.specs.NameRules.{unique_name_rules, number_rules_of, reference_rules, any_item}
+use Rattle.source_tree.specs.LookUp.{NamedCondition, conditions_named, all_conditions, first}
+use Rattle.source_tree.specs.NameRules.{reference_rules, any_item}
 use Rattle.source_tree.specs.Parts.{seen_through}
 use Rattle.source_tree.specs.Places.{LocatedItem}
-use Rattle.source_tree.specs.SettingRules.{set_name, set_one, set_rules, initialize_rules}
+use Rattle.source_tree.specs.SettingRules.{set_one, set_rules, initialize_rules}
 use Rattle.data_instructions.specs.declared.index.TextIndex.{TextIndex}
 use Rattle.data_instructions.specs.declared.instruction.DataInstruction.{DataInstruction}
 use Rattle.data_instructions.specs.declared.instruction.DataInstruction.TheVariants as i
@@ -22,17 +20,20 @@ use Rattle.data_instructions.specs.Chains.{LiesWhole}
 use Rattle.data_instructions.specs.TextCodes.{new_byte, new_mark, HasPattern, IsInitializeCode, AreInitializedCode}
 use Rattle.data_instructions.specs.TextCodes.{IsSetCode, AreSetCode, LieEach, LieConditions}
 use Rattle.code_image.specs.declared.code.Code.{Code}
-use Rattle.codegen.specs.Fragments.{sequence}
-use Rattle.codegen.specs.DataCode.{item_number, dimensions_of, subscripts_fragment, reference_fragment}
-use Rattle.codegen.specs.ConditionCode.{condition_number, condition_item}
-use Rattle.codegen.specs.PatternCode.{pattern_fragment, pattern_of, set_of, initialize_fragment, initializes_fragment}
-use Rattle.codegen.specs.PatternCode.{set_fragment, sets_fragment}
-use Rattle.codegen.proofs.Codes.{left_none, right_none, item_there, keeps, reference_coded}
+use Rattle.condition_codegen.specs.Fragments.{sequence}
+use Rattle.condition_codegen.specs.DataCode.{item_number, dimensions_of, subscripts_fragment, reference_fragment}
+use Rattle.condition_codegen.specs.ConditionCode.{condition_number, condition_item}
+use Rattle.condition_codegen.specs.PatternCode.{pattern_fragment, pattern_of, set_of, initialize_fragment}
+use Rattle.condition_codegen.specs.PatternCode.{initializes_fragment, set_fragment, sets_fragment}
+use Rattle.condition_codegen.proofs.Lists.{left_none, right_none}
+use Rattle.statement_codegen.proofs.NamedItems.{item_there}
+use Rattle.codegen.proofs.Codes.{keeps, reference_coded}
 use Rattle.codegen.proofs.CodedPieces.{CodedBy, both_by, before_by}
 use Rattle.codegen.proofs.ConditionCodes.{keeps_name, name_subscripts}
-use Rattle.codegen.proofs.ConditionItems.{condition_there}
+use Rattle.condition_codegen.proofs.ConditionItems.{condition_there}
 use Rattle.codegen.proofs.Lying.{lies_all}
 use Rattle.codegen.proofs.Standing.{Stands, at_seam, text_stands}
+use Rattle.condition_codegen.proofs.Setting.{set_kept}
 
 -- the second text that a part adds
 second_text_stands : (whole before part : Code) (x y : List ℕ) → part.tables.texts ≡ x ∷ y ∷ []
@@ -50,20 +51,6 @@ second_text_stands whole before part x y is st =
     ∙ sym (append_assoc pre (x ∷ []) (y ∷ rest)) in
     ap (slice_get whole.tables.texts) n ∙ ap (λ (l : List (List ℕ)). slice_get l (length front)) same
     ∙ at_seam front y rest
-
--- A condition name that SET may name keeps the rules of condition names.
-set_named : (place : Place) (one : Reference) (found : List LocatedItem) (conditions : List NamedCondition)
-    (rest : List RuleBreach)
-    → set_name place one found conditions ++ rest ≡ []
-    → unique_name_rules place (condition_subscripts one) conditions ++ rest ≡ []
-set_named place one [] [] rest e = absurd cc
-set_named place one (x ∷ xs) [] rest e = absurd cc
-set_named place one found (c ∷ cs) rest e = e
-
-pub set_kept : (items : List LocatedItem) (one : Reference) → set_one items one ≡ []
-    → condition_name_rules items one ≡ []
-set_kept items one e = set_named one.item.name.place one (items_named items one.item) (conditions_named items one.item)
-    (number_rules_of items one) e
 
 module _ (items : List LocatedItem) (whole : Code) (entries : (n : ℕ) (one : LocatedItem) → slice_get items n ≡ Some one
     → slice_get whole.tables.items n ≡ Some (data_item one)) where

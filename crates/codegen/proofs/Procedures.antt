@@ -11,10 +11,10 @@ use Rattle.source_tree.specs.Setting.{Scope}
 use Rattle.code_image.specs.declared.code.Code.{Code}
 use Rattle.code_image.specs.declared.instruction.Instruction.{Instruction}
 use Rattle.code_image.specs.declared.instruction.Instruction.TheVariants.{Stop}
-use Rattle.codegen.specs.Fragments.{Fragment, empty_code, append, in_order}
+use Rattle.condition_codegen.specs.Fragments.{Fragment, empty_code, append, in_order}
 use Rattle.codegen.specs.Layout.{start_fragment, sentence_fragment, paragraph_fragment, end_fragment}
 use Rattle.codegen.proofs.Doing.{end_of}
-use Rattle.codegen.proofs.Fragments.{joined_assoc}
+use Rattle.condition_codegen.proofs.Fragments.{joined_assoc}
 use Rattle.codegen.proofs.Standing.{Stands, front, back, first_stands, start_stands}
 
 -- ---- pieces in order, by their numbers

@@ -26,9 +26,9 @@ use Rattle.code_image.specs.declared.code.Code.{Code}
 use Rattle.code_image.specs.declared.instruction.Instruction.TheVariants.{Stop, Perform, Back}
 use Rattle.code_image.specs.Points.{Return, Own}
 use Rattle.code_image.specs.Table.{over, tick_from, perform_at, back_if, back_from, exec_code}
-use Rattle.codegen.specs.Fragments.{append, in_order}
+use Rattle.condition_codegen.specs.Fragments.{append, in_order}
 use Rattle.codegen.specs.Layout.{range_fragment, statement_fragment, sentence_fragment, start_fragment, back_fragment}
-use Rattle.codegen.proofs.Fragments.{joined_assoc}
+use Rattle.condition_codegen.proofs.Fragments.{joined_assoc}
 use Rattle.codegen.proofs.Layers.{statement_is}
 use Rattle.codegen.proofs.BlindStatements.{statement_blind}
 use Rattle.codegen.proofs.Standing.{front, back, first_stands}

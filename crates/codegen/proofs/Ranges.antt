@@ -11,8 +11,8 @@ use Rattle.source_tree.specs.PerformRules.{procedure_named, last_named, last_pla
 use Rattle.source_tree.specs.Procedures.{Range, Procedure, paragraphs_or_one, paragraphs_in, paragraph_procedures}
 use Rattle.source_tree.specs.Procedures.{procedures_from, is_procedure, procedures_named, only_range, range_named}
 use Rattle.source_tree.specs.Procedures.{to_end_of, range_through, range_of}
-use Rattle.codegen.proofs.Codes.{left_none, right_none}
-use Rattle.codegen.proofs.Integers.{kept}
+use Rattle.condition_codegen.proofs.Lists.{left_none, right_none}
+use Rattle.condition_codegen.proofs.Integers.{kept}
 
 -- paragraphs of so many, in order
 pub record IsWithin (count : ℕ) (range : Range) : Type 0 where

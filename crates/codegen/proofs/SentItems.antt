@@ -31,11 +31,11 @@ use Rattle.source_tree.specs.ValueRules.{are_some}
 use Rattle.data_instructions.specs.declared.tables.DataItem.{DataItem}
 use Rattle.data_instructions.specs.Codes.{data_item}
 use Rattle.data_instructions.specs.Tables.{Lies, IsEditing, IsDataItem}
-use Rattle.codegen.specs.FileCode.{edited_alike, edits, editing_in, sent_entry}
-use Rattle.codegen.proofs.Codes.{left_none, right_none}
+use Rattle.statement_codegen.specs.FileCode.{edited_alike, edits, editing_in, sent_entry}
+use Rattle.condition_codegen.proofs.Lists.{left_none, right_none}
 use Rattle.codegen.proofs.Demands.{all_front, all_back}
 use Rattle.codegen.proofs.HasFiles.{first_so, none_pass, first_passes}
-use Rattle.codegen.proofs.Integers.{kept, not_false}
+use Rattle.condition_codegen.proofs.Integers.{kept, not_false}
 
 -- ---- kinds that are edited
 

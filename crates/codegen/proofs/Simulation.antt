@@ -81,32 +81,33 @@ use Rattle.code_image.specs.declared.instruction.Instruction.TheVariants.{Show, 
 use Rattle.code_image.specs.Points.{Own, scratch_of, state_with, own_with}
 use Rattle.code_image.specs.Table.{data_from, exec_code}
 use Rattle.initial_storage.proofs.Pictures.{some_bytes}
-use Rattle.codegen.specs.Fragments.{Fragment, empty_code, append, sequence, in_order, plain_code}
-use Rattle.codegen.specs.DataCode.{reference_fragment, take_fragment, operands_fragment}
-use Rattle.codegen.specs.DataCode.{line_end_fragment, show_fragment}
-use Rattle.codegen.specs.ArithmeticCode.{arithmetic_fragment}
-use Rattle.codegen.specs.PatternCode.{initializes_fragment, sets_fragment}
-use Rattle.codegen.specs.InspectCode.{inspect_fragment, convert_fragment}
-use Rattle.codegen.specs.StringCode.{string_fragment}
-use Rattle.codegen.specs.Meeting.{either_fragment}
-use Rattle.codegen.specs.ConditionCode.{condition_fragment}
+use Rattle.condition_codegen.specs.Fragments.{Fragment, empty_code, append, sequence, in_order, plain_code}
+use Rattle.condition_codegen.specs.DataCode.{reference_fragment, take_fragment, operands_fragment, line_end_fragment}
+use Rattle.condition_codegen.specs.DataCode.{show_fragment}
+use Rattle.condition_codegen.specs.ArithmeticCode.{arithmetic_fragment}
+use Rattle.condition_codegen.specs.PatternCode.{initializes_fragment, sets_fragment}
+use Rattle.statement_codegen.specs.InspectCode.{inspect_fragment, convert_fragment}
+use Rattle.statement_codegen.specs.StringCode.{string_fragment}
+use Rattle.condition_codegen.specs.Meeting.{either_fragment}
+use Rattle.condition_codegen.specs.ConditionCode.{condition_fragment}
 use Rattle.codegen.specs.UntilCode.{tick_fragment, until_from_fragment, vary_begin_fragment, vary_on_fragment}
 use Rattle.codegen.specs.UntilCode.{until_fragment}
-use Rattle.codegen.specs.SubjectCode.{first_object, is_asked_first, subjects_fragment}
+use Rattle.statement_codegen.specs.SubjectCode.{first_object, is_asked_first, subjects_fragment}
 use Rattle.codegen.specs.Layout.{data_fragment, texts_fragment, times_fragment, counted_fragment, turns_fragment}
 use Rattle.codegen.specs.Layout.{range_fragment, turn_fragment, phrase_fragment, phrases_from, phrases_fragment}
 use Rattle.codegen.specs.Layout.{selection_fragment, evaluate_fragment, conditional_fragment, file_statement_fragment}
 use Rattle.codegen.specs.Layout.{verb_fragment}
-use Rattle.codegen.proofs.Fragments.{joined_assoc}
+use Rattle.condition_codegen.proofs.Fragments.{joined_assoc}
 use Rattle.codegen.proofs.Blind.{Blind, in_order_blind}
 use Rattle.codegen.proofs.ConditionBlind.{condition_blind}
 use Rattle.codegen.proofs.UntilBlind.{vary_on_blind}
-use Rattle.codegen.proofs.EvaluateKept.{statements_of, selected_kept, first_group, other_groups, subjects_of, groups_of}
-use Rattle.codegen.proofs.EvaluateKept.{other_of}
+use Rattle.condition_codegen.proofs.EvaluateKept.{statements_of, selected_kept, first_group, other_groups, subjects_of}
+use Rattle.condition_codegen.proofs.EvaluateKept.{groups_of, other_of}
 use Rattle.codegen.proofs.BlindStatements.{turn_blind, phrase_blind, selecting_blind}
 use Rattle.codegen.proofs.Standing.{Stands, front, back, first_stands, code_stands}
 use Rattle.codegen.proofs.Running.{at, one_step, WorksFrom, works_from}
-use Rattle.codegen.proofs.Codes.{left_none, right_none, Coded, display_coded, accept_coded, date_coded}
+use Rattle.condition_codegen.proofs.Lists.{left_none, right_none}
+use Rattle.codegen.proofs.Codes.{Coded, display_coded, accept_coded, date_coded}
 use Rattle.codegen.proofs.ArithmeticCodes.{arithmetic_coded}
 use Rattle.codegen.proofs.PatternCodes.{initializes_codes, sets_codes}
 use Rattle.codegen.proofs.InspectCodes.{inspect_codes, convert_codes}
@@ -122,7 +123,7 @@ use Rattle.codegen.proofs.Counting.{said_does}
 use Rattle.codegen.proofs.TextDoing.{changed_does, strung_does}
 use Rattle.codegen.proofs.ConditionDoes.{condition_does}
 use Rattle.codegen.proofs.Evaluating.{evaluated_does}
-use Rattle.codegen.proofs.SubjectLooks.{looks_value, looks_are}
+use Rattle.statement_codegen.proofs.SubjectLooks.{looks_value, looks_are}
 use Rattle.codegen.proofs.SubjectsDo.{taking, taking_then, subjects_do}
 use Rattle.codegen.proofs.UntilTurns.{Tests, until_from_does}
 use Rattle.codegen.proofs.Branching.{either_does}

@@ -12,8 +12,8 @@ use Rattle.data_instructions.specs.declared.instruction.DataInstruction.{DataIns
 use Rattle.code_image.specs.declared.code.Code.{Code}
 use Rattle.code_image.specs.declared.instruction.Instruction.{Instruction}
 use Rattle.code_image.specs.declared.instruction.Instruction.TheVariants.{Data}
-use Rattle.codegen.specs.Fragments.{append}
-use Rattle.codegen.proofs.Fragments.{joined_assoc}
+use Rattle.condition_codegen.specs.Fragments.{append}
+use Rattle.condition_codegen.proofs.Fragments.{joined_assoc}
 
 -- The part stands in the whole right after the code before it.
 pub record Stands (whole before part : Code) : Type 0 where

@@ -17,10 +17,10 @@ use Rattle.data_instructions.specs.Codes.{data_item}
 use Rattle.file_descriptions.specs.declared.file.ProgramFile.{ProgramFile}
 use Rattle.file_descriptions.specs.Files.{file_in, numbers_in, clause_numbers}
 use Rattle.file_image.specs.declared.file.CodeFile.{CodeFile}
-use Rattle.codegen.specs.FileCode as files
-use Rattle.codegen.specs.FileCode.{edited_alike, editing_in}
+use Rattle.statement_codegen.specs.FileCode as files
+use Rattle.statement_codegen.specs.FileCode.{edited_alike, editing_in}
 use Rattle.codegen.specs.Sent.{edits, first_editing, code_in}
-use Rattle.codegen.proofs.Codes.{map_both}
+use Rattle.condition_codegen.proofs.Lists.{map_both}
 
 abbrev pub entry : PlacedItem → DataItem
 entry one = record { item = one.item; editing = one.editing; area = one.area; offset = one.offset }

@@ -1,6 +1,5 @@
 -- The code of references and of statements on data is straight: it counts nothing and leads nowhere.
-use Rattle.std.proofs.Common.{◌≡◌, List, [], ◌∷◌, ◌++◌, map, true, false, Bool, refl, ap, ◌∙◌, Option}
-use Rattle.std.proofs.Common.{Some, None}
+use Rattle.std.proofs.Common.{◌≡◌, List, [], ◌∷◌, ◌++◌, map, true, false, Bool, refl, ap, ◌∙◌, Option, Some, None}
 use Rattle.std.specs.Prelude.{ℕ, pos, slice_get, not}
 use Rattle.std.specs.List.{AllByRecursion}
 use Rattle.decimal18.specs.Fraction.{Fraction}
@@ -40,23 +39,17 @@ use Rattle.data_instructions.specs.Codes.{integer, index_code}
 use Rattle.code_image.specs.declared.code.Code.{Code}
 use Rattle.code_image.specs.declared.instruction.Instruction.{Instruction}
 use Rattle.code_image.specs.declared.instruction.Instruction.TheVariants as instruction
-use Rattle.codegen.specs.Fragments.{Fragment, empty_code, append, sequence, in_order, plain_code}
-use Rattle.codegen.specs.DataCode.{item_index, item_number, dimensions_of, work_fragment, works_fragment}
-use Rattle.codegen.specs.DataCode.{number_fragment, integer_fragment, adjustment_fragment, text_fragment}
-use Rattle.codegen.specs.DataCode.{line_end_fragment, subscript_fragment, subscripts_fragment}
-use Rattle.codegen.specs.DataCode.{reference_fragment, take_fragment, sender_fragment, receivers_fragment}
-use Rattle.codegen.specs.DataCode.{operand_fragment, place_fragment, unknown_fragment}
-use Rattle.codegen.specs.DataCode.{making_fragment}
-use Rattle.codegen.specs.ConditionCode.{condition_number, condition_item}
-use Rattle.codegen.specs.PatternCode.{pattern_fragment, pattern_of, set_of, initialize_fragment, set_fragment}
+use Rattle.condition_codegen.specs.Fragments.{Fragment, empty_code, append, sequence, in_order, plain_code}
+use Rattle.condition_codegen.specs.DataCode.{item_index, item_number, dimensions_of, work_fragment, works_fragment}
+use Rattle.condition_codegen.specs.DataCode.{number_fragment, integer_fragment, adjustment_fragment, text_fragment}
+use Rattle.condition_codegen.specs.DataCode.{line_end_fragment, subscript_fragment, subscripts_fragment}
+use Rattle.condition_codegen.specs.DataCode.{reference_fragment, take_fragment, sender_fragment, receivers_fragment}
+use Rattle.condition_codegen.specs.DataCode.{operand_fragment, place_fragment, unknown_fragment, making_fragment}
+use Rattle.condition_codegen.specs.ConditionCode.{condition_number, condition_item}
+use Rattle.condition_codegen.specs.PatternCode.{pattern_fragment, pattern_of, set_of, initialize_fragment, set_fragment}
 use Rattle.codegen.specs.Layout.{data_fragment}
-use Rattle.codegen.proofs.Codes.{left_none}
-use Rattle.codegen.proofs.Integers.{kept, not_false}
-
-pub all_both : {A : Type 0} (P : A → Type 0) (xs ys : List A) → AllByRecursion P xs → AllByRecursion P ys
-    → AllByRecursion P (xs ++ ys)
-all_both P [] ys a b = b
-all_both P (x ∷ xs) ys a b = (a.0, all_both P xs ys a.1 b)
+use Rattle.condition_codegen.proofs.Lists.{left_none, all_both}
+use Rattle.condition_codegen.proofs.Integers.{kept, not_false}
 
 -- a sender has the bytes of what it counts as
 abbrev pub IsSent : LiteralSender → Type 0

@@ -29,15 +29,17 @@ use Rattle.data_instructions.specs.TextCodes.{IsUpToPlaceCode, AreUpToPlaceCode,
 use Rattle.data_instructions.specs.TextCodes.{AreSendingsCode, IsPutCode, IsStringCode, LiesDelimiter, LieSendings}
 use Rattle.data_instructions.specs.TextCodes.{LiesPointer, LiesString}
 use Rattle.code_image.specs.declared.code.Code.{Code}
-use Rattle.codegen.specs.Fragments.{sequence, in_order}
-use Rattle.codegen.specs.DataCode.{work_fragment, text_fragment, reference_fragment}
-use Rattle.codegen.specs.StringCode.{up_to_text_fragment, text_up_to_place_fragment, sent_item_fragment, sent_fragment}
-use Rattle.codegen.specs.StringCode.{found_fragment, up_to_place_fragment, sender_by_fragment, sender_fragment}
-use Rattle.codegen.specs.StringCode.{sendings_fragment, pointer_numbers, put_fragment, string_fragment}
-use Rattle.codegen.proofs.Codes.{left_none, right_none, reference_coded, text_coded}
+use Rattle.condition_codegen.specs.Fragments.{sequence, in_order}
+use Rattle.condition_codegen.specs.DataCode.{work_fragment, text_fragment, reference_fragment}
+use Rattle.statement_codegen.specs.StringCode.{up_to_text_fragment, text_up_to_place_fragment, sent_item_fragment}
+use Rattle.statement_codegen.specs.StringCode.{sent_fragment, found_fragment, up_to_place_fragment, sender_by_fragment}
+use Rattle.statement_codegen.specs.StringCode.{sender_fragment, sendings_fragment, pointer_numbers, put_fragment}
+use Rattle.statement_codegen.specs.StringCode.{string_fragment}
+use Rattle.condition_codegen.proofs.Lists.{left_none, right_none}
+use Rattle.codegen.proofs.Codes.{reference_coded, text_coded}
 use Rattle.codegen.proofs.CodedPieces.{CodedBy, both_by, behind_by}
 use Rattle.codegen.proofs.ExpressionCodes.{taking_codes}
-use Rattle.codegen.proofs.Kept.{item_kept}
+use Rattle.condition_codegen.proofs.Kept.{item_kept}
 use Rattle.codegen.proofs.Lying.{lies_all}
 use Rattle.codegen.proofs.Standing.{text_stands}
 

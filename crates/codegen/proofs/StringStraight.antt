@@ -9,11 +9,11 @@ use Rattle.source_tree.specs.Places.{LocatedItem}
 use Rattle.source_tree.specs.Stringing.{sent_of}
 use Rattle.data_instructions.specs.declared.gather.Gather.TheVariants as g
 use Rattle.data_instructions.specs.declared.instruction.DataInstruction.TheVariants as i
-use Rattle.codegen.specs.Fragments.{sequence, in_order}
-use Rattle.codegen.specs.DataCode.{work_fragment, reference_fragment}
-use Rattle.codegen.specs.StringCode.{up_to_text_fragment, text_up_to_place_fragment, sent_item_fragment, sent_fragment}
-use Rattle.codegen.specs.StringCode.{found_fragment, up_to_place_fragment, sender_by_fragment, sender_fragment}
-use Rattle.codegen.specs.StringCode.{sendings_fragment, put_fragment, string_fragment}
+use Rattle.condition_codegen.specs.Fragments.{sequence, in_order}
+use Rattle.condition_codegen.specs.DataCode.{work_fragment, reference_fragment}
+use Rattle.statement_codegen.specs.StringCode.{up_to_text_fragment, text_up_to_place_fragment, sent_item_fragment}
+use Rattle.statement_codegen.specs.StringCode.{sent_fragment, found_fragment, up_to_place_fragment, sender_by_fragment}
+use Rattle.statement_codegen.specs.StringCode.{sender_fragment, sendings_fragment, put_fragment, string_fragment}
 use Rattle.codegen.proofs.Straight.{AlwaysStraight, both_straight, nothing_straight, in_order_straight, work_straight}
 use Rattle.codegen.proofs.Straight.{text_straight, reference_straight, taking_straight}
 

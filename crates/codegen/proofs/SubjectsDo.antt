@@ -18,15 +18,15 @@ use Rattle.data_instructions.specs.Codes.{data_item}
 use Rattle.data_instructions.specs.Chains.{LiesWhole}
 use Rattle.code_image.specs.declared.code.Code.{Code}
 use Rattle.code_image.specs.Points.{Own}
-use Rattle.codegen.specs.Fragments.{append}
-use Rattle.codegen.specs.ConditionCode.{condition_fragment}
-use Rattle.codegen.specs.SubjectCode.{look, look_fragment, subject_fragment, each_subject_fragment, is_asked_first}
-use Rattle.codegen.specs.SubjectCode.{taken_from, subjects_fragment}
+use Rattle.condition_codegen.specs.Fragments.{append}
+use Rattle.condition_codegen.specs.ConditionCode.{condition_fragment}
+use Rattle.statement_codegen.specs.SubjectCode.{look, look_fragment, subject_fragment, each_subject_fragment}
+use Rattle.statement_codegen.specs.SubjectCode.{is_asked_first, taken_from, subjects_fragment}
 use Rattle.codegen.proofs.ConditionDoes.{condition_does}
 use Rattle.codegen.proofs.Doing.{end_of, PartDoes, IsRoom, Sits, stays, nothing_does, Follows, in_order_does, Repeats}
 use Rattle.codegen.proofs.Evaluating.{evaluated_does}
 use Rattle.codegen.proofs.Standing.{Stands}
-use Rattle.codegen.proofs.SubjectLooks.{look_value, look_rules, looks_value, look_kept, look_found}
+use Rattle.statement_codegen.proofs.SubjectLooks.{look_value, look_rules, looks_value, look_kept, look_found}
 
 -- whether that is a fault, and else nothing
 abbrev pub taking : {A : Type 0} → Evaluation A → State → Outcome

@@ -18,10 +18,10 @@ use Rattle.data_instructions.specs.declared.instruction.DataInstruction.{DataIns
 use Rattle.data_instructions.specs.declared.instruction.DataInstruction.TheVariants as i
 use Rattle.data_instructions.specs.InspectCodes.{gather_by, taken_numbers, inspect_by, convert_by}
 use Rattle.code_image.specs.declared.instruction.Instruction.TheVariants as instruction
-use Rattle.codegen.specs.Fragments.{sequence, plain_code}
-use Rattle.codegen.specs.DataCode.{line_end_fragment, show_fragment, reference_fragment, operand_fragment}
-use Rattle.codegen.specs.DataCode.{operands_fragment}
-use Rattle.codegen.specs.InspectCode.{inspecting_fragment, inspection_entry, taken_fragment, takings_fragment}
+use Rattle.condition_codegen.specs.Fragments.{sequence, plain_code}
+use Rattle.condition_codegen.specs.DataCode.{line_end_fragment, show_fragment, reference_fragment, operand_fragment}
+use Rattle.condition_codegen.specs.DataCode.{operands_fragment}
+use Rattle.statement_codegen.specs.InspectCode.{inspecting_fragment, inspection_entry, taken_fragment, takings_fragment}
 use Rattle.codegen.specs.Layout.{texts_fragment}
 use Rattle.codegen.proofs.Inspections.{AreSized, is_inspection}
 use Rattle.codegen.proofs.Straight.{AlwaysStraight, both_straight, in_order_straight, one_straight, text_straight}

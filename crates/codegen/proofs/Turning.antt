@@ -9,9 +9,9 @@ use Rattle.source_tree.specs.Performing.{turns}
 use Rattle.code_image.specs.declared.code.Code.{Code}
 use Rattle.code_image.specs.declared.instruction.Instruction.TheVariants.{Count, Turn}
 use Rattle.code_image.specs.Points.{Own}
-use Rattle.codegen.specs.Fragments.{Fragment, append}
+use Rattle.condition_codegen.specs.Fragments.{Fragment, append}
 use Rattle.codegen.specs.Layout.{loop_begin, turn_end, counted_turn, times_fragment}
-use Rattle.codegen.proofs.Fragments.{joined_assoc}
+use Rattle.condition_codegen.proofs.Fragments.{joined_assoc}
 use Rattle.codegen.proofs.Standing.{back, first_stands}
 use Rattle.codegen.proofs.Doing.{end_of, setting, keeps_all, keeps_set, Does, PartDoes, Sits, front_sits, back_sits}
 use Rattle.codegen.proofs.Doing.{IsRoom, still_room, after, spend_then, then_does, moved_from, stays, count_comes}

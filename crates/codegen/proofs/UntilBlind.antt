@@ -11,10 +11,10 @@ use Rattle.source_tree.specs.Until.{vary_operation}
 use Rattle.data_instructions.specs.declared.instruction.DataInstruction.TheVariants as i
 use Rattle.code_image.specs.declared.code.Code.{Code}
 use Rattle.code_image.specs.declared.instruction.Instruction.TheVariants.{Tick}
-use Rattle.codegen.specs.Fragments.{Fragment, append, sequence, plain_code}
-use Rattle.codegen.specs.Meeting.{branch_code, either_fragment, nothing_fragment}
-use Rattle.codegen.specs.DataCode.{work_fragment}
-use Rattle.codegen.specs.ConditionCode.{condition_fragment}
+use Rattle.condition_codegen.specs.Fragments.{Fragment, append, sequence, plain_code}
+use Rattle.condition_codegen.specs.Meeting.{branch_code, either_fragment, nothing_fragment}
+use Rattle.condition_codegen.specs.DataCode.{work_fragment}
+use Rattle.condition_codegen.specs.ConditionCode.{condition_fragment}
 use Rattle.codegen.specs.UntilCode.{tick_fragment, repetition_fragment, until_before_fragment, until_after_fragment}
 use Rattle.codegen.specs.UntilCode.{until_from_fragment, vary_begin_fragment, vary_on_fragment, until_fragment}
 use Rattle.codegen.proofs.Blind.{Blind, constant_blind, both_blind, work_blind, moving_blind}

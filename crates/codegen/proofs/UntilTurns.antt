@@ -12,12 +12,12 @@ use Rattle.data_instructions.specs.declared.instruction.DataInstruction.TheVaria
 use Rattle.code_image.specs.declared.code.Code.{Code}
 use Rattle.code_image.specs.declared.instruction.Instruction.TheVariants.{Branch, Data}
 use Rattle.code_image.specs.Points.{Own}
-use Rattle.codegen.specs.Fragments.{Fragment, empty_code, append, sequence}
-use Rattle.codegen.specs.Meeting.{branch_code, either_fragment, nothing_fragment}
-use Rattle.codegen.specs.DataCode.{work_fragment}
+use Rattle.condition_codegen.specs.Fragments.{Fragment, empty_code, append, sequence}
+use Rattle.condition_codegen.specs.Meeting.{branch_code, either_fragment, nothing_fragment}
+use Rattle.condition_codegen.specs.DataCode.{work_fragment}
 use Rattle.codegen.specs.UntilCode.{repetition_fragment, until_before_fragment, until_after_fragment}
 use Rattle.codegen.specs.UntilCode.{until_from_fragment}
-use Rattle.codegen.proofs.Fragments.{joined_assoc, joined_nothing}
+use Rattle.condition_codegen.proofs.Fragments.{joined_assoc, joined_nothing}
 use Rattle.codegen.proofs.Standing.{Stands, front, back, first_stands}
 use Rattle.codegen.proofs.Blind.{Blind}
 use Rattle.codegen.proofs.UntilBlind.{turn_before_blind, onward_blind}

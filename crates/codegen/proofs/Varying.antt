@@ -13,12 +13,12 @@ use Rattle.source_tree.specs.Places.{LocatedItem}
 use Rattle.data_instructions.specs.declared.instruction.DataInstruction.TheVariants as i
 use Rattle.data_instructions.specs.ArithmeticCodes.{discard}
 use Rattle.code_image.specs.declared.code.Code.{Code}
-use Rattle.codegen.specs.Fragments.{Fragment, append, sequence}
-use Rattle.codegen.specs.DataCode.{work_fragment, works_fragment}
-use Rattle.codegen.specs.ArithmeticCode.{value_fragment, total_fragment, update_fragment, updates_fragment}
+use Rattle.condition_codegen.specs.Fragments.{Fragment, append, sequence}
+use Rattle.condition_codegen.specs.DataCode.{work_fragment, works_fragment}
+use Rattle.condition_codegen.specs.ArithmeticCode.{value_fragment, total_fragment, update_fragment, updates_fragment}
 use Rattle.codegen.specs.UntilCode.{vary_on_fragment}
-use Rattle.codegen.proofs.Kept.{front_kept, back_kept, item_kept}
-use Rattle.codegen.proofs.Fragments.{joined_nothing}
+use Rattle.condition_codegen.proofs.Kept.{front_kept, back_kept, item_kept}
+use Rattle.condition_codegen.proofs.Fragments.{joined_nothing}
 
 both_same : (first second third fourth : Fragment) → ((b : Code) → first b ≡ third b)
     → ((b : Code) → second b ≡ fourth b) → (b : Code) → sequence first second b ≡ sequence third fourth b

@@ -68,28 +68,27 @@ use Rattle.code_image.specs.Known.{known_after, known_along}
 use Rattle.code_image.specs.Demands.{NamesData, NamesCounter, NamesParagraph, IsAddress, NamesFile, SuitsFile, StartsAt}
 use Rattle.code_image.specs.Demands.{AllStart, performed_from, performed_by_code as performed_instructions}
 use Rattle.code_image.specs.Demands.{HasOrder as HasOrderCode, IsVerified}
-use Rattle.codegen.specs.Fragments.{in_order}
-use Rattle.codegen.specs.FileCode.{sent_entry, code_file, code_files}
+use Rattle.condition_codegen.specs.Fragments.{in_order}
+use Rattle.statement_codegen.specs.FileCode.{sent_entry, code_file, code_files}
 use Rattle.codegen.specs.Layout.{paragraph_fragment, section_fragment, end_fragment, storage_items, storage_code}
 use Rattle.codegen.specs.Layout.{code_of}
 use Rattle.codegen.proofs.Standing.{Stands, at_seam}
-use Rattle.codegen.proofs.Flowing.{along_append}
+use Rattle.codegen.proofs.Flowing.{along_append, Flows}
 use Rattle.codegen.proofs.CodeFiles.{every, each_at, kept_at, files_count, codes_count, file_there, all_numbered}
 use Rattle.codegen.proofs.CodeFiles.{places_are, names_places, is_code_file, entries_are}
-use Rattle.codegen.proofs.ConditionValues.{AreFormed, descriptions_kept, each_description, conditions_formed}
+use Rattle.condition_codegen.proofs.ConditionValues.{AreFormed, descriptions_kept, each_description, conditions_formed}
 use Rattle.codegen.proofs.FileTable.{file_of, file_at, NamesOne, clauses_named}
 use Rattle.codegen.proofs.HasFiles.{IsFiled, HasFiles, IsNumbered}
 use Rattle.codegen.proofs.SentItems.{IsInOrder, sent_is_item}
 use Rattle.codegen.proofs.Inspections.{AreSized}
-use Rattle.codegen.proofs.Codes.{left_none, right_none}
-use Rattle.codegen.proofs.NewBytes.{all_at}
+use Rattle.condition_codegen.proofs.Lists.{left_none, right_none, all_both}
+use Rattle.condition_codegen.proofs.NewBytes.{all_at}
 use Rattle.codegen.proofs.Fragments.{flat}
-use Rattle.codegen.proofs.Straight.{all_both, IsSent, IsPartOf}
+use Rattle.codegen.proofs.Straight.{IsSent, IsPartOf}
 use Rattle.codegen.proofs.Leading.{all_weaker, more_counters, all_lead, both_lead, all_stay, Names}
 use Rattle.codegen.proofs.Ranges.{EndsWithin, procedures_end}
 use Rattle.codegen.proofs.Paragraphs.{IsSuitedAt, performed_append, starts_stay, start_at, starts_within, AreParagraphs}
 use Rattle.codegen.proofs.Paragraphs.{paragraphs_lie}
-use Rattle.codegen.proofs.Flowing.{Flows}
 use Rattle.codegen.proofs.Flows.{paragraphs_flows}
 
 map_at : {A B : Type 0} (f : A → B) (xs : List A) (k : ℕ) (x : A) → slice_get xs k ≡ Some x

@@ -4,9 +4,9 @@ use Rattle.source_tree.specs.State.{State}
 use Rattle.code_image.specs.declared.code.Code.{Code}
 use Rattle.code_image.specs.declared.instruction.Instruction.TheVariants.{Branch, Jump, Join}
 use Rattle.code_image.specs.Points.{Own}
-use Rattle.codegen.specs.Fragments.{Fragment, append, sequence}
-use Rattle.codegen.specs.Meeting.{branch_code, jump_code, join_code, either_fragment}
-use Rattle.codegen.proofs.Fragments.{joined_assoc}
+use Rattle.condition_codegen.specs.Fragments.{Fragment, append, sequence}
+use Rattle.condition_codegen.specs.Meeting.{branch_code, jump_code, join_code, either_fragment}
+use Rattle.condition_codegen.proofs.Fragments.{joined_assoc}
 use Rattle.codegen.proofs.Standing.{Stands, front, back, first_stands}
 use Rattle.codegen.proofs.Blind.{Blind}
 use Rattle.codegen.proofs.Either.{either_laid}

@@ -57,19 +57,20 @@ use Rattle.code_image.specs.declared.code.Code.{Code}
 use Rattle.code_image.specs.declared.instruction.Instruction.TheVariants.{Tick, Stop, Count, CountNumber, Turn, Perform}
 use Rattle.code_image.specs.declared.instruction.Instruction.TheVariants.{Back}
 use Rattle.data_instructions.specs.declared.instruction.DataInstruction.TheVariants as i
-use Rattle.codegen.specs.Fragments.{Fragment, no_tables, empty_code, append, sequence, in_order, plain_code}
-use Rattle.codegen.specs.Meeting.{either_fragment, nothing_fragment}
+use Rattle.condition_codegen.specs.Fragments.{Fragment, no_tables, empty_code, append, sequence, in_order, plain_code}
+use Rattle.condition_codegen.specs.Meeting.{either_fragment, nothing_fragment}
 use Rattle.source_tree.specs.Arithmetic.{is_there}
-use Rattle.codegen.specs.DataCode.{take_fragment, move_fragment, display_fragment, accept_fragment, date_fragment}
-use Rattle.codegen.specs.ArithmeticCode.{arithmetic_fragment}
-use Rattle.codegen.specs.ConditionCode.{condition_fragment}
-use Rattle.codegen.specs.PatternCode.{initializes_fragment, sets_fragment}
-use Rattle.codegen.specs.StringCode.{string_fragment}
-use Rattle.codegen.specs.InspectCode.{inspect_fragment, convert_fragment}
-use Rattle.codegen.specs.SubjectCode.{first_object, subjects_fragment}
+use Rattle.condition_codegen.specs.DataCode.{take_fragment, move_fragment, display_fragment, accept_fragment}
+use Rattle.condition_codegen.specs.DataCode.{date_fragment}
+use Rattle.condition_codegen.specs.ArithmeticCode.{arithmetic_fragment}
+use Rattle.condition_codegen.specs.ConditionCode.{condition_fragment}
+use Rattle.condition_codegen.specs.PatternCode.{initializes_fragment, sets_fragment}
+use Rattle.statement_codegen.specs.StringCode.{string_fragment}
+use Rattle.statement_codegen.specs.InspectCode.{inspect_fragment, convert_fragment}
+use Rattle.statement_codegen.specs.SubjectCode.{first_object, subjects_fragment}
 use Rattle.codegen.specs.UntilCode.{tick_fragment, until_fragment}
-use Rattle.codegen.specs.FileCode.{code_files, sent_entry, file_fragment, test_fragment, unheard_fragment}
-use Rattle.codegen.specs.FileCode.{into_fragment, from_fragment, on_name_fragment, on_record_fragment}
+use Rattle.statement_codegen.specs.FileCode.{code_files, sent_entry, file_fragment, test_fragment, unheard_fragment}
+use Rattle.statement_codegen.specs.FileCode.{into_fragment, from_fragment, on_name_fragment, on_record_fragment}
 
 abbrev pub stop_run_fragment : ℕ → Fragment
 stop_run_fragment line before = plain_code (Tick line ∷ Stop ∷ [])

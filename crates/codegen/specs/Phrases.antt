@@ -1,20 +1,10 @@
--- Where two ways meet, in code whose branch and jump led nowhere yet.
-use Rattle.std.specs.Prelude.{◌≡◌, ◌<◌, ◌≤◌, ℕ, ◌+◌, ◌-◌, List, [], ◌∷◌, ◌++◌, length, slice_set}
+-- Ways one within the other, in code whose branches and jumps led nowhere yet.
+use Rattle.std.specs.Prelude.{◌≡◌, ◌<◌, ◌≤◌, ℕ, List, [], ◌∷◌, length}
 use Rattle.code_image.specs.declared.code.Code.{Code}
-use Rattle.code_image.specs.declared.instruction.Instruction.{Instruction}
-use Rattle.code_image.specs.declared.instruction.Instruction.TheVariants.{Branch, Jump, Join}
 use Rattle.codegen.specs.declared.phrases.Way.{Way}
-use Rattle.codegen.specs.Fragments.{Fragment, append, sequence}
-use Rattle.codegen.specs.Meeting.{branch_code, jump_code}
-
--- The branch at the first address leads to the second, and the jump in front of that one, which a `join` follows, after the last `join`.
-abbrev pub patched_instructions : ℕ → ℕ → List Instruction → List Instruction
-patched_instructions branch other all = slice_set (slice_set (all ++ Join ∷ []) branch (Branch other)) (other - 2) (Jump (length all + 1))
-
-abbrev pub patched_code : ℕ → ℕ → Code → Code
-patched_code branch other code = record code { instructions = patched_instructions branch other code.instructions }
-
--- ---- ways one within the other
+use Rattle.condition_codegen.specs.Fragments.{Fragment, append, sequence}
+use Rattle.condition_codegen.specs.Meeting.{branch_code, jump_code}
+use Rattle.condition_codegen.specs.Phrases.{patched_code}
 
 -- of a branch, and of the other way that it leads to, in code of so many instructions
 pub record IsWay (count : ℕ) (one : Way) : Type 0 where

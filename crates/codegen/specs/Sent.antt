@@ -5,7 +5,7 @@ use Rattle.picture.specs.declared.picture.Picture.{Picture}
 use Rattle.layout.specs.declared.placed.PlacedItem.{PlacedItem}
 use Rattle.file_descriptions.specs.declared.file.ProgramFile.{ProgramFile}
 use Rattle.file_image.specs.declared.file.CodeFile.{CodeFile}
-use Rattle.codegen.specs.FileCode.{index_at, edited_alike}
+use Rattle.statement_codegen.specs.FileCode.{index_at, edited_alike}
 
 -- an item of the record area that is edited, as what is sent is
 abbrev pub edits : ProgramFile → PlacedItem → Bool

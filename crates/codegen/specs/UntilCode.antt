@@ -8,11 +8,11 @@ use Rattle.source_tree.specs.Places.{LocatedItem}
 use Rattle.source_tree.specs.Until.{vary_operation}
 use Rattle.data_instructions.specs.declared.instruction.DataInstruction.TheVariants as i
 use Rattle.code_image.specs.declared.instruction.Instruction.TheVariants.{Tick}
-use Rattle.codegen.specs.Fragments.{Fragment, sequence, plain_code}
-use Rattle.codegen.specs.Meeting.{branch_code, either_fragment, nothing_fragment}
-use Rattle.codegen.specs.DataCode.{work_fragment, move_fragment}
-use Rattle.codegen.specs.ArithmeticCode.{arithmetic_fragment}
-use Rattle.codegen.specs.ConditionCode.{condition_fragment}
+use Rattle.condition_codegen.specs.Fragments.{Fragment, sequence, plain_code}
+use Rattle.condition_codegen.specs.Meeting.{branch_code, either_fragment, nothing_fragment}
+use Rattle.condition_codegen.specs.DataCode.{work_fragment, move_fragment}
+use Rattle.condition_codegen.specs.ArithmeticCode.{arithmetic_fragment}
+use Rattle.condition_codegen.specs.ConditionCode.{condition_fragment}
 
 -- one of the budget, and nothing else
 abbrev pub tick_fragment : ℕ → Fragment

@@ -3,10 +3,10 @@
 ghost use Rattle.std.specs.Prelude.{◌≡◌, IfOk};
 ghost use Rattle.std.specs.Option.{option_map};
 ghost use Rattle.declarations.specs.Named.{items_in, files_in};
-ghost use Rattle.codegen.specs.FileCode as spec;
+ghost use Rattle.statement_codegen.specs.FileCode as spec;
 ghost use Rattle.codegen.specs.Sent.{code_in};
 
-use crate::emitter::entry_number;
+use condition_codegen::entry_number;
 use data_instructions::ItemIndex;
 use declarations::Declarations;
 use file_descriptions::ProgramFile;

@@ -1,13 +1,14 @@
-//! The code of two ways that meet, one of which is taken by the truth.
+//! Phrases that stand, and ways one within the other that meet at the end.
 
-ghost use Rattle.std.specs.Prelude.{◌≡◌, ◌+◌, ◌<◌, ◌≤◌, ◌||◌, length, OnOk, IfOk};
+ghost use Rattle.std.specs.Prelude.{◌≡◌, ◌||◌, length, OnOk};
 ghost use Rattle.source_tree.specs.Arithmetic.{is_there};
-ghost use Rattle.codegen.specs.Fragments.{append};
-ghost use Rattle.codegen.specs.Meeting.{branch_code, jump_code};
+ghost use Rattle.condition_codegen.specs.Fragments.{append};
+ghost use Rattle.condition_codegen.specs.Meeting.{branch_code};
 ghost use Rattle.std.specs.List.{AllByRecursion};
-ghost use Rattle.codegen.specs.Phrases.{IsWay, patched_code, met_all};
+ghost use Rattle.codegen.specs.Phrases.{IsWay, met_all};
 
 use code_image::{Code, Instruction};
+use condition_codegen::emit_meeting;
 use source_tree::{Phrases, Statement};
 use std::alloc::AllocError;
 
@@ -25,47 +26,11 @@ pub(crate) fn has_phrase(one: &Phrases<Statement>) -> bool
     one.arose.is_some() || one.did_not.is_some()
 }
 
-/// Where the truth is false, on to an address that isn't known yet. Answers its own address.
-pub(crate) fn emit_branch(code: &mut Code) -> Result<usize, AllocError>
-    ensures code { OnOk result (code.new ≡ append code.old (branch_code 0)) }
-    ensures address { IfOk result (λ address. address ≡ length code.old.instructions) }
-{
-    let address = code.instructions.len();
-    code.instructions.push(Instruction::Branch { to: 0 })?;
-    Ok(address)
-}
-
 /// Where the truth is false, back to an address.
 pub(crate) fn emit_way_back(code: &mut Code, to: usize) -> Result<(), AllocError>
     ensures { OnOk result (code.new ≡ append code.old (branch_code to)) }
 {
     code.instructions.push(Instruction::Branch { to })?;
-    Ok(())
-}
-
-/// On to an address that isn't known yet, and the end of the first way. Answers the address at which the other one begins.
-pub(crate) fn emit_jump(code: &mut Code) -> Result<usize, AllocError>
-    ensures code { OnOk result (code.new ≡ append code.old (jump_code 0)) }
-    ensures other { IfOk result (λ other. other ≡ length code.old.instructions + 2) }
-{
-    code.instructions.push(Instruction::Jump { to: 0 })?;
-    code.instructions.push(Instruction::Join)?;
-    Ok(code.instructions.len())
-}
-
-/// Both ways meet: the branch, and the jump in front of the other way, lead where they have to.
-pub(crate) fn emit_meeting(code: &mut Code, branch: usize, other: usize) -> Result<(), AllocError>
-    requires branch { branch < length code.old.instructions }
-    requires jump { 2 ≤ other }
-    requires other { other ≤ length code.old.instructions }
-    ensures { OnOk result (code.new ≡ patched_code branch other code.old) }
-{
-    code.instructions.push(Instruction::Join)?;
-    let end = code.instructions.len();
-    code.instructions
-        .set(branch, Instruction::Branch { to: other });
-    code.instructions
-        .set(other - 2, Instruction::Jump { to: end });
     Ok(())
 }
 

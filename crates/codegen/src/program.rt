@@ -10,10 +10,10 @@ ghost use Rattle.code_image.specs.Demands.{IsVerified};
 ghost use Rattle.code_image.specs.Table.{Runs};
 ghost use Rattle.codegen.specs.Layout.{code_of};
 
-use crate::emit::emit_end;
-use crate::emitter::Emitter;
+use crate::emit::{emit_end, emit_sections};
 use crate::storage::storage_code;
 use code_image::Code;
+use condition_codegen::Emitter;
 use declarations::Checked;
 use std::alloc::{AllocError, Global};
 
@@ -41,7 +41,7 @@ pub fn generate(alloc: Global, checked: &Checked<'_>) -> Result<Code, AllocError
         alloc,
         declarations,
     };
-    emitter.emit_sections(&mut code, program.sections.as_slice())?;
+    emit_sections(&emitter, &mut code, program.sections.as_slice())?;
     emit_end(&mut code)?;
     Ok(code)
 }

@@ -6,7 +6,7 @@ ghost use Rattle.source_tree.specs.Records.{program_areas};
 ghost use Rattle.data_instructions.specs.Codes.{data_item};
 ghost use Rattle.file_descriptions.specs.Files.{file_in};
 ghost use Rattle.declarations.specs.Named.{Declares, items_in, files_in};
-ghost use Rattle.codegen.specs.FileCode as files;
+ghost use Rattle.statement_codegen.specs.FileCode as files;
 ghost use Rattle.codegen.specs.Layout as spec;
 ghost use Rattle.codegen.specs.Sent.{edits, first_editing};
 

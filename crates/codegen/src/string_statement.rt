@@ -1,299 +1,46 @@
-//! The code of STRING (COBOL-85, Nucleus, "The STRING statement").
+//! The code of STRING with the statements in its phrases (COBOL-85, Nucleus, "The STRING statement").
 
-ghost use Rattle.std.specs.Prelude.{◌≡◌, [], Some, None, OnOk};
-ghost use Rattle.source_tree.specs.Broken.{each};
+ghost use Rattle.std.specs.Prelude.{◌≡◌, [], OnOk};
 ghost use Rattle.source_tree.specs.EntryRules.{entry_rules};
-ghost use Rattle.source_tree.specs.NameRules.{number_rules_of};
 ghost use Rattle.source_tree.specs.Rules as rules;
 ghost use Rattle.source_tree.specs.Rules.{all_permitted};
-ghost use Rattle.source_tree.specs.StringRules.{sent_rules, delimiter_rules, sending_rules, string_rules};
+ghost use Rattle.source_tree.specs.StringRules.{string_rules};
 ghost use Rattle.declarations.specs.Named.{items_in, scope_in};
-ghost use Rattle.codegen.specs.Fragments.{append, in_order};
+ghost use Rattle.condition_codegen.specs.Fragments.{append};
 ghost use Rattle.codegen.specs.Layout.{string_statement_fragment, statement_fragment};
-ghost use Rattle.codegen.specs.StringCode as spec;
 
-use crate::display_statement::emit_text;
-use crate::emit::emit_tick;
-use crate::emitter::{Emitter, entry_number};
-use crate::references::emit_work;
-use crate::shown_texts::literal_text;
+use crate::emit::{emit_phrases, emit_tick};
 use code_image::Code;
-use data_instructions::{DataInstruction, Gather, TextIndex};
-use source_tree::{Operand, Reference, Sending, Statement, StringStatement};
-use sqlite_items::Items;
+use condition_codegen::Emitter;
+use source_tree::{Statement, StringStatement};
+use statement_codegen::emit_string;
 use std::alloc::AllocError;
-use text_ops::delimited;
 
-impl<'a> Emitter<'a> {
-    /// A sender DELIMITED BY SIZE.
-    fn emit_sized(&self, code: &mut Code, one: &Operand) -> Result<(), AllocError>
-        requires rules { sent_rules (items_in self.now.declarations.now) one.now ≡ [] }
-        ensures { OnOk result (code.new ≡ append code.old
-            (spec.sent_fragment (items_in self.now.declarations.now) None one.now code.old)) }
-    {
-        match one {
-            Operand::Item(reference) => {
-                self.emit_taking(code, DataInstruction::Gather(Gather::Bytes), reference)
-            }
-            Operand::Literal(literal) => {
-                emit_text(code, literal_text(self.alloc, &literal.value)?)
-            }
-        }
-    }
-
-    /// Senders DELIMITED BY SIZE, in order.
-    fn emit_all_sized(&self, code: &mut Code, all: &[Operand]) -> Result<(), AllocError>
-        requires rules { each (sent_rules (items_in self.now.declarations.now)) all.now ≡ [] }
-        ensures { OnOk result (code.new ≡ append code.old (in_order
-            (spec.sent_fragment (items_in self.now.declarations.now) None) all.now code.old)) }
-    {
-        for one in all {
-            self.emit_sized(code, one)?;
-        }
-        Ok(())
-    }
-
-    /// A sender DELIMITED BY a text: a literal is cut here.
-    fn emit_cut(&self, code: &mut Code, delimiter: &[u8], one: &Operand) -> Result<(), AllocError>
-        requires rules { sent_rules (items_in self.now.declarations.now) one.now ≡ [] }
-        ensures { OnOk result (code.new ≡ append code.old (spec.sent_fragment
-            (items_in self.now.declarations.now) (Some delimiter.now) one.now code.old)) }
-    {
-        match one {
-            Operand::Item(reference) => {
-                self.emit_reference(code, reference)?;
-                emit_up_to_text(code, Items::from_slice(self.alloc, delimiter)?)
-            }
-            Operand::Literal(literal) => {
-                let text = literal_text(self.alloc, &literal.value)?;
-                let cut = delimited(delimiter, text.as_slice());
-                emit_text(code, Items::from_slice(self.alloc, cut)?)
-            }
-        }
-    }
-
-    /// Senders DELIMITED BY a text, in order.
-    fn emit_all_cut(
-        &self,
-        code: &mut Code,
-        delimiter: &[u8],
-        all: &[Operand],
-    ) -> Result<(), AllocError>
-        requires rules { each (sent_rules (items_in self.now.declarations.now)) all.now ≡ [] }
-        ensures { OnOk result (code.new ≡ append code.old (in_order (spec.sent_fragment
-            (items_in self.now.declarations.now) (Some delimiter.now)) all.now code.old)) }
-    {
-        for one in all {
-            self.emit_cut(code, delimiter, one)?;
-        }
-        Ok(())
-    }
-
-    /// The place of a sender, which isn't wanted yet.
-    fn emit_found(&self, code: &mut Code, one: &Operand) -> Result<(), AllocError>
-        requires rules { sent_rules (items_in self.now.declarations.now) one.now ≡ [] }
-        ensures { OnOk result (code.new ≡ append code.old
-            (spec.found_fragment (items_in self.now.declarations.now) one.now code.old)) }
-    {
-        match one {
-            Operand::Item(reference) => {
-                self.emit_taking(code, DataInstruction::DropPlace, reference)
-            }
-            Operand::Literal(_) => Ok(()),
-        }
-    }
-
-    /// Those of senders, in order.
-    fn emit_all_found(&self, code: &mut Code, all: &[Operand]) -> Result<(), AllocError>
-        requires rules { each (sent_rules (items_in self.now.declarations.now)) all.now ≡ [] }
-        ensures { OnOk result (code.new ≡ append code.old (in_order
-            (spec.found_fragment (items_in self.now.declarations.now)) all.now code.old)) }
-    {
-        for one in all {
-            self.emit_found(code, one)?;
-        }
-        Ok(())
-    }
-
-    /// A sender up to the bytes of the newest place.
-    fn emit_up_to_place(&self, code: &mut Code, one: &Operand) -> Result<(), AllocError>
-        requires rules { sent_rules (items_in self.now.declarations.now) one.now ≡ [] }
-        ensures { OnOk result (code.new ≡ append code.old
-            (spec.up_to_place_fragment (items_in self.now.declarations.now) one.now code.old)) }
-    {
-        match one {
-            Operand::Item(reference) => {
-                self.emit_taking(code, DataInstruction::Gather(Gather::UpToPlace), reference)
-            }
-            Operand::Literal(literal) => {
-                emit_text_up_to_place(code, literal_text(self.alloc, &literal.value)?)
-            }
-        }
-    }
-
-    /// Senders up to the bytes of the newest place, in order.
-    fn emit_all_up_to_place(&self, code: &mut Code, all: &[Operand]) -> Result<(), AllocError>
-        requires rules { each (sent_rules (items_in self.now.declarations.now)) all.now ≡ [] }
-        ensures { OnOk result (code.new ≡ append code.old (in_order
-            (spec.up_to_place_fragment (items_in self.now.declarations.now)) all.now code.old)) }
-    {
-        for one in all {
-            self.emit_up_to_place(code, one)?;
-        }
-        Ok(())
-    }
-
-    /// Senders DELIMITED BY an item.
-    fn emit_all_delimited(
-        &self,
-        code: &mut Code,
-        all: &[Operand],
-        delimiter: &Reference,
-    ) -> Result<(), AllocError>
-        requires senders { each (sent_rules (items_in self.now.declarations.now)) all.now ≡ [] }
-        requires delimiter { number_rules_of (items_in self.now.declarations.now) delimiter.now
-            ≡ [] }
-        ensures { OnOk result (code.new ≡ append code.old (spec.delimited_fragment
-            (items_in self.now.declarations.now) all.now delimiter.now code.old)) }
-    {
-        self.emit_all_found(code, all)?;
-        self.emit_reference(code, delimiter)?;
-        self.emit_all_up_to_place(code, all)?;
-        emit_work(code, DataInstruction::DropPlace)
-    }
-
-    /// Senders DELIMITED BY an operand.
-    fn emit_all_by(
-        &self,
-        code: &mut Code,
-        senders: &[Operand],
-        delimiter: &Operand,
-    ) -> Result<(), AllocError>
-        requires senders { each (sent_rules (items_in self.now.declarations.now)) senders.now ≡ [] }
-        requires delimiter { sent_rules (items_in self.now.declarations.now) delimiter.now ≡ [] }
-        ensures { OnOk result (code.new ≡ append code.old (spec.sender_by_fragment
-            (items_in self.now.declarations.now) senders.now (Some delimiter.now) code.old)) }
-    {
-        match delimiter {
-            Operand::Literal(literal) => {
-                let text = literal_text(self.alloc, &literal.value)?;
-                self.emit_all_cut(code, text.as_slice(), senders)
-            }
-            Operand::Item(reference) => self.emit_all_delimited(code, senders, reference),
-        }
-    }
-
-    /// Senders with their delimiter.
-    fn emit_sending(&self, code: &mut Code, one: &Sending) -> Result<(), AllocError>
-        requires senders { each (sent_rules (items_in self.now.declarations.now)) one.now.senders
-            ≡ [] }
-        requires delimiter { delimiter_rules (items_in self.now.declarations.now) one.now.delimiter
-            ≡ [] }
-        ensures { OnOk result (code.new ≡ append code.old
-            (spec.sender_fragment (items_in self.now.declarations.now) one.now code.old)) }
-    {
-        let senders = one.senders.as_slice();
-        match &one.delimiter {
-            None => self.emit_all_sized(code, senders),
-            Some(delimiter) => self.emit_all_by(code, senders, delimiter),
-        }
-    }
-
-    /// What is sent, in order.
-    fn emit_sendings(&self, code: &mut Code, all: &[Sending]) -> Result<(), AllocError>
-        requires rules { each (sending_rules (items_in self.now.declarations.now)) all.now ≡ [] }
-        ensures { OnOk result (code.new ≡ append code.old
-            (spec.sendings_fragment (items_in self.now.declarations.now) all.now code.old)) }
-    {
-        for one in all {
-            self.emit_sending(code, one)?;
-        }
-        Ok(())
-    }
-
-    /// The pointer's place, if there is one, and what puts the text.
-    fn emit_put(&self, code: &mut Code, pointer: &Option<Reference>) -> Result<(), AllocError>
-        requires rules { spec.pointer_numbers (items_in self.now.declarations.now) pointer.now
-            ≡ [] }
-        ensures { OnOk result (code.new ≡ append code.old
-            (spec.put_fragment (items_in self.now.declarations.now) pointer.now code.old)) }
-    {
-        match pointer {
-            None => emit_work(code, DataInstruction::String { pointer: false }),
-            Some(reference) => {
-                self.emit_taking(code, DataInstruction::String { pointer: true }, reference)
-            }
-        }
-    }
-
-    /// STRING, up to its phrases.
-    fn emit_string(
-        &self,
-        code: &mut Code,
-        sendings: &[Sending],
-        receiver: &Reference,
-        pointer: &Option<Reference>,
-    ) -> Result<(), AllocError>
-        requires sendings { each (sending_rules (items_in self.now.declarations.now)) sendings.now
-            ≡ [] }
-        requires receiver { number_rules_of (items_in self.now.declarations.now) receiver.now ≡ [] }
-        requires pointer { spec.pointer_numbers (items_in self.now.declarations.now) pointer.now
-            ≡ [] }
-        ensures { OnOk result (code.new ≡ append code.old (spec.string_fragment
-            (items_in self.now.declarations.now) sendings.now receiver.now pointer.now code.old)) }
-    {
-        self.emit_sendings(code, sendings)?;
-        self.emit_reference(code, receiver)?;
-        self.emit_put(code, pointer)
-    }
-
-    /// STRING, with the statements in its phrases.
-    #[cycle(statement)]
-    pub(crate) fn emit_stringing(
-        &self,
-        code: &mut Code,
-        line: u32,
-        one: &StringStatement<Statement>,
-    ) -> Result<(), AllocError>
-        requires entries { entry_rules self.now.declarations.now.storage.now ≡ [] }
-        requires string { string_rules (items_in self.now.declarations.now) one.now ≡ [] }
-        requires arose { rules.phrase_rules (rules.statement_rules
-            (scope_in self.now.declarations.now) all_permitted) one.now.phrases.arose ≡ [] }
-        requires did_not { rules.phrase_rules (rules.statement_rules
-            (scope_in self.now.declarations.now) all_permitted) one.now.phrases.did_not ≡ [] }
-        ensures { OnOk result (code.new
-            ≡ append code.old (string_statement_fragment (scope_in self.now.declarations.now)
-            (statement_fragment (scope_in self.now.declarations.now)) line one.now code.old)) }
-    {
-        emit_tick(code, line)?;
-        self.emit_string(code, one.sendings.as_slice(), &one.receiver, &one.pointer)?;
-        self.emit_phrases(code, &one.phrases)
-    }
-}
-
-/// The bytes of the newest place up to a text.
-fn emit_up_to_text(code: &mut Code, bytes: Items<u8>) -> Result<(), AllocError>
-    ensures { OnOk result (code.new ≡ append code.old (spec.up_to_text_fragment bytes code.old)) }
+/// STRING, with the statements in its phrases.
+#[cycle(statement)]
+pub(crate) fn emit_stringing(
+    emitter: &Emitter<'_>,
+    code: &mut Code,
+    line: u32,
+    one: &StringStatement<Statement>,
+) -> Result<(), AllocError>
+    requires entries { entry_rules emitter.now.declarations.now.storage.now ≡ [] }
+    requires string { string_rules (items_in emitter.now.declarations.now) one.now ≡ [] }
+    requires arose { rules.phrase_rules (rules.statement_rules
+        (scope_in emitter.now.declarations.now) all_permitted) one.now.phrases.arose ≡ [] }
+    requires did_not { rules.phrase_rules (rules.statement_rules
+        (scope_in emitter.now.declarations.now) all_permitted) one.now.phrases.did_not ≡ [] }
+    ensures { OnOk result (code.new
+        ≡ append code.old (string_statement_fragment (scope_in emitter.now.declarations.now)
+        (statement_fragment (scope_in emitter.now.declarations.now)) line one.now code.old)) }
 {
-    let number = entry_number(code.tables.texts.len())?;
-    code.tables.texts.push(bytes)?;
-    let delimiter = TextIndex { number };
-    emit_work(
+    emit_tick(code, line)?;
+    emit_string(
+        emitter,
         code,
-        DataInstruction::Gather(Gather::UpToText { delimiter }),
-    )
-}
-
-/// A text up to the bytes of the newest place.
-fn emit_text_up_to_place(code: &mut Code, bytes: Items<u8>) -> Result<(), AllocError>
-    ensures { OnOk result
-        (code.new ≡ append code.old (spec.text_up_to_place_fragment bytes code.old)) }
-{
-    let number = entry_number(code.tables.texts.len())?;
-    code.tables.texts.push(bytes)?;
-    let text = TextIndex { number };
-    emit_work(
-        code,
-        DataInstruction::Gather(Gather::TextUpToPlace { text }),
-    )
+        one.sendings.as_slice(),
+        &one.receiver,
+        &one.pointer,
+    )?;
+    emit_phrases(emitter, code, &one.phrases)
 }

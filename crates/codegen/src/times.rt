@@ -6,15 +6,15 @@ ghost use Rattle.source_tree.specs.NameRules.{reference_rules};
 ghost use Rattle.source_tree.specs.Performing.{turns_of};
 ghost use Rattle.source_tree.specs.Rules.{integer_item};
 ghost use Rattle.declarations.specs.Named.{items_in, scope_in};
-ghost use Rattle.codegen.specs.Fragments.{append, sequence};
-ghost use Rattle.codegen.specs.DataCode.{take_fragment};
+ghost use Rattle.condition_codegen.specs.Fragments.{append, sequence};
+ghost use Rattle.condition_codegen.specs.DataCode.{take_fragment};
 ghost use Rattle.codegen.specs.Layout.{loop_begin, count_begin, turn_end, counted_turn, times_fragment, counted_fragment, turn_fragment, statement_fragment};
 ghost use Rattle.codegen.specs.Turns.{KeepsPerformed};
 ghost use Rattle.data_instructions.specs.declared.instruction.DataInstruction.TheVariants as i;
 
-use crate::emitter::Emitter;
-use crate::phrases::{emit_branch, emit_jump, emit_meeting};
+use crate::emit::emit_turn;
 use code_image::{Code, CounterIndex, Instruction};
+use condition_codegen::{Emitter, emit_branch, emit_jump, emit_meeting};
 use data_instructions::DataInstruction;
 use source_tree::{Integer, Performed, Reference, Statement};
 use std::alloc::AllocError;
@@ -30,6 +30,54 @@ pub(crate) fn count_of(integer: &Integer) -> u64
             .saturating_add(u64::from(digit.saturating_sub(b'0')));
     }
     count
+}
+
+/// So many turns.
+#[cycle(statement)]
+pub(crate) fn emit_times(
+    emitter: &Emitter<'_>,
+    code: &mut Code,
+    line: u32,
+    count: u64,
+    one: &Performed<Statement>,
+) -> Result<(), AllocError>
+    requires entries { entry_rules emitter.now.declarations.now.storage.now ≡ [] }
+    requires rules { KeepsPerformed emitter.now.declarations.now one.now }
+    ensures { OnOk result (code.new ≡ append
+        code.old (times_fragment count (turn_fragment (scope_in emitter.now.declarations.now)
+        (statement_fragment (scope_in emitter.now.declarations.now)) line one.now) code.old)) }
+{
+    if count == 0 {
+        return Ok(());
+    }
+    let begin = emit_loop_begin(code, count - 1)?;
+    emit_counted_turn(emitter, code, line, begin, one)
+}
+
+/// As many turns as an item says.
+#[cycle(statement)]
+pub(crate) fn emit_counted(
+    emitter: &Emitter<'_>,
+    code: &mut Code,
+    line: u32,
+    item: &Reference,
+    one: &Performed<Statement>,
+) -> Result<(), AllocError>
+    requires entries { entry_rules emitter.now.declarations.now.storage.now ≡ [] }
+    requires item { reference_rules (items_in emitter.now.declarations.now) integer_item item.now
+        ≡ [] }
+    requires rules { KeepsPerformed emitter.now.declarations.now one.now }
+    ensures { OnOk result (code.new ≡ append
+        code.old (sequence (take_fragment (items_in emitter.now.declarations.now) i.Push item.now)
+        (counted_fragment (turn_fragment (scope_in emitter.now.declarations.now)
+        (statement_fragment (scope_in emitter.now.declarations.now)) line one.now)) code.old)) }
+{
+    emitter.emit_taking(code, DataInstruction::Push, item)?;
+    let begin = emit_count_begin(code)?;
+    let branch = emit_branch(code)?;
+    emit_counted_turn(emitter, code, line, begin, one)?;
+    let other = emit_jump(code)?;
+    emit_meeting(code, branch, other)
 }
 
 /// A loop begins that has so many turns after the first. Answers its address.
@@ -68,72 +116,22 @@ fn emit_turn_end(code: &mut Code, begin: usize, to: usize) -> Result<(), AllocEr
     Ok(())
 }
 
-impl<'a> Emitter<'a> {
-    /// So many turns.
-    #[cycle(statement)]
-    pub(crate) fn emit_times(
-        &self,
-        code: &mut Code,
-        line: u32,
-        count: u64,
-        one: &Performed<Statement>,
-    ) -> Result<(), AllocError>
-        requires entries { entry_rules self.now.declarations.now.storage.now ≡ [] }
-        requires rules { KeepsPerformed self.now.declarations.now one.now }
-        ensures { OnOk result (code.new ≡ append
-            code.old (times_fragment count (turn_fragment (scope_in self.now.declarations.now)
-            (statement_fragment (scope_in self.now.declarations.now)) line one.now) code.old)) }
-    {
-        if count == 0 {
-            return Ok(());
-        }
-        let begin = emit_loop_begin(code, count - 1)?;
-        self.emit_counted_turn(code, line, begin, one)
-    }
-
-    /// As many turns as an item says.
-    #[cycle(statement)]
-    pub(crate) fn emit_counted(
-        &self,
-        code: &mut Code,
-        line: u32,
-        item: &Reference,
-        one: &Performed<Statement>,
-    ) -> Result<(), AllocError>
-        requires entries { entry_rules self.now.declarations.now.storage.now ≡ [] }
-        requires item { reference_rules (items_in self.now.declarations.now) integer_item item.now
-            ≡ [] }
-        requires rules { KeepsPerformed self.now.declarations.now one.now }
-        ensures { OnOk result (code.new ≡ append
-            code.old (sequence (take_fragment (items_in self.now.declarations.now) i.Push item.now)
-            (counted_fragment (turn_fragment (scope_in self.now.declarations.now)
-            (statement_fragment (scope_in self.now.declarations.now)) line one.now)) code.old)) }
-    {
-        self.emit_taking(code, DataInstruction::Push, item)?;
-        let begin = emit_count_begin(code)?;
-        let branch = emit_branch(code)?;
-        self.emit_counted_turn(code, line, begin, one)?;
-        let other = emit_jump(code)?;
-        emit_meeting(code, branch, other)
-    }
-
-    /// The turns of the loop that begins at this address.
-    #[cycle(statement)]
-    fn emit_counted_turn(
-        &self,
-        code: &mut Code,
-        line: u32,
-        begin: usize,
-        one: &Performed<Statement>,
-    ) -> Result<(), AllocError>
-        requires entries { entry_rules self.now.declarations.now.storage.now ≡ [] }
-        requires rules { KeepsPerformed self.now.declarations.now one.now }
-        ensures { OnOk result (code.new ≡ append
-            code.old (counted_turn begin (turn_fragment (scope_in self.now.declarations.now)
-            (statement_fragment (scope_in self.now.declarations.now)) line one.now) code.old)) }
-    {
-        let to = code.instructions.len();
-        self.emit_turn(code, line, one)?;
-        emit_turn_end(code, begin, to)
-    }
+/// The turns of the loop that begins at this address.
+#[cycle(statement)]
+fn emit_counted_turn(
+    emitter: &Emitter<'_>,
+    code: &mut Code,
+    line: u32,
+    begin: usize,
+    one: &Performed<Statement>,
+) -> Result<(), AllocError>
+    requires entries { entry_rules emitter.now.declarations.now.storage.now ≡ [] }
+    requires rules { KeepsPerformed emitter.now.declarations.now one.now }
+    ensures { OnOk result (code.new ≡ append
+        code.old (counted_turn begin (turn_fragment (scope_in emitter.now.declarations.now)
+        (statement_fragment (scope_in emitter.now.declarations.now)) line one.now) code.old)) }
+{
+    let to = code.instructions.len();
+    emit_turn(emitter, code, line, one)?;
+    emit_turn_end(code, begin, to)
 }

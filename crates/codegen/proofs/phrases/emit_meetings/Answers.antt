@@ -2,7 +2,8 @@ use Rattle.std.proofs.Common.{◌≡◌, List, length, sym, ap, ◌∙◌, subst
 use Rattle.std.specs.List.{AllByRecursion}
 use Rattle.code_image.specs.declared.code.Code.{Code}
 use Rattle.codegen.specs.declared.phrases.Way.{Way}
-use Rattle.codegen.specs.Phrases.{IsWay, patched_code, met_all}
+use Rattle.codegen.specs.Phrases.{IsWay, met_all}
+use Rattle.condition_codegen.specs.Phrases.{patched_code}
 use Rattle.codegen.proofs.Opening.{all_but_last, still_ways, met_longer, last_met}
 use Rattle.codegen.proofs.phrases.emit_meetings.Goals as goal
 

@@ -3,7 +3,7 @@ use Rattle.picture.specs.declared.picture.Picture.{Picture}
 use Rattle.data_instructions.specs.declared.tables.DataItem.{DataItem}
 use Rattle.file_descriptions.specs.Files.{file_in}
 use Rattle.declarations.specs.Named.{items_in}
-use Rattle.codegen.specs.FileCode.{sent_entry}
+use Rattle.statement_codegen.specs.FileCode.{sent_entry}
 use Rattle.codegen.specs.Sent.{edits, first_editing}
 use Rattle.codegen.proofs.StorageItems.{first_is}
 use Rattle.codegen.proofs.storage.sent_entry.Goals as goal

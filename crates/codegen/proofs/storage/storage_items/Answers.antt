@@ -2,7 +2,7 @@ use Rattle.std.proofs.Common.{◌≡◌, ◌++◌, map, length, get_or, ap, ◌�
 use Rattle.data_instructions.specs.Codes.{data_item}
 use Rattle.file_descriptions.specs.Files.{file_in}
 use Rattle.declarations.specs.Named.{items_in, files_in}
-use Rattle.codegen.specs.FileCode.{sent_entry}
+use Rattle.statement_codegen.specs.FileCode.{sent_entry}
 use Rattle.codegen.proofs.StorageItems.{mapped_more, sent_all}
 use Rattle.codegen.proofs.storage.storage_items.Goals as goal
 

@@ -1,8 +1,0 @@
-use Rattle.declarations.specs.Named.{items_in}
-use Rattle.source_tree.specs.NameRules.{any_item}
-use Rattle.codegen.proofs.Kept.{item_kept}
-use Rattle.codegen.proofs.emitter.Emitter.emit_initialize.Goals as goal
-
-pub emit_reference-requires : goal.emit_reference-requires
-emit_reference-requires c =
-    record { rules = item_kept (items_in c.args.self.now.declarations.now) any_item c.args.one.now c.requires.rules }

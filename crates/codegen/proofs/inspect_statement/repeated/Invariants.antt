@@ -1,5 +1,0 @@
-use Rattle.std.proofs.Common.{◌≡◌, ◌≤◌, replicate}
-use Rattle.codegen.proofs.inspect_statement.repeated.Given as goal
-
-abbrev pub invariant-loop : goal.invariant-loop
-invariant-loop l = (l.counter ≤ l.size) × (l.bytes ≡ replicate l.counter l.byte)

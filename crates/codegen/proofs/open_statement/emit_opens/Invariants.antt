@@ -1,0 +1,13 @@
+use Rattle.std.proofs.Common.{◌≡◌, drop}
+use Rattle.declarations.specs.Named.{scope_in}
+use Rattle.condition_codegen.specs.Fragments.{append, in_order}
+use Rattle.codegen.specs.Layout.{open_fragment, statement_fragment}
+use Rattle.codegen.proofs.open_statement.emit_opens.Given as goal
+
+-- what is there, and what is still to come, are the whole
+abbrev pub invariant-loop-one : goal.invariant-loop-one
+invariant-loop-one l =
+    append l.code (in_order (open_fragment (scope_in l.emitter.declarations.now)
+    (statement_fragment (scope_in l.emitter.declarations.now))) (drop l.one-index l.all) l.code)
+    ≡ append l.initial.code (in_order (open_fragment (scope_in l.emitter.declarations.now)
+    (statement_fragment (scope_in l.emitter.declarations.now))) l.all l.initial.code)

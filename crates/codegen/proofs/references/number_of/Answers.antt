@@ -1,5 +1,0 @@
-use Rattle.codegen.proofs.Kept.{room}
-use Rattle.codegen.proofs.references.number_of.Goals as goal
-
-pub number_after-requires : goal.number_after-requires
-number_after-requires c = room c.args.one.now c.as_slice.result.now c.requires c.as_slice.ensures

@@ -1,0 +1,11 @@
+pub mod Fragments
+pub mod Meeting
+pub mod DataCode
+pub mod ItemParts
+pub mod ArithmeticCode
+pub mod ConditionCode
+pub mod PatternCode
+pub mod Phrases
+pub mod EvaluateCode
+pub mod Sides
+pub mod Values

@@ -1,0 +1,10 @@
+use Rattle.condition_codegen.proofs.Kept.{front_kept, back_kept}
+use Rattle.statement_codegen.proofs.arithmetic.emit_pair.Goals as goal
+
+pub emit_value-requires : goal.emit_value-requires
+emit_value-requires c =
+    record { rules = front_kept _ _ c.requires.rules }
+
+pub emit_value-requires-2 : goal.emit_value-requires-2
+emit_value-requires-2 c =
+    record { rules = back_kept _ _ c.requires.rules }

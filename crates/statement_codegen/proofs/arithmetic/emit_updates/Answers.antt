@@ -1,0 +1,29 @@
+use Rattle.std.proofs.Common.{ap, ◌∙◌}
+use Rattle.declarations.specs.Named.{items_in}
+use Rattle.source_tree.specs.declared.arithmetic.Receiver.{Receiver}
+use Rattle.source_tree.specs.Broken.{each}
+use Rattle.source_tree.specs.NameRules.{number_rules_of}
+use Rattle.source_tree.specs.ArithmeticRules.{numeric_item}
+use Rattle.condition_codegen.specs.Fragments.{append}
+use Rattle.condition_codegen.specs.ArithmeticCode.{update_fragment}
+use Rattle.condition_codegen.proofs.Fragments.{goes_on}
+use Rattle.condition_codegen.proofs.Kept.{receiver_kept}
+use Rattle.statement_codegen.proofs.arithmetic.emit_updates.Goals as goal
+
+pub emit_update-requires : goal.emit_update-requires
+emit_update-requires c =
+    let items = items_in c.args.emitter.now.declarations.now in
+    record {
+      rules = ap (λ (r : Receiver). number_rules_of items r.item) c.one-item.is
+          ∙ receiver_kept items numeric_item c.args.all.now c.loop-one.one-index c.one-item.result c.loop-one-test.true
+          c.requires.rules;
+    }
+
+pub loop-one-preserved : goal.loop-one-preserved
+loop-one-preserved c =
+    let code = c.loop-one.code in
+    let piece = update_fragment (items_in c.args.emitter.now.declarations.now) c.args.keep c.args.operator in
+    goes_on piece c.args.all.now c.loop-one.one-index c.one-item.result code c.emit_update.new.code _
+    c.loop-one-test.true
+    (c.in_ok-emit_update.ensures ∙ ap (λ (one : Receiver). append code (piece one code)) c.one-item.is)
+    c.loop-one.invariant

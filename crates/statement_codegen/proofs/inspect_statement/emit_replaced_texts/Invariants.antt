@@ -1,0 +1,12 @@
+use Rattle.std.proofs.Common.{[], ◌∷◌, take}
+use Rattle.declarations.specs.Named.{items_in}
+use Rattle.source_tree.specs.InspectLayout.{all_inspected, replaced_text}
+use Rattle.statement_codegen.specs.InspectCode.{Puts}
+use Rattle.statement_codegen.proofs.inspect_statement.emit_replaced_texts.Given as goal
+
+-- the first of the list are there
+abbrev pub invariant-loop-one : goal.invariant-loop-one
+invariant-loop-one l =
+    let items = items_in l.emitter.declarations.now in
+    Puts items (all_inspected (λ one. replaced_text items l.how one ∷ []) (take l.one-index l.all)) l.initial.code
+    l.code l.initial.made l.made

@@ -1,0 +1,12 @@
+use Rattle.std.proofs.Common.{◌≡◌, drop}
+use Rattle.std.specs.Prelude.{Some}
+use Rattle.statement_codegen.specs.StringCode.{sent_fragment}
+use Rattle.declarations.specs.Named.{items_in}
+use Rattle.condition_codegen.specs.Fragments.{append, in_order}
+use Rattle.statement_codegen.proofs.string_statement.emit_all_cut.Given as goal
+
+-- what is there, and what is still to come, are the whole
+abbrev pub invariant-loop-one : goal.invariant-loop-one
+invariant-loop-one l = append l.code (in_order (sent_fragment (items_in l.emitter.declarations.now) (Some l.delimiter))
+    (drop l.one-index l.all) l.code) ≡ append l.initial.code
+    (in_order (sent_fragment (items_in l.emitter.declarations.now) (Some l.delimiter)) l.all l.initial.code)

@@ -1,0 +1,22 @@
+use Rattle.std.proofs.Common.{ap, ◌∙◌}
+use Rattle.declarations.specs.Named.{items_in}
+use Rattle.source_tree.specs.Broken.{each}
+use Rattle.source_tree.specs.StringRules.{sent_rules, delimiter_rules, sending_rules}
+use Rattle.condition_codegen.proofs.Kept.{front_kept, back_kept, one_kept}
+use Rattle.statement_codegen.proofs.string_statement.emit_sendings.Goals as goal
+
+pub emit_sending-requires-clause-senders : goal.emit_sending-requires-clause-senders
+emit_sending-requires-clause-senders c =
+    let items = items_in c.args.emitter.now.declarations.now in
+    front_kept (each (sent_rules items) c.one-item.result.senders) (delimiter_rules items c.one-item.result.delimiter)
+    (ap (sending_rules items) c.one-item.is
+    ∙ one_kept (sending_rules items) c.args.all.now c.loop-one.one-index c.one-item.result c.loop-one-test.true
+    c.requires.rules)
+
+pub emit_sending-requires-clause-delimiter : goal.emit_sending-requires-clause-delimiter
+emit_sending-requires-clause-delimiter c =
+    let items = items_in c.args.emitter.now.declarations.now in
+    back_kept (each (sent_rules items) c.one-item.result.senders) (delimiter_rules items c.one-item.result.delimiter)
+    (ap (sending_rules items) c.one-item.is
+    ∙ one_kept (sending_rules items) c.args.all.now c.loop-one.one-index c.one-item.result c.loop-one-test.true
+    c.requires.rules)
