@@ -10,6 +10,7 @@ pub mod OccursReady
 pub mod PartsTogether
 pub mod PartsReady
 pub mod Characters
+pub mod ComparedNumbers
 pub mod FusedIs
 pub mod Families
 pub mod ReadyTogether

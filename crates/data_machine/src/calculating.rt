@@ -117,6 +117,7 @@ fn calculate(numbers: &mut Stack<Option<Dec>>, one: Calculation)
 
 impl Data {
     /// Computes with numbers of the stack.
+    #[inline(never)]
     pub fn calculate(&mut self, one: Calculation) -> Result<(), ProgramFault>
         requires operands { taken_by one ≤ length self.old.numbers.newest_first }
         requires room { length self.old.numbers.newest_first + put_by one

@@ -66,6 +66,7 @@ impl Data {
     }
 
     /// `convert`: by the inspection that is named. It takes no memory.
+    #[inline(never)]
     pub fn convert(
         &mut self,
         tables: &DataTables,
@@ -81,6 +82,7 @@ impl Data {
     }
 
     /// `convert measured`: the same with so many numbers. It takes no memory.
+    #[inline(never)]
     pub fn convert_measured(
         &mut self,
         tables: &DataTables,

@@ -233,6 +233,7 @@ impl Data {
     }
 
     /// What is added to the line. It takes no memory.
+    #[inline(never)]
     pub fn gather(&mut self, tables: &DataTables, one: Gather) -> Result<(), ProgramFault>
         requires { IsReady tables.now self.old (instructions.Gather one) }
         ensures does { IsStepOf result (scratch_of self.new)

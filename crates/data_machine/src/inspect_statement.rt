@@ -75,6 +75,7 @@ impl Data {
     }
 
     /// `inspect`: the inspection that is named. It takes no memory.
+    #[inline(never)]
     pub fn inspect(
         &mut self,
         tables: &DataTables,
@@ -90,6 +91,7 @@ impl Data {
     }
 
     /// `inspect measured`: the same with so many numbers. It takes no memory.
+    #[inline(never)]
     pub fn inspect_measured(
         &mut self,
         tables: &DataTables,

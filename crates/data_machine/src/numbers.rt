@@ -60,6 +60,7 @@ impl Data {
     }
 
     /// `push`: the number at the newest place, or fault 90.
+    #[inline(never)]
     pub fn push(&mut self, tables: &DataTables) -> Result<(), ProgramFault>
         requires operand { FindsItem tables.now self.old.areas self.old.places.newest_first }
         requires room { length self.old.numbers.newest_first < self.old.numbers.room }
@@ -75,6 +76,7 @@ impl Data {
 
     /// `index`: the newest place becomes that of the occurrence which the newest number names, or fault 91; fault 90 where
     /// that is no integer.
+    #[inline(never)]
     pub fn index(&mut self, stride: u32, count: u32) -> Result<(), ProgramFault>
         requires subscript { 1 ≤ length self.old.numbers.newest_first }
         requires place { ReachesWithin (2 ^ 64) stride count self.old.places.newest_first }

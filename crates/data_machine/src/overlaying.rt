@@ -47,6 +47,7 @@ fn overlay(bytes: &[u8], marks: &[u8], to: &mut [u8])
 
 impl Data {
     /// `overlay`: bytes of a text are put at the newest place, those that the next text of the table marks.
+    #[inline(never)]
     pub fn overlay(&mut self, tables: &DataTables, text: TextIndex) -> Result<(), ProgramFault>
         requires operand { FindsItem tables.now self.old.areas self.old.places.newest_first }
         requires texts { text.number + 1 < length tables.now.texts }

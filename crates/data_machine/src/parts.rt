@@ -74,6 +74,7 @@ impl Data {
     }
 
     /// A part of the newest place. It takes no memory.
+    #[inline(never)]
     pub fn part(&mut self, tables: &DataTables, one: Part) -> Result<(), ProgramFault>
         requires { IsReady tables.now self.old (instructions.Part one) }
         ensures does { IsStepOf result (scratch_of self.new)

@@ -1,9 +1,6 @@
 //! What a statement has taken.
 
 ghost use Rattle.std.specs.Prelude.{◌≡◌, ◌≤◌, [], length, Some, None, IfOk};
-ghost use Rattle.items.specs.Items.{IsTaken};
-ghost use Rattle.data_machine.specs.Data.{sender_of};
-ghost use Rattle.data_machine.specs.Finds.{HasTaken};
 
 use crate::buffer::Buffer;
 use items::Taken;
@@ -38,19 +35,5 @@ impl Sender {
         self.taken = Some(taken);
         self.bytes.clear();
         self.bytes.append(bytes);
-    }
-
-    /// What was taken, where something was.
-    #[inline]
-    pub fn operand(&self) -> Taken
-        requires { HasTaken (sender_of self.now) }
-        ensures value { sender_of self.now
-            ≡ Some (record { taken = result; bytes = self.now.bytes.bytes }) }
-        ensures form { IsTaken result self.now.bytes.bytes }
-    {
-        let Some(taken) = self.taken else {
-            unreachable!();
-        };
-        taken
     }
 }

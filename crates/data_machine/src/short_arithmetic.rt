@@ -38,6 +38,34 @@ pub(crate) fn integer_order(x: Short, integer: u32) -> Ordering
     }
 }
 
+/// The order of two numbers.
+#[inline(always)]
+pub(crate) fn short_order(left: Short, right: Short) -> Ordering
+    ensures { result ≡ order left right }
+{
+    if left.scale() == right.scale() {
+        return order_at_scale(left, right);
+    }
+    decimal_order(left, right)
+}
+
+/// The order of two numbers with as many decimals.
+#[inline(always)]
+fn order_at_scale(left: Short, right: Short) -> Ordering
+    requires { left.scale ≡ right.scale }
+    ensures { result ≡ order left right }
+{
+    left.coefficient().cmp(&right.coefficient())
+}
+
+/// The order of two numbers, by decimals.
+#[inline(never)]
+fn decimal_order(left: Short, right: Short) -> Ordering
+    ensures { result ≡ order left right }
+{
+    left.decimal().cmp(&right.decimal())
+}
+
 /// The coefficient of a number at a scale that is not less.
 #[inline(always)]
 #[tactic(auto, using(decimal18::proofs::ShortArithmetic::aligned_same, decimal18::proofs::ShortArithmetic::aligned_by))]

@@ -15,6 +15,7 @@ use data_instructions::{DataTables, ProgramFault, TextIndex};
 
 impl Data {
     /// `append`: what DISPLAY shows of the newest place is added to the line, or fault 90.
+    #[inline(never)]
     pub fn append(&mut self, tables: &DataTables) -> Result<(), ProgramFault>
         requires operand { FindsItem tables.now self.old.areas self.old.places.newest_first }
         requires room { HasLineRoom tables.now self.old.places.newest_first
@@ -30,6 +31,7 @@ impl Data {
     }
 
     /// `append` of a text of the table.
+    #[inline(never)]
     pub fn append_literal(
         &mut self,
         tables: &DataTables,

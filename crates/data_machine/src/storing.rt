@@ -15,6 +15,7 @@ use data_instructions::{DataTables, ProgramFault};
 impl Data {
     /// `store`: the newest number is stored at the newest place, rounded or cut; where it doesn't fit, or there is none, the
     /// truth is true. Fault 90 where the item there receives no numbers.
+    #[inline(never)]
     pub fn store_number(
         &mut self,
         tables: &DataTables,
@@ -34,6 +35,7 @@ impl Data {
     }
 
     /// `clear truth`: no size error arose.
+    #[inline(always)]
     pub fn clear_truth(&mut self) -> Result<(), ProgramFault>
         ensures does { IsStepOf result (scratch_of self.new)
             (Continues (record (scratch_of self.old) { truth = false })) }

@@ -168,6 +168,7 @@ impl Data {
     }
 
     /// `string`, with a pointer or without. It takes no memory.
+    #[inline(never)]
     pub fn string(&mut self, tables: &DataTables, pointer: bool) -> Result<(), ProgramFault>
         requires { IsReady tables.now self.old (instructions.String pointer) }
         ensures does { IsStepOf result (scratch_of self.new)
