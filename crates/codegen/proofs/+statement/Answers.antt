@@ -189,12 +189,11 @@ emit::emit_performing-returns-in_ok-emit_tick-in-CountedBy t c =
     let tick = tick_fragment line in
     let turn = turn_fragment scope (statement_fragment scope) line c.args.one.now.performed in
     let counted = sequence (take_fragment scope.items i.Push c.in-CountedBy.item) (counted_fragment turn) in
-    let result = c.emit_counted.result in
     let new = c.emit_counted.new.code in
-    is_so result new (append old (sequence tick counted old))
+    is_so c.emit_counted.result new (append old (sequence tick counted old))
     (append old (turns_fragment scope.items line c.args.one.now.turns turn old))
-    (ends_so result tick counted old c.emit_tick-in-CountedBy.new.code new c.in_ok-emit_tick-in-CountedBy.ensures
-    c.emit_counted.ensures)
+    (ends_so c.emit_counted.result tick counted old c.emit_tick-in-CountedBy.new.code new
+    c.in_ok-emit_tick-in-CountedBy.ensures c.emit_counted.ensures)
     (sym (ap (λ (often : Repetition). append old (turns_fragment scope.items line often turn old)) c.in-CountedBy.is))
 
 pub times::emit_counted-emit_taking-requires : goal.times::emit_counted-emit_taking-requires
