@@ -184,7 +184,7 @@ fn emit_starting(
     emit_on_file(emitter, code, file, verb, &None, phrases)
 }
 
-/// A file statement on a file, and what comes of its status. INTO comes first after a success.
+/// A file statement on a file, and the code for its status. INTO comes first after a success.
 #[cycle(statement)]
 fn emit_on_file(
     emitter: &Emitter<'_>,
@@ -238,7 +238,7 @@ fn emit_success(
     }
 }
 
-/// What comes of a status that is no success.
+/// The code for a status that is no success.
 #[cycle(statement)]
 fn emit_failure(
     emitter: &Emitter<'_>,
@@ -290,7 +290,7 @@ fn emit_class_phrase(
     emit_meeting(code, branch, other)
 }
 
-/// The statements of a phrase for a status, or else what comes of a status that nothing takes.
+/// The statements of a phrase for a status, or else the code for a status that nothing takes.
 #[cycle(statement)]
 fn emit_phrase_taken(
     emitter: &Emitter<'_>,

@@ -47,7 +47,7 @@ pub(crate) fn emit_closes(
     Ok(())
 }
 
-/// A statement without phrases on the file of that name, and what comes of its status.
+/// A statement without phrases on the file of that name, and the code for its status.
 fn emit_alone(
     emitter: &Emitter<'_>,
     code: &mut Code,

@@ -20,7 +20,7 @@ use source_tree::{DivisionOrder, Operand, Operation, Operator, Receiver, Referen
 use sqlite_items::Items;
 use std::alloc::AllocError;
 
-/// The newest number isn't wanted any more.
+/// Discards the newest number.
 pub fn discard() -> DataInstruction
     ensures { result ≡ codes.discard }
 {
@@ -359,7 +359,7 @@ fn emit_values(emitter: &Emitter<'_>, code: &mut Code, one: &Operation) -> Resul
     }
 }
 
-/// What comes of those values, which are taken.
+/// The code that computes the results from those values, which it takes.
 fn emit_results(
     emitter: &Emitter<'_>,
     code: &mut Code,

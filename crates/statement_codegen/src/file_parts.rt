@@ -41,7 +41,7 @@ pub fn emit_test(code: &mut Code, class: StatusClass) -> Result<(), AllocError>
     Ok(())
 }
 
-/// What comes of a status that nothing takes.
+/// The code for a status that nothing takes.
 pub fn emit_unheard(
     emitter: &Emitter<'_>,
     code: &mut Code,

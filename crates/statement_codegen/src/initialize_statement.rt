@@ -48,7 +48,7 @@ pub fn emit_sets(
     Ok(())
 }
 
-/// The item of a reference, as its kind wants it.
+/// The code that initializes the item of a reference.
 fn emit_initialize(
     emitter: &Emitter<'_>,
     code: &mut Code,

@@ -107,7 +107,7 @@ fn emit_all_cut(
     Ok(())
 }
 
-/// The place of a sender, which isn't wanted yet.
+/// The place of a sender, which is discarded: it is only looked up.
 fn emit_found(emitter: &Emitter<'_>, code: &mut Code, one: &Operand) -> Result<(), AllocError>
     requires rules { sent_rules (items_in emitter.now.declarations.now) one.now ≡ [] }
     ensures { OnOk result (code.new ≡ append code.old
