@@ -176,7 +176,7 @@ fn extend(alloc: Global, value: &[u8], count: usize, byte: u8) -> Result<Vec<u8>
     ensures bytes { IfOk result (λ bytes. bytes.items ≡ extended_bytes count byte value.now) }
     ensures memory { IsOkUnless result StoreFault.Memory }
 {
-    let mut out = Vec::new(alloc);
+    let mut out = Vec::with_capacity(alloc, count)?;
     out.extend_from_slice(value)?;
     out.resize(count, byte)?;
     Ok(out)

@@ -10,4 +10,5 @@ pub mod PageWrites
 pub mod Places
 pub mod Rows
 pub mod Views
+pub mod Words
 pub mod Zeros

@@ -5,6 +5,7 @@
 
 mod edits;
 mod header;
+mod key_order;
 mod laws;
 mod node_view;
 mod row_bytes;

@@ -2,6 +2,7 @@
 ghost use Rattle.std.specs.Prelude.{◌≡◌, ◌↔◌, ◌≤◌, IsTrue, ◌<◌, ◌+◌, [], length, take, drop, slice_index_or, IfOk, IfErr, MatchResult};
 ghost use Rattle.btree_pages.specs.Keys.{Ascend, AllAbove, AllBelow, key_of, keys_of};
 
+use crate::key_order::compare_keys;
 use crate::node_view::NodeView;
 use crate::tree_page::TreePage;
 use std::cmp::Ordering;
@@ -23,7 +24,7 @@ impl<'a> NodeView<'a> {
         let mut high = self.count();
         while low < high {
             let middle = low + (high - low) / 2;
-            match self.key(middle).cmp(key) {
+            match compare_keys(self.key(middle), key) {
                 Ordering::Less => low = middle + 1,
                 Ordering::Equal => return Ok(middle),
                 Ordering::Greater => high = middle,
@@ -37,7 +38,7 @@ impl<'a> NodeView<'a> {
         ensures { IsTrue result ↔ Ascend (keys_of self.now.layout self.now.rows) }
     {
         for place in 1..self.count() {
-            match self.key(place - 1).cmp(self.key(place)) {
+            match compare_keys(self.key(place - 1), self.key(place)) {
                 Ordering::Less => {}
                 _ => return false,
             }

@@ -13,7 +13,7 @@ returns-in_default c =
           let less : key_cmp (key_of node.layout (get_or node.rows (place - 1) []))
           (key_of node.layout (get_or node.rows place [])) ≡ Less =
           ordered node.layout node.rows up (place - 1) place (omega arith) (omega arith) in
-          let found : c.cmp.result ≡ Less = cc in
+          let found : c.compare_keys.result ≡ Less = cc in
           absurd (c.in_default.not-Less found)),
     )
 
