@@ -30,6 +30,7 @@ use Rattle.records.specs.Steps.{row_to_change, end_step}
 use Rattle.records.specs.FileStep.{area, is_success}
 use Rattle.file_verbs.specs.declared.link.Link.{Link}
 use Rattle.file_verbs.specs.Links.{IsLinked, There, Gone, connector_of}
+use Rattle.file_verbs.proofs.Calling.{never_refused}
 
 -- an opened file that may be written or changed is there
 pub written_held : (files : Files) (s : Select) (l : Link) → IsLinked files s l → may_write s.access l.mode ≡ true
@@ -50,6 +51,13 @@ success_of Missing is = let e : true ≡ false = sym is in absurd cc
 success_of Taken is = let e : true ≡ false = sym is in absurd cc
 success_of Done is = refl
 success_of Duplicate is = refl
+
+-- and one that is no success tells of none
+pub no_change_of : (outcome : Outcome) → is_success (status_after outcome) ≡ false → is_change outcome ≡ false
+no_change_of Missing is = refl
+no_change_of Taken is = refl
+no_change_of Done is = absurd cc
+no_change_of Duplicate is = absurd cc
 
 module _ (s : Select) (l : Link) (files : Files) (held : File) (has : Has files s.file held) (bytes : List ℕ)
     (number : ℕ) where
@@ -74,6 +82,24 @@ module _ (s : Select) (l : Link) (files : Files) (held : File) (has : Has files 
       ∙ ap (by_tests false) out
       ∙ ap (λ (f : Option File). writes (entry_of s) files was (area bytes number)
       (insertion number_now bytes (unwrap_or f (empty_file (spec_of s.file))))) has.there
+
+  -- and what bars it
+  pub past_ends : (n : ℕ) (past : Bool) → n ≡ number_now → past ≡ is_past s.file.organization s.access s.key_digits n
+      → past ≡ true
+      → step (entry_of s) files was (area bytes number) Write
+      ≡ end_step (entry_of s) files was (area bytes number) Boundary
+  past_ends n past same past_is beyond =
+      ap (λ (b : Bool). by_tests b (is_out s.file.organization s.access bytes was.last.value))
+      (sym (past_is ∙ ap (is_past s.file.organization s.access s.key_digits) same) ∙ beyond)
+
+  pub out_ends : (n : ℕ) (past out : Bool) → n ≡ number_now → past ≡ is_past s.file.organization s.access
+      s.key_digits n → past ≡ false → out ≡ is_out s.file.organization s.access bytes was.last.value → out ≡ true
+      → step (entry_of s) files was (area bytes number) Write
+      ≡ end_step (entry_of s) files was (area bytes number) OutOfSequence
+  out_ends n past out same past_is within out_is before =
+      ap (λ (b : Bool). by_tests b (is_out s.file.organization s.access bytes was.last.value))
+      (sym (past_is ∙ ap (is_past s.file.organization s.access s.key_digits) same) ∙ within)
+      ∙ ap (by_tests false) (sym out_is ∙ before)
 
   pub inserted_files : (n : ℕ) (past out : Bool) → n ≡ number_now → past ≡ is_past s.file.organization s.access
       s.key_digits n → past ≡ false → out ≡ is_out s.file.organization s.access bytes was.last.value → out ≡ false
@@ -196,6 +222,17 @@ module _ (s : Select) (l : Link) (files : Files) (held : File) (has : Has files 
       ∙ ap (λ (f : Option File). by_other false (unwrap_or f (empty_file (spec_of s.file)))) has.there
       ∙ ap (λ (p : Pair). changes (entry_of s) files was (area bytes number) (by_pair p)) pair
 
+  pub other_ends : (is_sequential s.access ≡ true → l.was_read ≡ true) → (other : Bool)
+      → other ≡ is_other s.file.organization s.access bytes (part (place_of (spec_of s.file) Prime) l.row.items)
+      → other ≡ true
+      → step (entry_of s) files was (area bytes number) Rewrite
+      ≡ end_step (entry_of s) files was (area bytes number) OutOfSequence
+  other_ends read other other_is is =
+      let one = other_by s.file.organization s.access named.value (part (place_of (spec_of s.file) Prime) l.row.items)
+      (value_is read) in
+      ap (λ (b : Bool). by_other b (unwrap_or (file_at s.file.name.items files) (empty_file (spec_of s.file))))
+      (one ∙ sym other_is ∙ is)
+
 -- an answer in place of another
 pub gave : {S : Type 0} (s : Stores S) {D : Type 0} (d : Devices D) {T U : Type 0} (x : T) (y : U) (is_new : Bool)
     (name : List ℕ) (before after : Files) (old : S) (device : D) (new : S) (device' : D) (result : Result T StoreFault)
@@ -205,9 +242,9 @@ pub gave : {S : Type 0} (s : Stores S) {D : Type 0} (d : Devices D) {T U : Type 
 gave s d {T} x y is_new name before after old device new device' result was turns = record {
   there = subst (λ (r : Result T StoreFault). OnOk r (Represents s d new device' after)) was turns.there;
   moments = turns.moments;
-  sound = λ is. absurd cc;
-  room = λ is. absurd cc;
-  mark = λ is. absurd cc;
+  sound = λ is. never_refused is;
+  room = λ is. never_refused is;
+  mark = λ is. never_refused is;
 }
 
 -- a refusal in place of another

@@ -84,24 +84,15 @@ pub(crate) fn open_file<T: Store, D: Device>(
             Ok(Status::FileDiffers)
         }
         Presence::Absent => {
-            if select.optional {
-                match mode {
-                    OpenMode::Input => {
-                        begin(select, link, mode, true);
-                        Ok(Status::SuccessAbsent)
-                    }
-                    OpenMode::Output => unreachable!(),
-                    OpenMode::InputOutput => {
-                        open_new(store, device, select, link, mode, Status::SuccessAbsent)
-                    }
-                    OpenMode::Extend => {
-                        open_new(store, device, select, link, mode, Status::SuccessAbsent)
-                    }
-                }
-            } else {
+            if !select.optional {
                 link.was_read = false;
-                Ok(Status::FileMissing)
+                return Ok(Status::FileMissing);
             }
+            if let OpenMode::Input = mode {
+                begin(select, link, mode, true);
+                return Ok(Status::SuccessAbsent);
+            }
+            open_new(store, device, select, link, mode, Status::SuccessAbsent)
         }
     }
 }

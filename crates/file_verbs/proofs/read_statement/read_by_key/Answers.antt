@@ -1,11 +1,19 @@
-use Rattle.std.proofs.Common.{refl, ap, ◌∙◌}
+use Rattle.std.proofs.Common.{◌≡◌, length, refl, sym, ◌∙◌, ap, subst, arith}
 use Rattle.std.proofs.lemmas.List.{with_items_is}
 use Rattle.records.specs.Stores.{spec_of}
 use Rattle.file_verbs.specs.Links.{connector_of}
 use Rattle.records.specs.declared.status.Status.TheVariants.{NotFound}
+use Rattle.records.proofs.Calls.{looks_not}
+use Rattle.file_verbs.specs.declared.link.Link.{Link}
+use Rattle.file_verbs.specs.Links.{IsLink}
+use Rattle.file_verbs.proofs.Calling.{no_answer}
+use Rattle.file_verbs.proofs.Doing.{err_any}
+use Rattle.file_verbs.proofs.Calling.{still_reads, reads_on, refused_by_call, never_refused}
 use Rattle.file_verbs.proofs.Taken.{held_of, ended, absent_rows, absent_read}
 use Rattle.file_verbs.proofs.ReadSteps.{read_none, read_taken}
+use Rattle.file_verbs.proofs.read_statement.read_by_key.Given.{Over}
 use Rattle.file_verbs.proofs.read_statement.read_by_key.Goals as goal
+use Rattle.file_verbs.proofs.read_statement.read_by_key.Goals.{After-seek_fitting}
 
 pub returns-in_default-clause-step : goal.returns-in_default-clause-step
 returns-in_default-clause-step g c = λ files stands linked.
@@ -33,3 +41,121 @@ returns-then-link-clause-step g c = λ files stands linked.
     ended _ _ NotFound _ _ (absent_read s l files c.args.bytes.now c.args.number.now
     (absent_rows files s l linked c.if-link.true) c.args.key) refl
     (ap (connector_of (spec_of s.file)) c.lose_position.ensures) refl
+
+pub returns-then-link-clause-reads : goal.returns-then-link-clause-reads
+returns-then-link-clause-reads g c = looks_not g.T.Keeps g.D.Device _ c.args.store.now c.args.device.now
+    (λ is. never_refused is) (λ is. never_refused is) (λ is. never_refused is) (λ is. never_refused is)
+    (λ is. never_refused is)
+
+pub returns-in_err-found-clause-reads : goal.returns-in_err-found-clause-reads
+returns-in_err-found-clause-reads g c =
+    still_reads c.seek_fitting.ensures.reads c.in_err-found.was c.from_residual.ensures.1
+
+pub returns-in_err-found-clause-damaged : goal.returns-in_err-found-clause-damaged
+returns-in_err-found-clause-damaged g c = λ files stands linked is.
+    let h = held_of files c.args.select.now c.args.link.now linked c.if-link.false in
+    c.seek_fitting.ensures.damaged files h.0 stands h.1
+    (refused_by_call c.in_err-found.was c.from_residual.ensures.1 is)
+
+pub returns-in_default-clause-reads : goal.returns-in_default-clause-reads
+returns-in_default-clause-reads g c = reads_on c.seek_fitting.ensures.reads _
+
+pub returns-clause-reads : goal.returns-clause-reads
+returns-clause-reads g c = reads_on c.seek_fitting.ensures.reads _
+
+-- the room for the row that is sought keeps its length
+room : (g : Over) (c : After-seek_fitting g) → length c.seek_fitting.new.sought ≡ c.args.select.now.file.record_length
+room g c = omega (
+  arith,
+  c.seek_fitting.auto.sought ∙ c.deref_mut.ensures.len,
+  c.args.link.now.sought.ok.0,
+  c.requires.link.sought_length,
+)
+
+pub returns-then-link-clause-link : goal.returns-then-link-clause-link
+returns-then-link-clause-link g c =
+    subst (λ (l : Link). IsLink c.args.select.now l) (sym c.lose_position.ensures) (record {
+      key = c.requires.key;
+      value = omega arith;
+      row_length = c.requires.link.row_length;
+      sought_length = c.requires.link.sought_length;
+      written_length = c.requires.link.written_length;
+      last = c.requires.link.last;
+    })
+
+pub returns-then-link-clause-mode : goal.returns-then-link-clause-mode
+returns-then-link-clause-mode g c = ap (λ (l : Link). l.mode) c.lose_position.ensures
+
+pub returns-then-link-clause-absent : goal.returns-then-link-clause-absent
+returns-then-link-clause-absent g c = ap (λ (l : Link). l.is_absent) c.lose_position.ensures
+
+pub returns-then-link-clause-damaged : goal.returns-then-link-clause-damaged
+returns-then-link-clause-damaged g c = λ files stands linked is. never_refused is
+
+pub returns-in_err-found-clause-link : goal.returns-in_err-found-clause-link
+returns-in_err-found-clause-link g c =
+    let at = goal.at.returns-in_err-found-clause-link g c in
+    record {
+      key = c.requires.link.key;
+      value = c.requires.link.value;
+      row_length = c.requires.link.row_length;
+      sought_length = ap length (with_items_is c.args.link.now.sought c.seek_fitting.new.sought
+          (c.seek_fitting.auto.sought ∙ c.deref_mut.ensures.len)) ∙ room g at.After-seek_fitting;
+      written_length = c.requires.link.written_length;
+      last = c.requires.link.last;
+    }
+
+pub returns-in_err-found-clause-step : goal.returns-in_err-found-clause-step
+returns-in_err-found-clause-step g c =
+    λ files stands linked. no_answer _ _ c.from_residual.result c.from_residual.ensures.1
+
+pub returns-in_err-found-clause-same : goal.returns-in_err-found-clause-same
+returns-in_err-found-clause-same g c =
+    err_any c.from_residual.result (record { absent = refl; connector = refl })
+
+pub returns-in_err-found-clause-area : goal.returns-in_err-found-clause-area
+returns-in_err-found-clause-area g c = err_any c.from_residual.result refl
+
+pub returns-in_default-clause-link : goal.returns-in_default-clause-link
+returns-in_default-clause-link g c =
+    let at = goal.at.returns-in_default-clause-link g c in
+    subst (λ (l : Link). IsLink c.args.select.now l) (sym c.lose_position-in_default.ensures) (record {
+      key = c.requires.key;
+      value = omega arith;
+      row_length = c.requires.link.row_length;
+      sought_length = ap length (with_items_is c.args.link.now.sought c.seek_fitting.new.sought
+          (c.seek_fitting.auto.sought ∙ c.deref_mut.ensures.len)) ∙ room g at.After-seek_fitting;
+      written_length = c.requires.link.written_length;
+      last = c.requires.link.last;
+    })
+
+pub returns-in_default-clause-mode : goal.returns-in_default-clause-mode
+returns-in_default-clause-mode g c = ap (λ (l : Link). l.mode) c.lose_position-in_default.ensures
+
+pub returns-in_default-clause-absent : goal.returns-in_default-clause-absent
+returns-in_default-clause-absent g c = ap (λ (l : Link). l.is_absent) c.lose_position-in_default.ensures
+
+pub returns-in_default-clause-damaged : goal.returns-in_default-clause-damaged
+returns-in_default-clause-damaged g c = λ files stands linked is. never_refused is
+
+pub returns-clause-link : goal.returns-clause-link
+returns-clause-link g c =
+    let at = goal.at.returns-clause-link g c in
+    subst (λ (l : Link). IsLink c.args.select.now l) (sym c.take_row.ensures.link) (record {
+      key = c.requires.key;
+      value = omega arith;
+      row_length = ap length (with_items_is c.args.link.now.sought c.seek_fitting.new.sought
+          (c.seek_fitting.auto.sought ∙ c.deref_mut.ensures.len)) ∙ room g at.After-seek_fitting;
+      sought_length = c.requires.link.row_length;
+      written_length = c.requires.link.written_length;
+      last = c.requires.link.last;
+    })
+
+pub returns-clause-mode : goal.returns-clause-mode
+returns-clause-mode g c = ap (λ (l : Link). l.mode) c.take_row.ensures.link
+
+pub returns-clause-absent : goal.returns-clause-absent
+returns-clause-absent g c = ap (λ (l : Link). l.is_absent) c.take_row.ensures.link
+
+pub returns-clause-damaged : goal.returns-clause-damaged
+returns-clause-damaged g c = λ files stands linked is. never_refused is

@@ -1,14 +1,12 @@
-use Rattle.std.proofs.Common.{◌≡◌, refl, sym, ◌∙◌, ap}
-use Rattle.std.specs.Prelude.{Result, Err}
-use Rattle.records.specs.declared.answer.Outcome.{Outcome}
-use Rattle.records.specs.declared.fault.StoreFault.{StoreFault}
-use Rattle.records.specs.declared.fault.StoreFault.TheVariants.{Full}
+use Rattle.std.proofs.Common.{inl, refl, sym, ◌∙◌, ap}
 use Rattle.records.specs.declared.key.KeyOfReference.TheVariants.{Prime}
 use Rattle.records.specs.FileStep.{is_success}
 use Rattle.records.specs.Rows.{part, place_of}
 use Rattle.records.specs.Steps.{Step, status_after}
 use Rattle.records.specs.Stores.{spec_of}
-use Rattle.file_verbs.proofs.Changed.{changed_held, removes, success_of, refused_turns, answered_turns}
+use Rattle.file_verbs.proofs.Calling.{still_changes, changes_on, no_answer, refused_by_call}
+use Rattle.file_verbs.proofs.Doing.{err_any}
+use Rattle.file_verbs.proofs.Changed.{changed_held, removes, success_of, no_change_of, refused_turns, answered_turns}
 use Rattle.file_verbs.proofs.Taken.{ended}
 use Rattle.file_verbs.proofs.rewrite_statement.delete_row.Goals as goal
 
@@ -49,7 +47,30 @@ returns-in_err-outcome-clause-full g c = λ files stands linked full.
     let e = removes s c.args.link.now files h.0 h.1 c.args.bytes.now c.args.number c.requires.may.1 _ _
     (c.key_value-key.ensures ∙ ap (part (place_of (spec_of s.file) Prime)) c.record_to_change-named.ensures)
     c.number_to_change-row_number.ensures in
-    let from = rw full at c.from_residual.ensures.1 in
-    let told : c.remove.result ≡ Err Full =
-    c.in_err-outcome.was ∙ ap (λ (e : StoreFault). let r : Result Outcome StoreFault = Err e in r) (sym from) in
+    let told = refused_by_call c.in_err-outcome.was c.from_residual.ensures.1 full in
     ap (λ (t : Step). is_success t.status) e ∙ success_of _ (c.remove.ensures.full files h.0 stands h.1 told)
+
+pub returns-in_err-outcome-clause-changes : goal.returns-in_err-outcome-clause-changes
+returns-in_err-outcome-clause-changes g c =
+    still_changes c.remove.ensures.changes c.in_err-outcome.was c.from_residual.ensures.1
+
+pub returns-in_err-outcome-clause-step : goal.returns-in_err-outcome-clause-step
+returns-in_err-outcome-clause-step g c = λ files stands linked.
+    no_answer _ _ c.from_residual.result c.from_residual.ensures.1
+
+pub returns-in_err-outcome-clause-makes_none : goal.returns-in_err-outcome-clause-makes_none
+returns-in_err-outcome-clause-makes_none g c =
+    λ is. c.remove.ensures.makes_none (refused_by_call c.in_err-outcome.was c.from_residual.ensures.1 is)
+
+pub returns-in_err-outcome-clause-idle : goal.returns-in_err-outcome-clause-idle
+returns-in_err-outcome-clause-idle g c = λ honest. no_answer _ _ c.from_residual.result c.from_residual.ensures.1
+
+pub returns-in_err-outcome-clause-rests : goal.returns-in_err-outcome-clause-rests
+returns-in_err-outcome-clause-rests g c = err_any c.from_residual.result (inl c.in_err-outcome.ensures.spends.refused)
+
+pub returns-clause-changes : goal.returns-clause-changes
+returns-clause-changes g c = changes_on c.remove.ensures.changes c.write_status.result c.in_ok-outcome.was
+
+pub returns-clause-idle : goal.returns-clause-idle
+returns-clause-idle g c = λ honest none.
+    c.in_ok-outcome.ensures.idle honest (no_change_of _ (ap is_success (sym c.write_status.ensures) ∙ none))

@@ -1,5 +1,6 @@
 use Rattle.std.proofs.Common.{true, false, sym, ◌∙◌}
 use Rattle.records.specs.Stores.{spec_of}
+use Rattle.file_verbs.proofs.Calling.{still_reads, reads_on, refused_by_call}
 use Rattle.file_verbs.proofs.Told.{is_sought, none_sought, one_sought, no_longer}
 use Rattle.file_verbs.proofs.seeking.seek_fitting.Goals as goal
 
@@ -41,3 +42,20 @@ is_fitting-requires g c =
     c.args.file.now.sound c.requires.key c.requires.count c.requires.bytes (c.seek.auto.bytes ∙ c.requires.sought)
     c.key_bytes-value.ensures
     c.key_value-row_value.ensures
+
+pub returns-in_err-found-clause-reads : goal.returns-in_err-found-clause-reads
+returns-in_err-found-clause-reads g c =
+    still_reads c.seek.ensures.reads c.in_err-found.was c.from_residual.ensures.1
+
+pub returns-in_default-clause-reads : goal.returns-in_default-clause-reads
+returns-in_default-clause-reads g c = reads_on c.seek.ensures.reads _
+
+pub returns-then-is_fitting-clause-reads : goal.returns-then-is_fitting-clause-reads
+returns-then-is_fitting-clause-reads g c = reads_on c.seek.ensures.reads _
+
+pub returns-else-is_fitting-clause-reads : goal.returns-else-is_fitting-clause-reads
+returns-else-is_fitting-clause-reads g c = reads_on c.seek.ensures.reads _
+
+pub returns-in_err-found-clause-damaged : goal.returns-in_err-found-clause-damaged
+returns-in_err-found-clause-damaged g c = λ files held stands has is.
+    c.seek.ensures.damaged files held stands has (refused_by_call c.in_err-found.was c.from_residual.ensures.1 is)

@@ -2,6 +2,7 @@ use Rattle.std.proofs.Common.{refl, subst, ap, ◌∙◌}
 use Rattle.records.specs.Connector.{Entry}
 use Rattle.records.specs.FileStep.{area, makes_file, Suits}
 use Rattle.records.specs.declared.status.Status.TheVariants.{Success}
+use Rattle.file_verbs.proofs.Calling.{changes_still}
 use Rattle.file_verbs.proofs.Performed.{still_turns, changes_over, rests_over, not_close, known_step, err_both}
 use Rattle.file_verbs.proofs.OneConnector.{is_at, at_entry, at_entries, at_may, at_needs, forgotten_linked}
 use Rattle.file_verbs.proofs.OneConnector.{closed_linked}
@@ -130,3 +131,11 @@ returns-clause-store g c =
           record { honest = now.honest; there = (now.there, does_still at does same files stands.there.1) }) rests)
           does.same does.rests;
     }
+
+pub returns-in-Some-clause-store : goal.returns-in-Some-clause-store
+returns-in-Some-clause-store g c =
+    record { changes = changes_still c.in-Some.status refl refl; idle = λ honest none. refl; rests = tt }
+
+pub returns-in-Close-clause-store : goal.returns-in-Close-clause-store
+returns-in-Close-clause-store g c =
+    record { changes = changes_still Success refl refl; idle = λ honest none. refl; rests = tt }
