@@ -16,6 +16,7 @@ pub mod BlindStatements
 pub mod Meeting
 pub mod WaysMet
 pub mod Opening
+pub mod ByCase
 pub mod FileParts
 pub mod OnFiles
 pub mod StorageItems

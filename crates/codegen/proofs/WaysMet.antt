@@ -1,11 +1,11 @@
 -- A turn with the branch back to it, and a way whose end is not met yet, where the last call may have failed.
-use Rattle.std.proofs.Common.{◌≡◌, ℕ, ◌+◌, length, sym, ap, ◌∙◌, length-append, [], ◌∷◌}
+use Rattle.std.proofs.Common.{◌≡◌, ℕ, ◌+◌, length, sym, ap, ◌∙◌, length-append, [], ◌∷◌, arith}
 use Rattle.std.specs.Prelude.{Result, OnOk}
 use Rattle.code_image.specs.declared.code.Code.{Code}
-use Rattle.code_image.specs.declared.instruction.Instruction.TheVariants.{Jump, Join}
+use Rattle.code_image.specs.declared.instruction.Instruction.TheVariants.{Branch, Jump, Join}
 use Rattle.condition_codegen.specs.Fragments.{Fragment, append, sequence}
 use Rattle.condition_codegen.specs.Meeting.{branch_code, jump_code}
-use Rattle.codegen.specs.Phrases.{Opens}
+use Rattle.codegen.specs.Phrases.{IsWay, Opens}
 use Rattle.codegen.specs.UntilCode.{repetition_fragment}
 use Rattle.condition_codegen.proofs.Sequences.{then_piece, is_so, ends_so}
 
@@ -38,4 +38,24 @@ way_opened test first old tested begun done after branch other p q r s t u =
       branch = t ∙ ap (λ (k : Code). length k.instructions) p;
       other = u ∙ sym (length-append done.instructions (Jump 0 ∷ Join ∷ []))
           ∙ sym (ap (λ (k : Code). length k.instructions) s);
+    }
+
+-- Both addresses of two ways are within the code at whose end they meet.
+pub ends_within : (first second : Fragment) (before begun one middle two : Code) (branch other : ℕ)
+    → begun ≡ append before (branch_code 0) → branch ≡ length before.instructions → one ≡ append begun (first begun)
+    → middle ≡ append one (jump_code 0) → other ≡ length one.instructions + 2 → two ≡ append middle (second middle)
+    → IsWay (length two.instructions) (record { branch = branch; other = other })
+ends_within first second before begun one middle two branch other p q r s t u =
+    let a : length begun.instructions ≡ length before.instructions + 1 =
+    ap (λ (k : Code). length k.instructions) p ∙ length-append before.instructions (Branch 0 ∷ []) in
+    let b : length one.instructions ≡ length begun.instructions + length (first begun).instructions =
+    ap (λ (k : Code). length k.instructions) r ∙ length-append begun.instructions (first begun).instructions in
+    let d : length middle.instructions ≡ length one.instructions + 2 =
+    ap (λ (k : Code). length k.instructions) s ∙ length-append one.instructions (Jump 0 ∷ Join ∷ []) in
+    let e : length two.instructions ≡ length middle.instructions + length (second middle).instructions =
+    ap (λ (k : Code). length k.instructions) u ∙ length-append middle.instructions (second middle).instructions in
+    record {
+      branch = omega (arith, a, b, d, e, q);
+      jump = omega (arith, t);
+      other = omega (arith, d, e, t);
     }

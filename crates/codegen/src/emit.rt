@@ -250,7 +250,6 @@ fn emit_texts(
 
 /// A statement, with those in it.
 #[cycle(statement)]
-#[tactic(auto, using(crate::proofs::Layers::statement_is))]
 fn emit_statement(emitter: &Emitter<'_>, code: &mut Code, one: &Statement) -> Result<(), AllocError>
     requires entries { entry_rules emitter.now.declarations.now.storage.now ≡ [] }
     requires rules { rules.statement_rules (scope_in emitter.now.declarations.now) all_permitted

@@ -1,19 +1,26 @@
-use Rattle.std.proofs.Common.{rules, ◌≡◌, ◌+◌, true, List, [], ◌++◌, length, Some, refl, sym, ap}
+use Rattle.std.proofs.Common.{rules, ◌≡◌, ℕ, ◌+◌, List, [], ◌++◌, length, Some, None, refl, sym, ap}
 use Rattle.std.proofs.Common.{arith, ◌∙◌, length-append}
-use Rattle.std.proofs.lemmas.Grind.{common_steps}
 use Rattle.records.specs.declared.verb.Verb.{Verb}
 use Rattle.records.specs.declared.verb.Verb.TheVariants as file_verb
+use Rattle.source_tree.specs.declared.name.Name.{Name}
+use Rattle.source_tree.specs.declared.statement.Verb.TheVariants as family
 use Rattle.source_tree.specs.declared.statement.Statement.{Statement, the_lemmas}
+use Rattle.source_tree.specs.declared.phrases.FilePhrases.TheVariants as file_phrases
+use Rattle.source_tree.specs.declared.file_statement.Opening.{Opening}
 use Rattle.source_tree.specs.declared.file_statement.FileStatement.{FileStatement}
+use Rattle.source_tree.specs.declared.file_statement.FileStatement.TheVariants as filing
 use Rattle.source_tree.specs.declared.conditional_statement.ConditionalStatement.{ConditionalStatement}
-use Rattle.source_tree.specs.declared.conditional_statement.ConditionalStatement.TheVariants.{If}
+use Rattle.source_tree.specs.declared.conditional_statement.ConditionalStatement.TheVariants.{If, Evaluate}
+use Rattle.source_tree.specs.declared.perform_statement.Performed.TheVariants.{Procedures, Statements}
 use Rattle.source_tree.specs.declared.perform_statement.Repetition.{Repetition}
+use Rattle.source_tree.specs.declared.perform_statement.Repetition.TheVariants as repeated
 use Rattle.source_tree.specs.declared.until.TestTime.{TestTime}
 use Rattle.source_tree.specs.declared.condition.Condition.TheVariants.{Any}
 use Rattle.source_tree.specs.declared.evaluate_statement.Subject.{Subject}
 use Rattle.source_tree.specs.declared.evaluate_statement.When.{When}
 use Rattle.source_tree.specs.declared.evaluate_statement.Selected.{Selected}
 use Rattle.source_tree.specs.declared.string_statement.Sending.{Sending}
+use Rattle.source_tree.specs.Arithmetic.{is_there}
 use Rattle.source_tree.specs.Broken.{each}
 use Rattle.source_tree.specs.Evaluate.{object_conditions, when_conditions, selected_condition}
 use Rattle.source_tree.specs.EvaluateRules.{when_rules, selected_rules}
@@ -22,6 +29,7 @@ use Rattle.source_tree.specs.Filing.{file_with_record, phrases_of}
 use Rattle.source_tree.specs.FilingRules.{delete_rules, file_named_rules, filing_rules, read_rules, record_rules}
 use Rattle.source_tree.specs.FilingRules.{start_rules}
 use Rattle.source_tree.specs.NameRules.{reference_rules}
+use Rattle.source_tree.specs.Performing.{turns_of}
 use Rattle.source_tree.specs.ConditionRules.{varying_rules, condition_rules, until_rules}
 use Rattle.source_tree.specs.Rules.{all_permitted, integer_item, verb_rules, arithmetic_rules, stringing_rules}
 use Rattle.source_tree.specs.Rules.{branching_rules, performing_rules, phrases_rules, phrase_rules, file_phrases_rules}
@@ -40,14 +48,16 @@ use Rattle.code_image.specs.declared.code.Code.{Code}
 use Rattle.condition_codegen.specs.Fragments.{append, sequence, in_order}
 use Rattle.condition_codegen.specs.Meeting.{either_fragment, nothing_fragment}
 use Rattle.condition_codegen.specs.DataCode.{work_fragment, take_fragment}
+use Rattle.condition_codegen.specs.ArithmeticCode.{arithmetic_fragment}
 use Rattle.condition_codegen.specs.ConditionCode.{condition_fragment}
 use Rattle.statement_codegen.specs.StringCode.{string_fragment}
 use Rattle.codegen.specs.UntilCode.{tick_fragment, repetition_fragment, until_before_fragment, until_after_fragment}
-use Rattle.codegen.specs.UntilCode.{until_from_fragment, vary_begin_fragment, vary_on_fragment}
+use Rattle.codegen.specs.UntilCode.{until_from_fragment, until_fragment, vary_begin_fragment, vary_on_fragment}
 use Rattle.statement_codegen.specs.FileCode.{file_fragment, test_fragment, unheard_fragment, on_file_fragment}
 use Rattle.statement_codegen.specs.FileCode.{into_fragment, from_fragment, on_name_fragment}
 use Rattle.statement_codegen.specs.SubjectCode.{first_object, subjects_fragment}
 use Rattle.codegen.specs.Layout.{turn_end, count_begin, counted_turn, counted_fragment, turns_fragment, turn_fragment}
+use Rattle.codegen.specs.Layout.{times_fragment, evaluate_fragment}
 use Rattle.codegen.specs.Layout.{phrase_fragment, phrases_fragment, selection_fragment, conditional_fragment}
 use Rattle.codegen.specs.Layout.{taken_fragment, success_fragment, failure_fragment, status_fragment}
 use Rattle.codegen.specs.Layout.{statement_on_fragment, alone_fragment, file_statement_fragment, statement_fragment}
@@ -56,14 +66,18 @@ use Rattle.condition_codegen.proofs.EvaluateKept.{subjects_of, groups_of, other_
 use Rattle.codegen.proofs.Opening.{still_ways, ways_pushed, groups_pushed, groups_done}
 use Rattle.condition_codegen.proofs.Questions.{whens_rules}
 use Rattle.codegen.proofs.StringCodes.{keeps_string, pointer_kept}
+use Rattle.condition_codegen.proofs.Fragments.{joined_nothing, is_done}
 use Rattle.condition_codegen.proofs.Sequences.{then_piece, is_so, ends_so, on_ok, three_so}
+use Rattle.codegen.proofs.ByCase.{case_so, case_after, case_without, statement_so, next_piece, phrases_absent}
+use Rattle.codegen.proofs.ByCase.{same_there}
+use Rattle.codegen.proofs.ByCase.{times_so}
 use Rattle.codegen.proofs.Meeting.{phrases_stand}
 use Rattle.condition_codegen.proofs.Kept.{front_kept, back_kept, phrases_kept, one_kept, item_kept}
 use Rattle.statement_codegen.proofs.FilingKept.{first_kept, read_key_kept, read_into_kept, start_key_kept}
 use Rattle.statement_codegen.proofs.FilingKept.{record_names_one, record_from_kept}
 use Rattle.codegen.proofs.OnFiles.{none_found, one_found}
 use Rattle.condition_codegen.proofs.WaysMet.{ways_met, head_met, heads_met, and_met, or_met}
-use Rattle.codegen.proofs.WaysMet.{turn_met, way_opened}
+use Rattle.codegen.proofs.WaysMet.{turn_met, way_opened, ends_within}
 use Rattle.codegen.proofs.+statement.Goals as goal
 
 pub emit::emit_statement-emit_moving-requires-clause-rules : goal.emit::emit_statement-emit_moving-requires-clause-rules
@@ -121,13 +135,92 @@ emit::emit_statement-emit_branching-requires t c =
     ∙ sym (layers.statement_is scope all_permitted c.args.one.now) ∙ c.requires.rules in
     (search (rules, the_lemmas), (c.requires.entries, r))
 
+pub emit::emit_statement-returns-in-DataStatement : goal.emit::emit_statement-returns-in-DataStatement
+emit::emit_statement-returns-in-DataStatement t c =
+    statement_so c.emit_moving.result (scope_in c.args.emitter.now.declarations.now) c.args.one.now
+    (family.DataStatement c.in-DataStatement.moving) c.args.code.now c.emit_moving.new.code c.in-DataStatement.is
+    c.emit_moving.ensures
+
+pub emit::emit_statement-returns-in-Arithmetic : goal.emit::emit_statement-returns-in-Arithmetic
+emit::emit_statement-returns-in-Arithmetic t c =
+    statement_so c.emit_calculating.result (scope_in c.args.emitter.now.declarations.now) c.args.one.now
+    (family.Arithmetic c.in-Arithmetic.arithmetic) c.args.code.now c.emit_calculating.new.code c.in-Arithmetic.is
+    c.emit_calculating.ensures
+
+pub emit::emit_statement-returns-in-ConditionalStatement : goal.emit::emit_statement-returns-in-ConditionalStatement
+emit::emit_statement-returns-in-ConditionalStatement t c =
+    statement_so c.emit_branching.result (scope_in c.args.emitter.now.declarations.now) c.args.one.now
+    (family.ConditionalStatement c.in-ConditionalStatement.branching) c.args.code.now c.emit_branching.new.code
+    c.in-ConditionalStatement.is
+    c.emit_branching.ensures
+
+pub emit::emit_statement-returns-in-PerformStatement : goal.emit::emit_statement-returns-in-PerformStatement
+emit::emit_statement-returns-in-PerformStatement t c =
+    statement_so c.emit_performing.result (scope_in c.args.emitter.now.declarations.now) c.args.one.now
+    (family.PerformStatement c.in-PerformStatement.performing) c.args.code.now c.emit_performing.new.code
+    c.in-PerformStatement.is
+    c.emit_performing.ensures
+
+pub emit::emit_statement-returns-in-TextStatement : goal.emit::emit_statement-returns-in-TextStatement
+emit::emit_statement-returns-in-TextStatement t c =
+    statement_so c.emit_texts.result (scope_in c.args.emitter.now.declarations.now) c.args.one.now
+    (family.TextStatement c.in-TextStatement.text) c.args.code.now c.emit_texts.new.code c.in-TextStatement.is
+    c.emit_texts.ensures
+
+pub emit::emit_statement-returns-in-StringStatement : goal.emit::emit_statement-returns-in-StringStatement
+emit::emit_statement-returns-in-StringStatement t c =
+    statement_so c.emit_stringing.result (scope_in c.args.emitter.now.declarations.now) c.args.one.now
+    (family.StringStatement c.in-StringStatement.stringing) c.args.code.now c.emit_stringing.new.code
+    c.in-StringStatement.is
+    c.emit_stringing.ensures
+
+pub emit::emit_statement-returns-in-FileStatement : goal.emit::emit_statement-returns-in-FileStatement
+emit::emit_statement-returns-in-FileStatement t c =
+    statement_so c.emit_filing.result (scope_in c.args.emitter.now.declarations.now) c.args.one.now
+    (family.FileStatement c.in-FileStatement.filing) c.args.code.now c.emit_filing.new.code c.in-FileStatement.is
+    c.emit_filing.ensures
+
+pub emit::emit_statement-returns-in-ControlStatement : goal.emit::emit_statement-returns-in-ControlStatement
+emit::emit_statement-returns-in-ControlStatement t c =
+    statement_so c.emit_ending.result (scope_in c.args.emitter.now.declarations.now) c.args.one.now
+    (family.ControlStatement c.in-ControlStatement.ending) c.args.code.now c.emit_ending.new.code
+    c.in-ControlStatement.is
+    c.emit_ending.ensures
+
+pub emit::emit_phrases-returns-then-not-has_phrase : goal.emit::emit_phrases-returns-then-not-has_phrase
+emit::emit_phrases-returns-then-not-has_phrase t c =
+    let scope = scope_in c.args.emitter.now.declarations.now in
+    let one = c.args.one.now in
+    let old = c.args.code.now in
+    sym (joined_nothing old) ∙ ap (append old)
+    (phrases_absent scope (statement_fragment scope) one.arose one.did_not old
+    (sym c.has_phrase.ensures ∙ c.if-not-has_phrase.true))
+
+pub emit::emit_phrases-emit_phrase-requires : goal.emit::emit_phrases-emit_phrase-requires
+emit::emit_phrases-emit_phrase-requires t c =
+    (omega (arith, c.decreases), (c.requires.entries, c.requires.arose))
+
+pub emit::emit_phrases-emit_phrase-requires-2 : goal.emit::emit_phrases-emit_phrase-requires-2
+emit::emit_phrases-emit_phrase-requires-2 t c =
+    (omega (arith, c.decreases), (c.requires.entries, c.requires.did_not))
+
+pub emit::emit_phrases-emit_meeting-requires : goal.emit::emit_phrases-emit_meeting-requires
+emit::emit_phrases-emit_meeting-requires t c =
+    let scope = scope_in c.args.emitter.now.declarations.now in
+    let phrase = phrase_fragment scope (statement_fragment scope) in
+    let one = c.args.one.now in
+    let way = ends_within (phrase one.arose) (phrase one.did_not) c.args.code.now c.emit_branch.new.code
+    c.emit_phrase.new.code c.emit_jump.new.code c.emit_phrase-2.new.code c.in_ok-branch.branch c.in_ok-other.other
+    c.in_ok-branch.ensures.code c.in_ok-branch.ensures.address c.in_ok-emit_phrase.ensures c.in_ok-other.ensures.code
+    c.in_ok-other.ensures.other c.in_ok-emit_phrase-2.ensures in
+    record { branch = way.branch; jump = way.jump; other = way.other }
+
 pub emit::emit_phrases-returns : goal.emit::emit_phrases-returns
 emit::emit_phrases-returns t c =
     let scope = scope_in c.args.emitter.now.declarations.now in
     let inside = statement_fragment scope in
     let old = c.args.code.now in
     let one = c.args.one.now in
-    let so : c.has_phrase.result ≡ true = first_of (search rules, grind (arith, common_steps)) in
     on_ok c.emit_meeting.result
     (ways_met c.emit_meeting.result (phrase_fragment scope inside one.arose) (phrase_fragment scope inside one.did_not)
     old c.emit_branch.new.code c.emit_phrase.new.code c.emit_jump.new.code c.emit_phrase-2.new.code
@@ -135,7 +228,7 @@ emit::emit_phrases-returns t c =
     c.in_ok-branch.ensures.address c.in_ok-emit_phrase.ensures c.in_ok-other.ensures.code c.in_ok-other.ensures.other
     c.in_ok-emit_phrase-2.ensures c.emit_meeting.ensures)
     (λ e. e ∙ ap (append old)
-    (phrases_stand scope inside one.arose one.did_not old (sym c.has_phrase.ensures ∙ so)))
+    (phrases_stand scope inside one.arose one.did_not old (sym c.has_phrase.ensures ∙ c.if-not-has_phrase.false)))
 
 pub emit::emit_phrase-emit_statements-requires : goal.emit::emit_phrase-emit_statements-requires
 emit::emit_phrase-emit_statements-requires t c =
@@ -147,6 +240,70 @@ emit::emit_phrase-emit_statements-requires t c =
       (c.requires.entries, sym (ap (phrase_rules (statement_rules scope all_permitted)) e) ∙ c.requires.rules),
     )
 
+pub emit::emit_phrase-returns-in-None : goal.emit::emit_phrase-returns-in-None
+emit::emit_phrase-returns-in-None t c =
+    let scope = scope_in c.args.emitter.now.declarations.now in
+    case_without (phrase_fragment scope (statement_fragment scope)) c.args.one.now None c.args.code.now c.in-None.is
+    refl
+
+pub emit::emit_phrase-returns-in-Some : goal.emit::emit_phrase-returns-in-Some
+emit::emit_phrase-returns-in-Some t c =
+    let scope = scope_in c.args.emitter.now.declarations.now in
+    case_so c.emit_statements.result (phrase_fragment scope (statement_fragment scope)) c.args.one.now
+    (Some c.as_slice.result.now) c.args.code.now c.emit_statements.new.code
+    (c.in-Some.is ∙ ap (λ (l : List Statement). Some l) (sym c.as_slice.ensures)) c.emit_statements.ensures
+
+pub emit::emit_turn-emit_statements-requires : goal.emit::emit_turn-emit_statements-requires
+emit::emit_turn-emit_statements-requires t c =
+    let scope = scope_in c.args.emitter.now.declarations.now in
+    let e : c.args.one.now ≡ Statements c.as_slice.result.now =
+    c.in-Statements.is ∙ ap (λ (l : List Statement). Statements l) (sym c.as_slice.ensures) in
+    let d = rw e at c.decreases in (
+      omega (arith, d),
+      (
+        c.requires.entries,
+        sym (ap (performed_rules scope.procedures all_permitted (statement_rules scope all_permitted)) e)
+            ∙ c.requires.rules,
+      ),
+    )
+
+pub emit::emit_turn-returns-in-Procedures : goal.emit::emit_turn-returns-in-Procedures
+emit::emit_turn-returns-in-Procedures t c =
+    let scope = scope_in c.args.emitter.now.declarations.now in
+    case_so c.emit_range.result (turn_fragment scope (statement_fragment scope) c.args.line) c.args.one.now
+    (Procedures c.in-Procedures.first c.in-Procedures.last) c.args.code.now c.emit_range.new.code c.in-Procedures.is
+    c.emit_range.ensures
+
+pub emit::emit_turn-returns-in_ok-emit_tick-in-Statements : goal.emit::emit_turn-returns-in_ok-emit_tick-in-Statements
+emit::emit_turn-returns-in_ok-emit_tick-in-Statements t c =
+    let scope = scope_in c.args.emitter.now.declarations.now in
+    let inside = statement_fragment scope in
+    let old = c.args.code.now in
+    let new = c.emit_statements.new.code in
+    case_so c.emit_statements.result (turn_fragment scope inside c.args.line) c.args.one.now
+    (Statements c.as_slice.result.now) old new
+    (c.in-Statements.is ∙ ap (λ (l : List Statement). Statements l) (sym c.as_slice.ensures))
+    (ends_so c.emit_statements.result (tick_fragment c.args.line) (in_order inside c.as_slice.result.now) old
+    c.emit_tick.new.code new c.in_ok-emit_tick-in-Statements.ensures c.emit_statements.ensures)
+
+pub emit::emit_calculating-emit_phrases-requires : goal.emit::emit_calculating-emit_phrases-requires
+emit::emit_calculating-emit_phrases-requires t c =
+    (omega (arith, c.decreases), (c.requires.entries, (c.requires.arose, c.requires.did_not)))
+
+pub emit::emit_calculating-returns : goal.emit::emit_calculating-returns
+emit::emit_calculating-returns t c =
+    let scope = scope_in c.args.emitter.now.declarations.now in
+    let one = c.args.one.now in
+    let ticked = c.emit_tick.new.code in
+    three_so c.emit_phrases.result (tick_fragment c.args.line)
+    (arithmetic_fragment scope.items (is_there one.phrases.arose) one.operation)
+    (phrases_fragment scope (statement_fragment scope) one.phrases) c.args.code.now ticked c.emit_arithmetic.new.code
+    c.emit_phrases.new.code c.in_ok-emit_tick.ensures
+    (c.in_ok-emit_arithmetic.ensures ∙ ap (λ keep.
+    append ticked (arithmetic_fragment scope.items keep one.operation ticked))
+    (c.is_some.ensures ∙ same_there one.phrases.arose))
+    c.emit_phrases.ensures
+
 pub emit::emit_statement-emit_performing-requires : goal.emit::emit_statement-emit_performing-requires
 emit::emit_statement-emit_performing-requires t c =
     let scope = scope_in c.args.emitter.now.declarations.now in
@@ -155,6 +312,22 @@ emit::emit_statement-emit_performing-requires t c =
     sym (ap (verb_rules scope all_permitted (statement_rules scope all_permitted)) c.in-PerformStatement.is)
     ∙ sym (layers.statement_is scope all_permitted c.args.one.now) ∙ c.requires.rules in
     (search (rules, the_lemmas), (c.requires.entries, r))
+
+pub emit::emit_performing-emit_turn-requires : goal.emit::emit_performing-emit_turn-requires
+emit::emit_performing-emit_turn-requires t c =
+    let scope = scope_in c.args.emitter.now.declarations.now in
+    let one = c.args.one.now in
+    let often = turns_rules scope.items one.turns in
+    let behind = performed_rules scope.procedures all_permitted (statement_rules scope all_permitted) one.performed in
+    (omega (arith, c.decreases), (c.requires.entries, back_kept often behind c.requires.rules))
+
+pub emit::emit_performing-emit_times-requires : goal.emit::emit_performing-emit_times-requires
+emit::emit_performing-emit_times-requires t c =
+    let scope = scope_in c.args.emitter.now.declarations.now in
+    let one = c.args.one.now in
+    let often = turns_rules scope.items one.turns in
+    let behind = performed_rules scope.procedures all_permitted (statement_rules scope all_permitted) one.performed in
+    (omega (arith, c.decreases), (c.requires.entries, back_kept often behind c.requires.rules))
 
 pub emit::emit_performing-emit_until-requires : goal.emit::emit_performing-emit_until-requires
 emit::emit_performing-emit_until-requires t c =
@@ -180,6 +353,29 @@ emit::emit_performing-emit_counted-requires t c =
       (c.requires.entries, (item, back_kept often behind c.requires.rules)),
     )
 
+pub emit::emit_performing-returns-in-Once : goal.emit::emit_performing-returns-in-Once
+emit::emit_performing-returns-in-Once t c =
+    let scope = scope_in c.args.emitter.now.declarations.now in
+    let one = c.args.one.now in
+    let turn = turn_fragment scope (statement_fragment scope) c.args.line one.performed in
+    case_so c.emit_turn.result (λ (often : Repetition). turns_fragment scope.items c.args.line often turn) one.turns
+    repeated.Once c.args.code.now c.emit_turn.new.code c.in-Once.is c.emit_turn.ensures
+
+pub emit::emit_performing-returns-in_ok-emit_tick-in-Times : goal.emit::emit_performing-returns-in_ok-emit_tick-in-Times
+emit::emit_performing-returns-in_ok-emit_tick-in-Times t c =
+    let scope = scope_in c.args.emitter.now.declarations.now in
+    let one = c.args.one.now in
+    let line = c.args.line in
+    let old = c.args.code.now in
+    let ticked = c.emit_tick.new.code in
+    let new = c.emit_times.new.code in
+    let turn = turn_fragment scope (statement_fragment scope) line one.performed in
+    let times = turns_of c.in-Times.count in
+    case_so c.emit_times.result (λ (often : Repetition). turns_fragment scope.items line often turn) one.turns
+    (repeated.Times c.in-Times.count) old new c.in-Times.is
+    (case_after c.emit_times.result (λ (n : ℕ). times_fragment n turn) times c.count_of.result (tick_fragment line) old
+    ticked new (sym c.count_of.ensures) c.in_ok-emit_tick-in-Times.ensures c.emit_times.ensures)
+
 pub emit::emit_performing-returns-in_ok-emit_tick-in-CountedBy :
     goal.emit::emit_performing-returns-in_ok-emit_tick-in-CountedBy
 emit::emit_performing-returns-in_ok-emit_tick-in-CountedBy t c =
@@ -196,12 +392,57 @@ emit::emit_performing-returns-in_ok-emit_tick-in-CountedBy t c =
     c.in_ok-emit_tick-in-CountedBy.ensures c.emit_counted.ensures)
     (sym (ap (λ (often : Repetition). append old (turns_fragment scope.items line often turn old)) c.in-CountedBy.is))
 
+pub emit::emit_performing-returns-in_ok-emit_tick-in-Until : goal.emit::emit_performing-returns-in_ok-emit_tick-in-Until
+emit::emit_performing-returns-in_ok-emit_tick-in-Until t c =
+    let scope = scope_in c.args.emitter.now.declarations.now in
+    let one = c.args.one.now in
+    let line = c.args.line in
+    let old = c.args.code.now in
+    let new = c.emit_until.new.code in
+    let turn = turn_fragment scope (statement_fragment scope) line one.performed in
+    case_so c.emit_until.result (λ (often : Repetition). turns_fragment scope.items line often turn) one.turns
+    (repeated.Until c.in-Until.until) old new c.in-Until.is
+    (ends_so c.emit_until.result (tick_fragment line) (until_fragment scope.items c.in-Until.until turn) old
+    c.emit_tick-in-Until.new.code new c.in_ok-emit_tick-in-Until.ensures c.emit_until.ensures)
+
+pub times::emit_times-returns-then-count-eq0 : goal.times::emit_times-returns-then-count-eq0
+times::emit_times-returns-then-count-eq0 t c =
+    let scope = scope_in c.args.emitter.now.declarations.now in
+    let turn = turn_fragment scope (statement_fragment scope) c.args.line c.args.one.now in
+    case_without (λ (n : ℕ). times_fragment n turn) c.args.count 0 c.args.code.now c.if-count-eq0.true refl
+
+pub times::emit_times-emit_counted_turn-requires : goal.times::emit_times-emit_counted_turn-requires
+times::emit_times-emit_counted_turn-requires t c =
+    (omega (arith, c.decreases), (c.requires.entries, c.requires.rules))
+
+pub times::emit_times-returns : goal.times::emit_times-returns
+times::emit_times-returns t c =
+    let scope = scope_in c.args.emitter.now.declarations.now in
+    times_so c.emit_counted_turn.result (turn_fragment scope (statement_fragment scope) c.args.line c.args.one.now)
+    c.args.count c.in_ok-begin.begin c.args.code.now c.emit_loop_begin.new.code c.emit_counted_turn.new.code
+    (omega arith) c.in_ok-begin.ensures.code c.in_ok-begin.ensures.begin c.emit_counted_turn.ensures
+
 pub times::emit_counted-emit_taking-requires : goal.times::emit_counted-emit_taking-requires
 times::emit_counted-emit_taking-requires t c =
     record {
       rules =
           item_kept (scope_in c.args.emitter.now.declarations.now).items integer_item c.args.item.now c.requires.item;
     }
+
+pub times::emit_counted-emit_counted_turn-requires : goal.times::emit_counted-emit_counted_turn-requires
+times::emit_counted-emit_counted_turn-requires t c =
+    (omega (arith, c.decreases), (c.requires.entries, c.requires.rules))
+
+pub times::emit_counted-emit_meeting-requires : goal.times::emit_counted-emit_meeting-requires
+times::emit_counted-emit_meeting-requires t c =
+    let scope = scope_in c.args.emitter.now.declarations.now in
+    let turn = turn_fragment scope (statement_fragment scope) c.args.line c.args.one.now in
+    let middle = c.emit_jump.new.code in
+    let way = ends_within (counted_turn c.in_ok-begin.begin turn) nothing_fragment c.emit_count_begin.new.code
+    c.emit_branch.new.code c.emit_counted_turn.new.code middle middle c.in_ok-branch.branch c.in_ok-other.other
+    c.in_ok-branch.ensures.code c.in_ok-branch.ensures.address c.in_ok-emit_counted_turn.ensures
+    c.in_ok-other.ensures.code c.in_ok-other.ensures.other (sym (joined_nothing middle)) in
+    record { branch = way.branch; jump = way.jump; other = way.other }
 
 pub times::emit_counted-returns : goal.times::emit_counted-returns
 times::emit_counted-returns t c =
@@ -218,6 +459,10 @@ times::emit_counted-returns t c =
     c.in_ok-other.ensures.code c.in_ok-other.ensures.other c.emit_meeting.ensures)
     (then_piece (take_fragment scope.items i.Push c.args.item.now) (counted_fragment turn) c.args.code.now found
     c.emit_meeting.new.code c.in_ok-emit_taking.ensures)
+
+pub times::emit_counted_turn-emit_turn-requires : goal.times::emit_counted_turn-emit_turn-requires
+times::emit_counted_turn-emit_turn-requires t c =
+    (omega (arith, c.decreases), (c.requires.entries, c.requires.rules))
 
 pub times::emit_counted_turn-returns : goal.times::emit_counted_turn-returns
 times::emit_counted_turn-returns t c =
@@ -248,6 +493,18 @@ emit::emit_statements-emit_statement-requires t c =
     ap (statement_rules scope all_permitted) c.one-item.is ∙ one_kept (statement_rules scope all_permitted)
     c.args.all.now c.loop-one.one-index c.one-item.result c.loop-one-test.true c.requires.rules in
     (search (rules, the_lemmas), (c.requires.entries, r))
+
+pub emit::emit_statements-loop-one-preserved : goal.emit::emit_statements-loop-one-preserved
+emit::emit_statements-loop-one-preserved t c =
+    let scope = scope_in c.args.emitter.now.declarations.now in
+    next_piece (statement_fragment scope) c.args.all.now c.loop-one.one-index c.one-item.result c.loop-one.code
+    c.emit_statement.new.code _ c.loop-one-test.true c.one-item.is c.in_ok-emit_statement.ensures c.loop-one.invariant
+
+pub emit::emit_statements-returns : goal.emit::emit_statements-returns
+emit::emit_statements-returns t c =
+    let scope = scope_in c.args.emitter.now.declarations.now in
+    is_done (statement_fragment scope) c.args.all.now c.loop-one.one-index c.loop-one.code _ c.loop-one-test.false
+    c.loop-one.invariant
 
 pub emit::emit_branching-emit_condition-requires-clause-rules :
     goal.emit::emit_branching-emit_condition-requires-clause-rules
@@ -294,6 +551,17 @@ emit::emit_branching-emit_evaluate-requires t c =
     let d = rw c.in-Evaluate.is at c.decreases in
     (omega (arith, d), (c.requires.entries, r))
 
+pub emit::emit_branching-emit_meeting-requires : goal.emit::emit_branching-emit_meeting-requires
+emit::emit_branching-emit_meeting-requires t c =
+    let scope = scope_in c.args.emitter.now.declarations.now in
+    let inside = statement_fragment scope in
+    let way = ends_within (in_order inside c.as_slice.result.now) (phrase_fragment scope inside c.in-If.otherwise)
+    c.emit_condition.new.code c.emit_branch.new.code c.emit_statements.new.code c.emit_jump.new.code
+    c.emit_phrase.new.code c.in_ok-branch-in-If.branch c.in_ok-other-in-If.other c.in_ok-branch-in-If.ensures.code
+    c.in_ok-branch-in-If.ensures.address c.in_ok-emit_statements-in-If.ensures c.in_ok-other-in-If.ensures.code
+    c.in_ok-other-in-If.ensures.other c.in_ok-emit_phrase-in-If.ensures in
+    record { branch = way.branch; jump = way.jump; other = way.other }
+
 pub emit::emit_branching-returns-in_ok-emit_phrase-in-If : goal.emit::emit_branching-returns-in_ok-emit_phrase-in-If
 emit::emit_branching-returns-in_ok-emit_phrase-in-If t c =
     let scope = scope_in c.args.emitter.now.declarations.now in
@@ -309,6 +577,18 @@ emit::emit_branching-returns-in_ok-emit_phrase-in-If t c =
     c.in_ok-emit_statements-in-If.ensures c.in_ok-other-in-If.ensures.code c.in_ok-other-in-If.ensures.other
     c.in_ok-emit_phrase-in-If.ensures c.emit_meeting.ensures) (λ m. m ∙ sym (ap (λ (b : ConditionalStatement Statement).
     append c.args.code.now (conditional_fragment scope inside c.args.line b c.args.code.now)) e))
+
+pub emit::emit_branching-returns-in-Evaluate : goal.emit::emit_branching-returns-in-Evaluate
+emit::emit_branching-returns-in-Evaluate t c =
+    let scope = scope_in c.args.emitter.now.declarations.now in
+    let inside = statement_fragment scope in
+    let old = c.args.code.now in
+    let new = c.emit_evaluate.new.code in
+    let one = c.in-Evaluate.evaluate in
+    case_so c.emit_evaluate.result (conditional_fragment scope inside c.args.line) c.args.one.now (Evaluate one) old
+    new c.in-Evaluate.is
+    (ends_so c.emit_evaluate.result (tick_fragment c.args.line) (evaluate_fragment scope inside one) old
+    c.emit_tick.new.code new c.in_ok-emit_tick.ensures c.emit_evaluate.ensures)
 
 pub evaluate_statement::emit_selected-emit_whens-requires-clause-rules :
     goal.evaluate_statement::emit_selected-emit_whens-requires-clause-rules
@@ -452,6 +732,14 @@ until::emit_until-emit_vary_begin-requires t c =
           c.requires.turns;
     }
 
+pub until::emit_until-emit_until_before-requires : goal.until::emit_until-emit_until_before-requires
+until::emit_until-emit_until_before-requires t c =
+    (omega (arith, c.decreases), (c.requires.entries, (c.requires.turns, c.requires.rules)))
+
+pub until::emit_until-emit_until_after-requires : goal.until::emit_until-emit_until_after-requires
+until::emit_until-emit_until_after-requires t c =
+    (omega (arith, c.decreases), (c.requires.entries, (c.requires.turns, c.requires.rules)))
+
 pub until::emit_until-returns-in-Before : goal.until::emit_until-returns-in-Before
 until::emit_until-returns-in-Before t c =
     let scope = scope_in c.args.emitter.now.declarations.now in
@@ -489,6 +777,23 @@ until::emit_until_before-emit_condition-requires-clause-rules t c =
     back_kept (varying_rules scope.items c.args.one.now.varying) (condition_rules scope.items c.args.one.now.condition)
     c.requires.turns
 
+pub until::emit_until_before-emit_turn_before-requires : goal.until::emit_until_before-emit_turn_before-requires
+until::emit_until_before-emit_turn_before-requires t c =
+    (omega (arith, c.decreases), (c.requires.entries, (c.requires.turns, c.requires.rules)))
+
+pub until::emit_until_before-emit_meeting-requires : goal.until::emit_until_before-emit_meeting-requires
+until::emit_until_before-emit_meeting-requires t c =
+    let scope = scope_in c.args.emitter.now.declarations.now in
+    let test = condition_fragment scope.items c.args.one.now.condition in
+    let turn = turn_fragment scope (statement_fragment scope) c.args.line c.args.performed.now in
+    let begun = c.emit_branch.new.code in
+    let way = ends_within nothing_fragment
+    (repetition_fragment turn (sequence (vary_on_fragment scope.items c.args.one.now.varying) test))
+    c.emit_condition.new.code begun begun c.emit_jump.new.code c.emit_turn_before.new.code c.in_ok-branch.branch
+    c.in_ok-other.other c.in_ok-branch.ensures.code c.in_ok-branch.ensures.address (sym (joined_nothing begun))
+    c.in_ok-other.ensures.code c.in_ok-other.ensures.other c.in_ok-emit_turn_before.ensures in
+    record { branch = way.branch; jump = way.jump; other = way.other }
+
 pub until::emit_until_before-returns : goal.until::emit_until_before-returns
 until::emit_until_before-returns t c =
     let scope = scope_in c.args.emitter.now.declarations.now in
@@ -500,6 +805,10 @@ until::emit_until_before-returns t c =
     c.emit_meeting.new.code c.in_ok-branch.branch c.in_ok-other.other c.in_ok-emit_condition.ensures
     c.in_ok-branch.ensures.code c.in_ok-branch.ensures.address c.in_ok-other.ensures.code
     c.in_ok-other.ensures.other c.in_ok-emit_turn_before.ensures c.emit_meeting.ensures
+
+pub until::emit_turn_before-emit_turn-requires : goal.until::emit_turn_before-emit_turn-requires
+until::emit_turn_before-emit_turn-requires t c =
+    (omega (arith, c.decreases), (c.requires.entries, c.requires.rules))
 
 pub until::emit_turn_before-emit_vary_on-requires : goal.until::emit_turn_before-emit_vary_on-requires
 until::emit_turn_before-emit_vary_on-requires t c =
@@ -527,6 +836,10 @@ until::emit_turn_before-returns t c =
     c.args.code.now c.emit_turn.new.code c.emit_vary_on.new.code c.emit_condition.new.code c.emit_way_back.new.code
     c.len-begin.ensures c.in_ok-emit_turn.ensures c.in_ok-emit_vary_on.ensures c.in_ok-emit_condition.ensures
     c.emit_way_back.ensures
+
+pub until::emit_until_after-emit_turn-requires : goal.until::emit_until_after-emit_turn-requires
+until::emit_until_after-emit_turn-requires t c =
+    (omega (arith, c.decreases), (c.requires.entries, c.requires.rules))
 
 pub until::emit_until_after-emit_condition-requires-clause-rules :
     goal.until::emit_until_after-emit_condition-requires-clause-rules
@@ -639,6 +952,24 @@ file_statement::emit_filing-emit_starting-requires t c =
     c.in-Start.is) ∙ c.requires.phrases in
     (omega (arith, d), (c.requires.entries, (own, inner)))
 
+pub file_statement::emit_filing-returns-in-Open : goal.file_statement::emit_filing-returns-in-Open
+file_statement::emit_filing-returns-in-Open t c =
+    let scope = scope_in c.args.emitter.now.declarations.now in
+    case_after c.emit_opens.result (file_statement_fragment scope (statement_fragment scope)) c.args.one.now
+    (filing.Open c.as_slice.result.now)
+    (tick_fragment c.args.line) c.args.code.now c.emit_tick.new.code c.emit_opens.new.code
+    (c.in-Open.is ∙ ap (λ (l : List Opening). filing.Open l) (sym c.as_slice.ensures)) c.in_ok-emit_tick.ensures
+    c.emit_opens.ensures
+
+pub file_statement::emit_filing-returns-in-Close : goal.file_statement::emit_filing-returns-in-Close
+file_statement::emit_filing-returns-in-Close t c =
+    let scope = scope_in c.args.emitter.now.declarations.now in
+    case_after c.emit_closes.result (file_statement_fragment scope (statement_fragment scope)) c.args.one.now
+    (filing.Close c.as_slice-in-Close.result.now)
+    (tick_fragment c.args.line) c.args.code.now c.emit_tick.new.code c.emit_closes.new.code
+    (c.in-Close.is ∙ ap (λ (l : List Name). filing.Close l) (sym c.as_slice-in-Close.ensures)) c.in_ok-emit_tick.ensures
+    c.emit_closes.ensures
+
 pub file_statement::emit_filing-returns-in-Read : goal.file_statement::emit_filing-returns-in-Read
 file_statement::emit_filing-returns-in-Read t c =
     let scope = scope_in c.args.emitter.now.declarations.now in
@@ -653,6 +984,42 @@ file_statement::emit_filing-returns-in-Read t c =
     c.emit_read.ensures)
     (λ e. e ∙ sym (ap (λ (one : FileStatement Statement).
     append old (sequence tick (file_statement_fragment scope inside one) old)) c.in-Read.is))
+
+pub file_statement::emit_filing-returns-in-Write : goal.file_statement::emit_filing-returns-in-Write
+file_statement::emit_filing-returns-in-Write t c =
+    let scope = scope_in c.args.emitter.now.declarations.now in
+    case_after c.emit_record.result (file_statement_fragment scope (statement_fragment scope)) c.args.one.now
+    (filing.Write c.in-Write.record c.in-Write.from c.in-Write.phrases)
+    (tick_fragment c.args.line) c.args.code.now c.emit_tick.new.code c.emit_record.new.code
+    c.in-Write.is c.in_ok-emit_tick.ensures
+    c.emit_record.ensures
+
+pub file_statement::emit_filing-returns-in-Rewrite : goal.file_statement::emit_filing-returns-in-Rewrite
+file_statement::emit_filing-returns-in-Rewrite t c =
+    let scope = scope_in c.args.emitter.now.declarations.now in
+    case_after c.emit_record-in-Rewrite.result (file_statement_fragment scope (statement_fragment scope)) c.args.one.now
+    (filing.Rewrite c.in-Rewrite.record c.in-Rewrite.from c.in-Rewrite.phrases)
+    (tick_fragment c.args.line) c.args.code.now c.emit_tick.new.code c.emit_record-in-Rewrite.new.code
+    c.in-Rewrite.is c.in_ok-emit_tick.ensures
+    c.emit_record-in-Rewrite.ensures
+
+pub file_statement::emit_filing-returns-in-Delete : goal.file_statement::emit_filing-returns-in-Delete
+file_statement::emit_filing-returns-in-Delete t c =
+    let scope = scope_in c.args.emitter.now.declarations.now in
+    case_after c.emit_delete.result (file_statement_fragment scope (statement_fragment scope)) c.args.one.now
+    (filing.Delete c.in-Delete.file c.in-Delete.phrases)
+    (tick_fragment c.args.line) c.args.code.now c.emit_tick.new.code c.emit_delete.new.code
+    c.in-Delete.is c.in_ok-emit_tick.ensures
+    c.emit_delete.ensures
+
+pub file_statement::emit_filing-returns-in-Start : goal.file_statement::emit_filing-returns-in-Start
+file_statement::emit_filing-returns-in-Start t c =
+    let scope = scope_in c.args.emitter.now.declarations.now in
+    case_after c.emit_starting.result (file_statement_fragment scope (statement_fragment scope)) c.args.one.now
+    (filing.Start c.in-Start.file c.in-Start.key c.in-Start.phrases)
+    (tick_fragment c.args.line) c.args.code.now c.emit_tick.new.code c.emit_starting.new.code
+    c.in-Start.is c.in_ok-emit_tick.ensures
+    c.emit_starting.ensures
 
 pub file_statement::emit_read-read_verb-requires : goal.file_statement::emit_read-read_verb-requires
 file_statement::emit_read-read_verb-requires t c =
@@ -718,6 +1085,10 @@ file_statement::emit_record-file_of_record-requires t c =
           record_names_one scope.items scope.files c.args.one.now c.args.from.now c.args.phrases.now c.requires.rules;
     }
 
+pub file_statement::emit_record-emit_on_file-requires : goal.file_statement::emit_record-emit_on_file-requires
+file_statement::emit_record-emit_on_file-requires t c =
+    (omega (arith, c.decreases), (c.requires.entries, (refl, c.requires.phrases)))
+
 pub file_statement::emit_record-returns-in_default : goal.file_statement::emit_record-returns-in_default
 file_statement::emit_record-returns-in_default t c =
     let scope = scope_in c.args.emitter.now.declarations.now in
@@ -743,6 +1114,10 @@ file_statement::emit_record-returns t c =
     c.args.code.now now c.emit_on_file.new.code c.in_ok-emit_from.ensures
     (on_ok c.emit_on_file.result c.emit_on_file.ensures
     (λ e. e ∙ one_found found piece known (piece known) now c.in-Some.ensures refl))
+
+pub file_statement::emit_delete-emit_on_file-requires : goal.file_statement::emit_delete-emit_on_file-requires
+file_statement::emit_delete-emit_on_file-requires t c =
+    (omega (arith, c.decreases), (c.requires.entries, (refl, c.requires.phrases)))
 
 pub file_statement::emit_delete-returns-in_default : goal.file_statement::emit_delete-returns-in_default
 file_statement::emit_delete-returns-in_default t c =
@@ -774,6 +1149,10 @@ file_statement::emit_starting-start_verb-requires t c =
           (first_kept name.place asked (files_named scope.files name) known c.requires.rules c.in-Some.ensures);
     }
 
+pub file_statement::emit_starting-emit_on_file-requires : goal.file_statement::emit_starting-emit_on_file-requires
+file_statement::emit_starting-emit_on_file-requires t c =
+    (omega (arith, c.decreases), (c.requires.entries, (refl, c.requires.phrases)))
+
 pub file_statement::emit_starting-returns-in_default : goal.file_statement::emit_starting-returns-in_default
 file_statement::emit_starting-returns-in_default t c =
     let scope = scope_in c.args.emitter.now.declarations.now in
@@ -794,6 +1173,31 @@ file_statement::emit_starting-returns t c =
     (λ e. e ∙ one_found (first (files_named scope.files c.args.name.now)) piece known
     (sequence (file_fragment c.in_ok-verb.verb known) behind) c.args.code.now c.in-Some.ensures
     (ap (λ (verb : Verb). sequence (file_fragment verb known) behind c.args.code.now) c.in_ok-verb.ensures))
+
+pub file_statement::emit_on_file-emit_success-requires : goal.file_statement::emit_on_file-emit_success-requires
+file_statement::emit_on_file-emit_success-requires t c =
+    (omega (arith, c.decreases), (c.requires.entries, c.requires.phrases))
+
+pub file_statement::emit_on_file-emit_failure-requires : goal.file_statement::emit_on_file-emit_failure-requires
+file_statement::emit_on_file-emit_failure-requires t c =
+    (omega (arith, c.decreases), (c.requires.entries, c.requires.phrases))
+
+pub file_statement::emit_on_file-emit_meeting-requires : goal.file_statement::emit_on_file-emit_meeting-requires
+file_statement::emit_on_file-emit_meeting-requires t c =
+    let scope = scope_in c.args.emitter.now.declarations.now in
+    let inside = statement_fragment scope in
+    let known = file_in scope.items c.args.file.now in
+    let into = into_fragment scope.items c.args.into.now known in
+    let success = success_fragment scope inside c.args.phrases.now in
+    let begun = c.emit_branch.new.code in
+    let done = c.emit_success.new.code in
+    let way = ends_within (sequence into success)
+    (failure_fragment scope inside known.places.status c.args.phrases.now) c.emit_test.new.code begun done
+    c.emit_jump.new.code c.emit_failure.new.code c.in_ok-branch.branch c.in_ok-other.other c.in_ok-branch.ensures.code
+    c.in_ok-branch.ensures.address (then_piece into success begun c.emit_into.new.code done c.in_ok-emit_into.ensures
+    c.in_ok-emit_success.ensures) c.in_ok-other.ensures.code c.in_ok-other.ensures.other
+    c.in_ok-emit_failure.ensures in
+    record { branch = way.branch; jump = way.jump; other = way.other }
 
 pub file_statement::emit_on_file-returns : goal.file_statement::emit_on_file-returns
 file_statement::emit_on_file-returns t c =
@@ -834,6 +1238,25 @@ file_statement::emit_success-emit_phrase-requires-in-InvalidKey t c =
       (c.requires.entries, back_kept (phrase_rules inside pair.arose) (phrase_rules inside pair.did_not) r),
     )
 
+pub file_statement::emit_success-returns-in-Absent : goal.file_statement::emit_success-returns-in-Absent
+file_statement::emit_success-returns-in-Absent t c =
+    let scope = scope_in c.args.emitter.now.declarations.now in
+    case_without (success_fragment scope (statement_fragment scope)) c.args.phrases.now file_phrases.Absent
+    c.args.code.now c.in-Absent.is refl
+
+pub file_statement::emit_success-returns-in-AtEnd : goal.file_statement::emit_success-returns-in-AtEnd
+file_statement::emit_success-returns-in-AtEnd t c =
+    let scope = scope_in c.args.emitter.now.declarations.now in
+    case_so c.emit_phrase.result (success_fragment scope (statement_fragment scope)) c.args.phrases.now
+    (file_phrases.AtEnd c.in-AtEnd.pair) c.args.code.now c.emit_phrase.new.code c.in-AtEnd.is c.emit_phrase.ensures
+
+pub file_statement::emit_success-returns-in-InvalidKey : goal.file_statement::emit_success-returns-in-InvalidKey
+file_statement::emit_success-returns-in-InvalidKey t c =
+    let scope = scope_in c.args.emitter.now.declarations.now in
+    case_so c.emit_phrase-in-InvalidKey.result (success_fragment scope (statement_fragment scope)) c.args.phrases.now
+    (file_phrases.InvalidKey c.in-InvalidKey.pair) c.args.code.now c.emit_phrase-in-InvalidKey.new.code
+    c.in-InvalidKey.is c.emit_phrase-in-InvalidKey.ensures
+
 pub file_statement::emit_failure-emit_class_phrase-requires :
     goal.file_statement::emit_failure-emit_class_phrase-requires
 file_statement::emit_failure-emit_class_phrase-requires t c =
@@ -858,6 +1281,49 @@ file_statement::emit_failure-emit_class_phrase-requires-in-InvalidKey t c =
       (c.requires.entries, front_kept (phrase_rules inside pair.arose) (phrase_rules inside pair.did_not) r),
     )
 
+pub file_statement::emit_failure-returns-in-Absent : goal.file_statement::emit_failure-returns-in-Absent
+file_statement::emit_failure-returns-in-Absent t c =
+    let scope = scope_in c.args.emitter.now.declarations.now in
+    let status = (file_in scope.items c.args.file.now).places.status in
+    case_so c.emit_unheard.result (failure_fragment scope (statement_fragment scope) status) c.args.phrases.now
+    file_phrases.Absent c.args.code.now c.emit_unheard.new.code c.in-Absent.is
+    c.emit_unheard.ensures
+
+pub file_statement::emit_failure-returns-in-AtEnd : goal.file_statement::emit_failure-returns-in-AtEnd
+file_statement::emit_failure-returns-in-AtEnd t c =
+    let scope = scope_in c.args.emitter.now.declarations.now in
+    let status = (file_in scope.items c.args.file.now).places.status in
+    case_so c.emit_class_phrase.result (failure_fragment scope (statement_fragment scope) status) c.args.phrases.now
+    (file_phrases.AtEnd c.in-AtEnd.pair) c.args.code.now c.emit_class_phrase.new.code c.in-AtEnd.is
+    c.emit_class_phrase.ensures
+
+pub file_statement::emit_failure-returns-in-InvalidKey : goal.file_statement::emit_failure-returns-in-InvalidKey
+file_statement::emit_failure-returns-in-InvalidKey t c =
+    let scope = scope_in c.args.emitter.now.declarations.now in
+    let status = (file_in scope.items c.args.file.now).places.status in
+    case_so c.emit_class_phrase-in-InvalidKey.result (failure_fragment scope (statement_fragment scope) status)
+    c.args.phrases.now
+    (file_phrases.InvalidKey c.in-InvalidKey.pair) c.args.code.now c.emit_class_phrase-in-InvalidKey.new.code
+    c.in-InvalidKey.is
+    c.emit_class_phrase-in-InvalidKey.ensures
+
+pub file_statement::emit_class_phrase-emit_phrase_taken-requires :
+    goal.file_statement::emit_class_phrase-emit_phrase_taken-requires
+file_statement::emit_class_phrase-emit_phrase_taken-requires t c =
+    (omega (arith, c.decreases), (c.requires.entries, c.requires.rules))
+
+pub file_statement::emit_class_phrase-emit_meeting-requires :
+    goal.file_statement::emit_class_phrase-emit_meeting-requires
+file_statement::emit_class_phrase-emit_meeting-requires t c =
+    let scope = scope_in c.args.emitter.now.declarations.now in
+    let status = (file_in scope.items c.args.file.now).places.status in
+    let way = ends_within (taken_fragment scope (statement_fragment scope) status c.args.arose.now)
+    (unheard_fragment status) c.emit_test.new.code c.emit_branch.new.code c.emit_phrase_taken.new.code
+    c.emit_jump.new.code c.emit_unheard.new.code c.in_ok-branch.branch c.in_ok-other.other
+    c.in_ok-branch.ensures.code c.in_ok-branch.ensures.address c.in_ok-emit_phrase_taken.ensures
+    c.in_ok-other.ensures.code c.in_ok-other.ensures.other c.in_ok-emit_unheard.ensures in
+    record { branch = way.branch; jump = way.jump; other = way.other }
+
 pub file_statement::emit_class_phrase-returns : goal.file_statement::emit_class_phrase-returns
 file_statement::emit_class_phrase-returns t c =
     let scope = scope_in c.args.emitter.now.declarations.now in
@@ -880,6 +1346,25 @@ file_statement::emit_phrase_taken-emit_statements-requires t c =
       omega (arith, d),
       (c.requires.entries, sym (ap (phrase_rules (statement_rules scope all_permitted)) e) ∙ c.requires.rules),
     )
+
+pub file_statement::emit_phrase_taken-returns-in-None : goal.file_statement::emit_phrase_taken-returns-in-None
+file_statement::emit_phrase_taken-returns-in-None t c =
+    let scope = scope_in c.args.emitter.now.declarations.now in
+    let status = (file_in scope.items c.args.file.now).places.status in
+    case_so c.emit_unheard.result (taken_fragment scope (statement_fragment scope) status) c.args.phrase.now None
+    c.args.code.now c.emit_unheard.new.code c.in-None.is c.emit_unheard.ensures
+
+pub file_statement::emit_phrase_taken-returns-in-Some : goal.file_statement::emit_phrase_taken-returns-in-Some
+file_statement::emit_phrase_taken-returns-in-Some t c =
+    let scope = scope_in c.args.emitter.now.declarations.now in
+    let status = (file_in scope.items c.args.file.now).places.status in
+    case_so c.emit_statements.result (taken_fragment scope (statement_fragment scope) status) c.args.phrase.now
+    (Some c.as_slice.result.now) c.args.code.now c.emit_statements.new.code
+    (c.in-Some.is ∙ ap (λ (l : List Statement). Some l) (sym c.as_slice.ensures)) c.emit_statements.ensures
+
+pub string_statement::emit_stringing-emit_phrases-requires : goal.string_statement::emit_stringing-emit_phrases-requires
+string_statement::emit_stringing-emit_phrases-requires t c =
+    (omega (arith, c.decreases), (c.requires.entries, (c.requires.arose, c.requires.did_not)))
 
 pub string_statement::emit_stringing-returns : goal.string_statement::emit_stringing-returns
 string_statement::emit_stringing-returns t c =

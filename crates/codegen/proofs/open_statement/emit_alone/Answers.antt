@@ -4,12 +4,26 @@ use Rattle.source_tree.specs.ProgramFiles.{ProgramFile}
 use Rattle.file_descriptions.specs.Files.{file_in}
 use Rattle.declarations.specs.Named.{scope_in}
 use Rattle.condition_codegen.specs.Fragments.{append}
-use Rattle.statement_codegen.specs.FileCode.{on_file_fragment}
+use Rattle.condition_codegen.specs.Meeting.{nothing_fragment}
+use Rattle.statement_codegen.specs.FileCode.{on_file_fragment, unheard_fragment}
 use Rattle.codegen.specs.Layout.{alone_fragment, statement_fragment}
 use Rattle.condition_codegen.specs.Phrases.{patched_code}
 use Rattle.codegen.proofs.FileParts.{alone_made}
+use Rattle.codegen.proofs.WaysMet.{ends_within}
+use Rattle.condition_codegen.proofs.Fragments.{joined_nothing}
 use Rattle.condition_codegen.proofs.Sequences.{on_ok}
 use Rattle.codegen.proofs.open_statement.emit_alone.Goals as goal
+
+pub emit_meeting-requires : goal.emit_meeting-requires
+emit_meeting-requires c =
+    let scope = scope_in c.args.emitter.now.declarations.now in
+    let unheard = unheard_fragment (file_in scope.items c.in-Some.file.now).places.status in
+    let begun = c.emit_branch.new.code in
+    let way = ends_within nothing_fragment unheard c.emit_test.new.code begun begun c.emit_jump.new.code
+    c.emit_unheard.new.code c.in_ok-branch.branch c.in_ok-other.other c.in_ok-branch.ensures.code
+    c.in_ok-branch.ensures.address (sym (joined_nothing begun)) c.in_ok-other.ensures.code
+    c.in_ok-other.ensures.other c.in_ok-emit_unheard.ensures in
+    record { branch = way.branch; jump = way.jump; other = way.other }
 
 pub returns : goal.returns
 returns c =

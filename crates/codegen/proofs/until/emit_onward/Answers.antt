@@ -9,7 +9,21 @@ use Rattle.condition_codegen.specs.Phrases.{patched_code}
 use Rattle.condition_codegen.proofs.Fragments.{joined_nothing}
 use Rattle.condition_codegen.proofs.Sequences.{then_piece, on_ok}
 use Rattle.condition_codegen.proofs.Meeting.{meeting}
+use Rattle.codegen.proofs.WaysMet.{ends_within}
 use Rattle.codegen.proofs.until.emit_onward.Goals as goal
+
+pub emit_meeting-requires : goal.emit_meeting-requires
+emit_meeting-requires c =
+    let onward = vary_on_fragment (items_in c.args.emitter.now.declarations.now) c.args.one.now in
+    let clear = work_fragment i.ClearTruth in
+    let begun = c.emit_branch.new.code in
+    let way = ends_within nothing_fragment (sequence onward clear) c.args.code.now begun begun c.emit_jump.new.code
+    c.emit_work.new.code c.in_ok-branch.branch c.in_ok-other.other c.in_ok-branch.ensures.code
+    c.in_ok-branch.ensures.address (sym (joined_nothing begun)) c.in_ok-other.ensures.code
+    c.in_ok-other.ensures.other
+    (then_piece onward clear c.emit_jump.new.code c.emit_vary_on.new.code c.emit_work.new.code
+    c.in_ok-emit_vary_on.ensures c.in_ok-emit_work.ensures) in
+    record { branch = way.branch; jump = way.jump; other = way.other }
 
 pub returns : goal.returns
 returns c =
