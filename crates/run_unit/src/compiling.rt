@@ -38,7 +38,9 @@ pub fn compile(alloc: Global, source: &[u8]) -> Result<Vec<u8>, CompileError>
     ensures fault { IfErr result (λ e. IsFaultOf source.now (fault_of e)) }
 {
     let tree = read_tree(alloc, source)?;
-    image_of_tree(alloc, &tree)
+    let image = image_of_tree(alloc, &tree);
+    drop(tree);
+    image
 }
 
 /// The tree that a source text spells, by the stages in order. Its rules come later.
@@ -51,9 +53,12 @@ fn read_tree(alloc: Global, source: &[u8]) -> Result<Program, CompileError>
     reference_format();
     laws();
     let lines = logical(alloc, source)?;
-    let tokens = scan(alloc, &lines)?;
-    let tree = parse(alloc, tokens.as_slice())?;
-    Ok(tree)
+    let scanned = scan(alloc, &lines);
+    drop(lines);
+    let tokens = scanned?;
+    let tree = parse(alloc, tokens.as_slice());
+    drop(tokens);
+    Ok(tree?)
 }
 
 /// The tree keeps the rules.
@@ -85,5 +90,7 @@ fn image_of_tree(alloc: Global, tree: &Program) -> Result<Vec<u8>, CompileError>
 {
     one_answer();
     let checked = check_tree(alloc, tree)?;
-    Ok(make_image(alloc, &checked)?)
+    let image = make_image(alloc, &checked);
+    drop(checked);
+    Ok(image?)
 }

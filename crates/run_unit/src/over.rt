@@ -94,10 +94,16 @@ pub fn run_over<S: Station, T: Store + Drop>(
     run_law();
     let mut connectors = match connect(alloc, code.code(), store) {
         Ok(connectors) => connectors,
-        Err(refusal) => return Ended::Refused(refusal),
+        Err(refusal) => {
+            drop(code);
+            return Ended::Refused(refusal);
+        }
     };
     let Ok(machine) = Machine::new(alloc, code, day) else {
+        drop(connectors);
         return Ended::Refused(Refusal::Memory);
     };
-    Ended::of(machine.run(station, &mut connectors, budget))
+    let ended = Ended::of(machine.run(station, &mut connectors, budget));
+    drop(connectors);
+    ended
 }

@@ -51,12 +51,16 @@ pub(crate) fn run_alone<S: Station>(
 {
     run_law();
     let Ok(mut connectors) = connect(alloc, code.code(), NoVolume::new()) else {
+        drop(code);
         return Ended::Refused(Refusal::Memory);
     };
     let Ok(machine) = Machine::new(alloc, code, day) else {
+        drop(connectors);
         return Ended::Refused(Refusal::Memory);
     };
-    Ended::of(machine.run(station, &mut connectors, budget))
+    let ended = Ended::of(machine.run(station, &mut connectors, budget));
+    drop(connectors);
+    ended
 }
 
 /// Opens a volume of halves and runs code over its files.
@@ -89,7 +93,10 @@ fn run_on_halves<S: Station>(
     one_list_of_files();
     match HalfStore::open(alloc, station) {
         Ok(store) => run_over(alloc, code, station, store, day, budget),
-        Err(fault) => Ended::Refused(Refusal::of_opening(fault)),
+        Err(fault) => {
+            drop(code);
+            Ended::Refused(Refusal::of_opening(fault))
+        }
     }
 }
 
@@ -125,7 +132,10 @@ pub(crate) fn run_on_volume<S: Station>(
         Ok(store) => run_over(alloc, code, station, store, day, budget),
         Err(fault) => match fault {
             StoreFault::Layout => run_on_halves(alloc, code, station, day, budget),
-            other => Ended::Refused(Refusal::of_opening(other)),
+            other => {
+                drop(code);
+                Ended::Refused(Refusal::of_opening(other))
+            }
         },
     }
 }

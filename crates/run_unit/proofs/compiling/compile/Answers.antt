@@ -15,7 +15,7 @@ returns-in_err-tree-clause-only c =
 pub returns-clause-only : goal.returns-clause-only
 returns-clause-only c = λ tree is.
     let same = c.in_ok-tree.ensures.only tree is.read in
-    subst (λ t. IsImageAnswer t c.image_of_tree.result) same (c.image_of_tree.ensures.only
+    subst (λ t. IsImageAnswer t c.image_of_tree-image.result) same (c.image_of_tree-image.ensures.only
     (subst (λ t. broken_rules t ≡ []) (sym same) is.kept) (subst HasOrder (sym same) is.order))
 
 pub returns-in_err-tree-clause-fault : goal.returns-in_err-tree-clause-fault
@@ -25,4 +25,4 @@ returns-in_err-tree-clause-fault c =
 
 pub returns-clause-fault : goal.returns-clause-fault
 returns-clause-fault c =
-    result_fault c.args.source.now _ c.image_of_tree.result c.in_ok-tree.ensures.rules c.image_of_tree.ensures.fault
+    result_fault c.args.source.now _ c.image_of_tree-image.result c.in_ok-tree.ensures.rules c.image_of_tree-image.ensures.fault

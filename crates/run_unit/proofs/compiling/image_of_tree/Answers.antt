@@ -17,18 +17,18 @@ returns-in_err-checked-clause-fault c =
 
 pub returns-clause-image : goal.returns-clause-image
 returns-clause-image c =
-    subst (λ t. MeansAs t c.in_ok-make_image.field-0.items) c.in_ok-checked.ensures.tree c.in_ok-make_image.ensures
+    subst (λ t. MeansAs t c.in_ok-image.field-0.items) c.in_ok-checked.ensures.tree c.in_ok-image.ensures
 
 pub returns-clause-only : goal.returns-clause-only
 returns-clause-only c = λ kept order.
-    subst (λ t. MeansAs t c.in_ok-make_image.field-0.items) c.in_ok-checked.ensures.tree c.in_ok-make_image.ensures
+    subst (λ t. MeansAs t c.in_ok-image.field-0.items) c.in_ok-checked.ensures.tree c.in_ok-image.ensures
 
-pub returns-in_err-make_image-clause-only : goal.returns-in_err-make_image-clause-only
-returns-in_err-make_image-clause-only c =
-    let p = err_from_is_err_and c.from_residual-in_err-make_image.result c.from_residual-in_err-make_image.ensures.1 in
+pub returns-in_err-image-clause-only : goal.returns-in_err-image-clause-only
+returns-in_err-image-clause-only c =
+    let p = err_from_is_err_and c.from_residual-in_err-image.result c.from_residual-in_err-image.ensures.1 in
     rw (p.1, p.2) (λ kept order. tt)
 
-pub returns-in_err-make_image-clause-fault : goal.returns-in_err-make_image-clause-fault
-returns-in_err-make_image-clause-fault c =
-    let p = err_from_is_err_and c.from_residual-in_err-make_image.result c.from_residual-in_err-make_image.ensures.1 in
+pub returns-in_err-image-clause-fault : goal.returns-in_err-image-clause-fault
+returns-in_err-image-clause-fault c =
+    let p = err_from_is_err_and c.from_residual-in_err-image.result c.from_residual-in_err-image.ensures.1 in
     rw (p.1, p.2) tt

@@ -36,9 +36,9 @@ returns-clause-tree c = record {
 
 pub returns-clause-rules : goal.returns-clause-rules
 returns-clause-rules c =
-    rules_left c.args.source.now c.in_ok-lines.lines c.in_ok-tokens.tokens c.in_ok-tree.tree c.in_ok-lines.ensures
+    rules_left c.args.source.now c.in_ok-lines.lines c.in_ok-tokens.tokens c.in_ok-tree.field-0 c.in_ok-lines.ensures
     c.in_ok-tokens.ensures
-    (subst (λ t. parse_of t ≡ Ok c.in_ok-tree.tree) c.as_slice.ensures c.in_ok-tree.ensures.reads)
+    (subst (λ t. parse_of t ≡ Ok c.in_ok-tree.field-0) c.as_slice.ensures c.in_ok-tree.ensures.reads)
 
 pub returns-clause-only : goal.returns-clause-only
 returns-clause-only c = λ tree is. c.in_ok-tree.ensures.only max_nesting tree

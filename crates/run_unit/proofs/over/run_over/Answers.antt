@@ -40,7 +40,7 @@ returns-clause-runs g c = λ files stands run runs.
     (entries_of c.args.code.tables c.args.code.files)
     (ap (λ (code : Code). entries_of code.tables code.files) c.in-Ok-new.ensures.code)
     (g.S.Device.history c.args.station.now) (g.S.Device.history c.run.new.station)
-    (g.S.Device.state c.run.new.station) c.run.result c.of.result c.of.ensures first
+    (g.S.Device.state c.run.new.station) c.run.result c.of-ended.result c.of-ended.ensures first
     (c.run.ensures.moments files (record { honest = stands.honest; there = there }) run has)
     (c.run.ensures.ends files (record { honest = stands.honest; there = there }) run has)
 
@@ -48,7 +48,7 @@ pub returns-clause-sound : goal.returns-clause-sound
 returns-clause-sound g c = λ files stands.
     let s = g.S.Device.state c.args.station.now in
     let ran =
-    c.run_law.ensures.ends c.args.code (given_over files s c.args.day c.args.budget) c.code-2.ensures.verified in
+    c.run_law.ensures.ends c.args.code (given_over files s c.args.day c.args.budget) c.code.ensures.verified in
     no_damage_over g.T.Keeps.holds
-    (LacksForChange g.T.Keeps.lacks (entries_of c.args.code.tables c.args.code.files)) ran.0 s c.of.result
+    (LacksForChange g.T.Keeps.lacks (entries_of c.args.code.tables c.args.code.files)) ran.0 s c.of-ended.result
     (g.S.Device.state c.run.new.station) (returns-clause-runs g c files stands ran.0 ran.1).ends

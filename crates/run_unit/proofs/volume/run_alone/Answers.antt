@@ -17,7 +17,7 @@ returns-clause-alone g c = λ honest run runs.
     let has = runs_alone_as c.in-Ok-new.machine c.args.code c.args.day s c.args.budget run c.in-Ok-new.ensures.code
     c.in-Ok-new.ensures.day runs in
     let there = c.in-Ok.ensures.stands s.disk [] refl in
-    subst (λ (ended : Ended). RunsAlone run past s ended later new) (sym c.of.ensures)
+    subst (λ (ended : Ended). RunsAlone run past s ended later new) (sym c.of-ended.ensures)
     (ran_alone _ _ _ run s none past later new c.run.result own
     (c.run.ensures.moments [] (record { honest = honest; there = there }) run has)
     (c.run.ensures.ends [] (record { honest = honest; there = there }) run has))
