@@ -4,7 +4,7 @@ use crate::advice::{Advice, Found};
 use crate::name_causes::{is_declared, reserved_cause};
 use crate::period_causes::period_cause;
 use crate::scope_causes::scope_cause;
-use crate::spelling::{has_word, reserved_like};
+use crate::spelling::reserved_like;
 use crate::statement_forms::{form_cause, verb_before};
 use crate::view::View;
 use crate::word_causes::word_cause;
@@ -53,55 +53,79 @@ pub fn grammar_cause(alloc: Global, view: View<'_>, number: u8) -> Found {
 
 /// The advice about the first words of a program, and about a comment that begins in column 8.
 fn beginning_cause(alloc: Global, view: View<'_>) -> Found {
-    let here = view.written(alloc, Some(view.at))?;
     if view.is_operator(Some(view.at)) && view.is_first_of_line(view.at) {
         return Advice::for_cause(alloc, b"comment", b"");
     }
     if view.at == 0 {
-        return Advice::for_cause(alloc, b"no identification", here.as_slice());
+        return view.cause_here(alloc, b"no identification");
     }
     if view.at == AFTER_IDENTIFICATION && !view.reads(alloc, Some(view.at), b"PROGRAM-ID")? {
-        return Advice::for_cause(alloc, b"no program id", here.as_slice());
+        return view.cause_here(alloc, b"no program id");
     }
     Ok(None)
 }
 
 /// The advice about conditions that aren't written in full, numbers with a sign, and expressions and colons where none may be.
 fn expression_cause(alloc: Global, view: View<'_>) -> Found {
-    let here = view.written(alloc, Some(view.at))?;
     if is_abbreviated(alloc, view)? {
         return Advice::for_cause(alloc, b"abbreviated condition", b"");
     }
     if is_signed(view.token(Some(view.at))) && view.before(1).is_some() {
-        return Advice::for_cause(alloc, b"sign", here.as_slice());
+        return view.cause_here(alloc, b"sign");
     }
-    if here.as_slice() == b":".as_slice() {
+    if view.reads(alloc, Some(view.at), b":")? {
         return Advice::for_cause(alloc, b"colon", b"");
     }
     if is_in_subscript(alloc, view)? {
         return Advice::for_cause(alloc, b"subscript", b"");
     }
-    let verb = view.text(alloc, verb_before(alloc, view)?)?;
-    if view.is_operator(Some(view.at)) && has_word(WITHOUT_EXPRESSIONS, verb.as_slice()) {
-        return Advice::for_cause(alloc, b"expression", here.as_slice());
+    if is_in_operands(alloc, view)? {
+        return view.cause_here(alloc, b"expression");
     }
     Ok(None)
 }
 
+/// Whether an operator is at the place, after a verb whose operands are no expressions.
+fn is_in_operands(alloc: Global, view: View<'_>) -> Result<bool, AllocError> {
+    if !view.is_operator(Some(view.at)) {
+        return Ok(false);
+    }
+    view.reads_one_of(alloc, verb_before(alloc, view)?, WITHOUT_EXPRESSIONS)
+}
+
 /// Whether a literal or a figurative constant alone, or a relation without its left side, follows AND or OR.
 fn is_abbreviated(alloc: Global, view: View<'_>) -> Result<bool, AllocError> {
-    let here = view.text(alloc, Some(view.at))?;
-    let before = view.text(alloc, view.before(1))?;
-    let second = view.text(alloc, view.before(2))?;
-    let is_after_one = has_word(b"AND OR", second.as_slice());
-    if view.is_operator(Some(view.at)) || has_word(RELATIONS, here.as_slice()) {
-        return Ok(
-            has_word(b"AND OR", before.as_slice())
-                || is_after_one && before.as_slice() == b"NOT".as_slice(),
-        );
+    if begins_relation(alloc, view)? {
+        return is_after_connective(alloc, view);
     }
-    let is_constant = view.is_literal(view.before(1)) || has_word(FIGURATIVE, before.as_slice());
-    Ok(is_constant && is_after_one)
+    if is_constant(alloc, view)? {
+        return view.reads_one_of(alloc, view.before(2), b"AND OR");
+    }
+    Ok(false)
+}
+
+/// Whether an operator or a word that begins a relation is at the place.
+fn begins_relation(alloc: Global, view: View<'_>) -> Result<bool, AllocError> {
+    if view.is_operator(Some(view.at)) {
+        return Ok(true);
+    }
+    view.reads_one_of(alloc, Some(view.at), RELATIONS)
+}
+
+/// Whether AND or OR is before the place, maybe with NOT after it.
+fn is_after_connective(alloc: Global, view: View<'_>) -> Result<bool, AllocError> {
+    if view.reads(alloc, view.before(1), b"NOT")? {
+        return view.reads_one_of(alloc, view.before(2), b"AND OR");
+    }
+    view.reads_one_of(alloc, view.before(1), b"AND OR")
+}
+
+/// Whether a literal or a figurative constant is before the place.
+fn is_constant(alloc: Global, view: View<'_>) -> Result<bool, AllocError> {
+    if view.is_literal(view.before(1)) {
+        return Ok(true);
+    }
+    view.reads_one_of(alloc, view.before(1), FIGURATIVE)
 }
 
 /// Whether an operator is in parentheses after a name, after one operand or two.
@@ -134,14 +158,28 @@ fn is_signed(token: Option<&Token>) -> bool {
 /// The advice that a word is misspelt: the one at the place, the next one, or the one before.
 fn spelling_cause(alloc: Global, view: View<'_>) -> Found {
     for number in [Some(view.at), view.after(1), view.before(1)] {
-        let word = view.text(alloc, number)?;
-        if view.is_word(number) && !is_declared(alloc, view, word.as_slice())? {
-            if let Some(meant) = reserved_like(alloc, word.as_slice())? {
-                return misspelt(alloc, view.written(alloc, number)?.as_slice(), meant);
-            }
+        if let Some(meant) = meant_at(alloc, view, number)? {
+            let word = view.written(alloc, number)?;
+            return misspelt(alloc, word.as_slice(), meant);
         }
     }
     Ok(None)
+}
+
+/// The reserved word that a token is almost, if it is a word that nothing declares.
+fn meant_at(
+    alloc: Global,
+    view: View<'_>,
+    number: Option<usize>,
+) -> Result<Option<&'static [u8]>, AllocError> {
+    if !view.is_word(number) {
+        return Ok(None);
+    }
+    let word = view.text(alloc, number)?;
+    if is_declared(alloc, view, word.as_slice())? {
+        return Ok(None);
+    }
+    reserved_like(alloc, word.as_slice())
 }
 
 /// The advice to write another word.

@@ -25,28 +25,38 @@ const BEFORE_PROCEDURES: &[u8] = b"PERFORM THROUGH THRU";
 
 /// The advice that a reserved word is in the place of a name.
 pub fn reserved_cause(alloc: Global, view: View<'_>) -> Found {
-    if !view.is_reserved(Some(view.at)) {
+    if !view.is_reserved(Some(view.at)) || !is_name_next(alloc, view)? {
         return Ok(None);
     }
     let here = view.text(alloc, Some(view.at))?;
-    let before = view.text(alloc, view.before(1))?;
-    let is_entry = view.is_numeric(view.before(1)) && view.is_period(view.before(2));
-    let is_name = is_entry || has_word(BEFORE_NAMES, before.as_slice());
-    if !is_name || has_word(CONNECTIVES, here.as_slice()) || here.starts_with(b"END-") {
+    if has_word(CONNECTIVES, here.as_slice()) || here.starts_with(b"END-") {
         return Ok(None);
     }
     Advice::for_cause(alloc, b"reserved", here.as_slice())
 }
 
+/// Whether a name follows what is before the place: a word, or the level number of an entry.
+fn is_name_next(alloc: Global, view: View<'_>) -> Result<bool, AllocError> {
+    if view.is_numeric(view.before(1)) && view.is_period(view.before(2)) {
+        return Ok(true);
+    }
+    view.reads_one_of(alloc, view.before(1), BEFORE_NAMES)
+}
+
 /// The advice about a name that nothing has: what kind of name is needed here, and a name that is spelled almost alike.
 pub fn undeclared_cause(alloc: Global, view: View<'_>, number: u8) -> Found {
     let name = view.text(alloc, Some(view.at))?;
-    let kind = kind_after(view.text(alloc, view.before(1))?.as_slice());
-    let mut advice = match kind_cause(alloc, view, name.as_slice())? {
+    about_undeclared(alloc, view, number, name.as_slice())
+}
+
+/// The advice about this name at the place, which nothing has.
+fn about_undeclared(alloc: Global, view: View<'_>, number: u8, name: &[u8]) -> Found {
+    let kind = needed_kind(alloc, view)?;
+    let mut advice = match kind_cause(alloc, view, name)? {
         Some(advice) => advice,
-        None => Advice::for_number(alloc, number, name.as_slice())?,
+        None => Advice::for_number(alloc, number, name)?,
     };
-    if let Some(word) = proposal(alloc, view, kind, name.as_slice())? {
+    if let Some(word) = proposal(alloc, view, kind, name)? {
         advice.propose(word.as_slice())?;
     }
     Ok(Some(advice))
@@ -54,11 +64,11 @@ pub fn undeclared_cause(alloc: Global, view: View<'_>, number: u8) -> Found {
 
 /// The advice that an item is in the place of a condition, or a condition name in the place of an item that is compared.
 pub fn condition_cause(alloc: Global, view: View<'_>) -> Found {
+    if !view.reads_one_of(alloc, view.before(1), BEFORE_CONDITIONS)? {
+        return Ok(None);
+    }
     let here = view.text(alloc, Some(view.at))?;
-    let before = view.text(alloc, view.before(1))?;
-    let is_name = has_word(BEFORE_CONDITIONS, before.as_slice())
-        && is_declared(alloc, view, here.as_slice())?;
-    if !is_name {
+    if !is_declared(alloc, view, here.as_slice())? {
         return Ok(None);
     }
     match item_cause(alloc, view, here.as_slice())? {
@@ -96,6 +106,12 @@ enum NameKind {
     File,
     /// A paragraph or a section.
     Procedure,
+}
+
+/// The kind of name that is needed at the place.
+fn needed_kind(alloc: Global, view: View<'_>) -> Result<NameKind, AllocError> {
+    let before = view.text(alloc, view.before(1))?;
+    Ok(kind_after(before.as_slice()))
 }
 
 /// The kind of name that follows a word.
@@ -137,14 +153,24 @@ fn proposal(
         }
     }
     for number in 0..view.tokens.len() {
-        if declared_kind(alloc, view, number)? == Some(kind) {
-            let declared = view.text(alloc, Some(number))?;
-            if is_alike(alloc, declared.as_slice(), name)? {
-                return Ok(Some(declared));
-            }
+        if declared_kind(alloc, view, number)? == Some(kind)
+            && is_name_alike(alloc, view, number, name)?
+        {
+            return Ok(Some(view.text(alloc, Some(number))?));
         }
     }
     Ok(None)
+}
+
+/// Whether a token is almost this name.
+fn is_name_alike(
+    alloc: Global,
+    view: View<'_>,
+    number: usize,
+    name: &[u8],
+) -> Result<bool, AllocError> {
+    let text = view.text(alloc, Some(number))?;
+    is_alike(alloc, text.as_slice(), name)
 }
 
 /// Whether a name is declared in the text.

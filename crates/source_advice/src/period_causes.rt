@@ -1,17 +1,16 @@
 //! Missing periods.
 
-use crate::advice::{Advice, Found};
+use crate::advice::Found;
 use crate::view::View;
 use std::alloc::Global;
 
 /// The advice that a period is missing, before the place or after a name at it.
 pub fn period_cause(alloc: Global, view: View<'_>) -> Found {
-    let here = view.written(alloc, Some(view.at))?;
     if is_period_missing(view) {
-        return Advice::for_cause(alloc, b"period before a line", here.as_slice());
+        return view.cause_here(alloc, b"period before a line");
     }
     if is_paragraph_without_period(view) {
-        return Advice::for_cause(alloc, b"period after a name", here.as_slice());
+        return view.cause_here(alloc, b"period after a name");
     }
     Ok(None)
 }

@@ -29,31 +29,33 @@ pub fn verb_before(alloc: Global, view: View<'_>) -> Result<Option<usize>, Alloc
 
 /// The advice to compare the statement or the entry with its form, or to begin the statement with a verb.
 pub fn form_cause(alloc: Global, view: View<'_>, number: u8) -> Found {
-    let Some(first) = beginning(alloc, view)? else {
-        if view.is_in_procedures(view.at) {
-            let here = view.written(alloc, Some(view.at))?;
-            return Advice::for_cause(alloc, b"verb needed", here.as_slice());
+    match beginning(alloc, view)? {
+        Some(first) if view.is_numeric(Some(first)) => form_under(alloc, view, number, b"ENTRY"),
+        Some(first) => {
+            let name = view.text(alloc, Some(first))?;
+            form_under(alloc, view, number, name.as_slice())
         }
-        return Ok(None);
-    };
-    let name = view.text(alloc, Some(first))?;
-    let head: &[u8] = if view.is_numeric(Some(first)) {
-        b"ENTRY"
-    } else {
-        name.as_slice()
-    };
+        None if view.is_in_procedures(view.at) => view.cause_here(alloc, b"verb needed"),
+        None => Ok(None),
+    }
+}
+
+/// The advice to compare a statement or an entry with the form that the book has under a head.
+fn form_under(alloc: Global, view: View<'_>, number: u8, head: &[u8]) -> Found {
     let Some(form) = part_under(alloc, Book::Forms, head)? else {
         return Ok(None);
     };
-    let mut advice = Advice::for_number(
-        alloc,
-        number,
-        view.written(alloc, Some(view.at))?.as_slice(),
-    )?;
+    let mut advice = about_place(alloc, view, number)?;
     advice.cure.clear();
     advice.add_line(&[head, b" is written:"])?;
     advice.cure.extend_from_slice(form)?;
     Ok(Some(advice))
+}
+
+/// What is said of a number, about the token at the place.
+fn about_place(alloc: Global, view: View<'_>, number: u8) -> Result<Advice, AllocError> {
+    let here = view.written(alloc, Some(view.at))?;
+    Advice::for_number(alloc, number, here.as_slice())
 }
 
 /// The number of the verb before the place, or of the first token of its sentence.

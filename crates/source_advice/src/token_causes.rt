@@ -64,9 +64,22 @@ fn advice_at_token(
         return Advice::for_number(alloc, number, b"");
     };
     let Ok(tokens) = scan(alloc, &lines) else {
+        drop(lines);
         return Advice::for_number(alloc, number, b"");
     };
-    let view = View::at_end(tokens.as_slice(), lines.characters()).at_place(place);
+    let view = View::at_end(tokens.as_slice(), lines.characters());
+    advice_in_view(alloc, source, view.at_place(place), number)
+}
+
+/// The advice about a fault at a token.
+fn advice_in_view(
+    alloc: Global,
+    source: &[u8],
+    view: View<'_>,
+    number: u8,
+) -> Result<Advice, AllocError>
+    ensures { IfOk result (λ advice. IsAdviceOf number advice.message.items advice.cure.items) }
+{
     match tree_cause(alloc, source, view, number)? {
         Some(advice) => Ok(advice),
         None => {

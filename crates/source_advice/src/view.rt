@@ -1,5 +1,7 @@
 //! The tokens of a source text around a place.
 
+use crate::advice::{Advice, Found};
+use crate::spelling::has_word;
 use lexical::Place;
 use source_lines::Character;
 use std::alloc::{AllocError, Global};
@@ -165,6 +167,17 @@ impl<'a> View<'a> {
         Ok(self.text(alloc, number)?.as_slice() == word)
     }
 
+    /// Whether a token is one of these words, in upper case, which are separated by spaces.
+    pub fn reads_one_of(
+        &self,
+        alloc: Global,
+        number: Option<usize>,
+        words: &[u8],
+    ) -> Result<bool, AllocError> {
+        let text = self.text(alloc, number)?;
+        Ok(has_word(words, text.as_slice()))
+    }
+
     /// The text of a token as it is written.
     pub fn written(&self, alloc: Global, number: Option<usize>) -> Result<Vec<u8>, AllocError> {
         let mut text = Vec::new(alloc);
@@ -177,6 +190,12 @@ impl<'a> View<'a> {
             }
         }
         Ok(text)
+    }
+
+    /// The advice for a cause, about the token at the place as it is written.
+    pub fn cause_here(&self, alloc: Global, head: &[u8]) -> Found {
+        let here = self.written(alloc, Some(self.at))?;
+        Advice::for_cause(alloc, head, here.as_slice())
     }
 
     /// The number of the first token after the last period before the place.
