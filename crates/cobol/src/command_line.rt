@@ -1,17 +1,8 @@
-//! The commands and their arguments, with the help.
+//! What `clap` is to read: the commands, with their arguments and help.
 
+use crate::subcommands::{LongOption, Positional, SUBCOMMANDS, Subcommand};
 use clap::{Arg, ArgAction, Command};
 use std::alloc::{AllocError, Global};
-
-/// What the name of a file is.
-const FILE_NAME: &str = "The file's name; write `--` before VOLUME if it begins with a hyphen";
-
-/// The end of the help of `migrate`.
-const BEFORE_A_MIGRATION: &str =
-    "An earlier version of this program refuses VOLUME then, so copy it first.
-
-Example:
-  cobol migrate SHOP";
 
 /// The end of the help.
 const EXIT_STATUSES: &str = "Exit status:
@@ -31,158 +22,67 @@ Example:
 
 /// The commands.
 pub fn command_line<'a>(alloc: Global) -> Result<Command<'a>, AllocError> {
+    let subcommands = subcommand_lines(alloc, &SUBCOMMANDS)?;
     Command::new(alloc, "cobol")
         .about("Compiles COBOL-85 programs, and runs them over volumes of files")
         .after_help(EXIT_STATUSES)
         .version("0.1.0")
         .subcommand_required(true)
-        .subcommand(format_line(alloc)?)?
-        .subcommand(copy_line(alloc)?)?
-        .subcommand(stat_line(alloc)?)?
-        .subcommand(migrate_line(alloc)?)?
-        .subcommand(load_line(alloc)?)?
-        .subcommand(unload_line(alloc)?)?
-        .subcommand(compile_line(alloc)?)?
-        .subcommand(run_line(alloc)?)?
-        .subcommand(list_line(alloc)?)?
-        .subcommand(dump_line(alloc)?)?
-        .subcommand(check_line(alloc)?)?
-        .subcommand(explain_line(alloc)?)?
-        .subcommand(layout_line(alloc)?)
+        .subcommands(subcommands)
 }
 
-fn format_line<'a>(alloc: Global) -> Result<Command<'a>, AllocError> {
-    Command::new(alloc, "format")
-        .about("Makes a volume without files; what VOLUME held before is lost")
-        .after_help("Example:\n  cobol format SHOP 1024")
-        .arg(required(alloc, "VOLUME", "The host file that is to be the volume"))?
-        .arg(required(
-            alloc,
-            "SECTORS",
-            "Its size, 1024 to 921600 sectors of 4096 bytes",
-        ))
+fn subcommand_lines<'a>(
+    alloc: Global,
+    subcommands: &[Subcommand],
+) -> Result<Vec<Command<'a>>, AllocError> {
+    let mut lines = Vec::new(alloc);
+    for subcommand in subcommands {
+        lines.push(subcommand_line(alloc, subcommand)?)?;
+    }
+    Ok(lines)
 }
 
-fn copy_line<'a>(alloc: Global) -> Result<Command<'a>, AllocError> {
-    Command::new(alloc, "copy")
-        .about("Makes a volume with the files of another; NEW is whole or as it was")
-        .after_help("Example:\n  cobol copy SHOP SHOP.larger 4096")
-        .arg(required(alloc, "OLD", "The volume whose files are copied"))?
-        .arg(required(alloc, "NEW", "The host file that is to be the new volume"))?
-        .arg(required(
-            alloc,
-            "SECTORS",
-            "Its size, 1024 to 921600 sectors of 4096 bytes",
-        ))
+fn subcommand_line<'a>(alloc: Global, subcommand: &Subcommand) -> Result<Command<'a>, AllocError> {
+    let arguments = positionals(alloc, subcommand.arguments)?;
+    let options = long_options(alloc, subcommand.options)?;
+    Command::new(alloc, subcommand.name)
+        .about(subcommand.about)
+        .after_help(subcommand.after_help)
+        .args(arguments)?
+        .args(options)
 }
 
-fn stat_line<'a>(alloc: Global) -> Result<Command<'a>, AllocError> {
-    Command::new(alloc, "stat")
-        .about("Prints the size and free sectors of a volume, and its files' rows")
-        .after_help("Example:\n  cobol stat SHOP")
-        .arg(required(alloc, "VOLUME", "A volume that `format` made"))
+fn positionals<'a>(alloc: Global, words: &[Positional]) -> Result<Vec<Arg<'a>>, AllocError> {
+    let mut arguments = Vec::new(alloc);
+    for word in words {
+        let argument = Arg::new(alloc, word.name)
+            .help(word.help)
+            .required(true)
+            .action(ArgAction::Set);
+        arguments.push(argument)?;
+    }
+    Ok(arguments)
 }
 
-fn migrate_line<'a>(alloc: Global) -> Result<Command<'a>, AllocError> {
-    Command::new(alloc, "migrate")
-        .about("Gives a volume of trees the newest mark, COBVOL02; its files stay")
-        .after_help(BEFORE_A_MIGRATION)
-        .arg(required(alloc, "VOLUME", "A volume that `format` made"))
+fn long_options<'a>(alloc: Global, options: &[LongOption]) -> Result<Vec<Arg<'a>>, AllocError> {
+    let mut arguments = Vec::new(alloc);
+    for option in options {
+        arguments.push(long_option(alloc, option)?)?;
+    }
+    Ok(arguments)
 }
 
-fn load_line<'a>(alloc: Global) -> Result<Command<'a>, AllocError> {
-    Command::new(alloc, "load")
-        .about("Makes each line of standard input a row of a file")
-        .after_help("Example:\n  cobol load SHOP STOCK < stock.rows")
-        .arg(required(alloc, "VOLUME", "A volume that `format` made"))?
-        .arg(required(alloc, "NAME", FILE_NAME))
-}
-
-fn unload_line<'a>(alloc: Global) -> Result<Command<'a>, AllocError> {
-    Command::new(alloc, "unload")
-        .about("Prints the rows of a file, a line each, in the form that `load` reads")
-        .after_help("Example:\n  cobol unload SHOP STOCK > stock.rows")
-        .arg(required(alloc, "VOLUME", "A volume that `format` made"))?
-        .arg(required(alloc, "NAME", FILE_NAME))
-}
-
-fn compile_line<'a>(alloc: Global) -> Result<Command<'a>, AllocError> {
-    Command::new(alloc, "compile")
-        .about("Compiles a source; a refused source leaves IMAGE as it is")
-        .after_help("Example:\n  cobol compile stock.cob STOCK.image")
-        .arg(required(alloc, "SOURCE", "The program's text, in fixed format"))?
-        .arg(required(alloc, "IMAGE", "The host file that the image is written to"))
-}
-
-fn run_line<'a>(alloc: Global) -> Result<Command<'a>, AllocError> {
-    let budget = Arg::new(alloc, "budget")
-        .long("budget")
-        .value_name("N")
-        .help("How many steps the run may take, in place of 1000000000");
-    let date = Arg::new(alloc, "date")
-        .long("date")
-        .value_name("YYMMDD")
-        .help("The date that the program receives, in place of 000000");
-    let today = Arg::new(alloc, "today")
-        .long("today")
-        .action(ArgAction::SetTrue)
-        .help("The program receives the day of this machine")
-        .conflicts_with("date")?;
-    let trace_files = Arg::new(alloc, "trace-files")
-        .long("trace-files")
-        .action(ArgAction::SetTrue)
-        .help("Print each file statement and status on standard error");
-    Command::new(alloc, "run")
-        .about("Runs an image over a volume")
-        .after_help("Example:\n  cobol run STOCK.image SHOP --date 261127 < stock.in")
-        .arg(required(alloc, "IMAGE", "An image that `compile` wrote"))?
-        .arg(required(alloc, "VOLUME", "A volume that `format` made"))?
-        .arg(budget)?
-        .arg(date)?
-        .arg(today)?
-        .arg(trace_files)
-}
-
-fn list_line<'a>(alloc: Global) -> Result<Command<'a>, AllocError> {
-    Command::new(alloc, "list")
-        .about("Lists the files of a volume: name, organization, record length, rows")
-        .after_help("Example:\n  cobol list SHOP")
-        .arg(required(alloc, "VOLUME", "A volume that `format` made"))
-}
-
-fn dump_line<'a>(alloc: Global) -> Result<Command<'a>, AllocError> {
-    Command::new(alloc, "dump")
-        .about("Prints the rows of a file, a line each, in the order of the prime key")
-        .after_help("Example:\n  cobol dump SHOP STOCK")
-        .arg(required(alloc, "VOLUME", "A volume that `format` made"))?
-        .arg(required(alloc, "NAME", FILE_NAME))
-}
-
-fn check_line<'a>(alloc: Global) -> Result<Command<'a>, AllocError> {
-    Command::new(alloc, "check")
-        .about("Checks a source, and shows what is wrong and what to do")
-        .after_help("Example:\n  cobol check stock.cob")
-        .arg(required(alloc, "SOURCE", "The program's text, in fixed format"))
-}
-
-fn explain_line<'a>(alloc: Global) -> Result<Command<'a>, AllocError> {
-    Command::new(alloc, "explain")
-        .about("Explains the number of a fault, a refusal or a FILE STATUS")
-        .after_help("Example:\n  cobol explain 40")
-        .arg(required(alloc, "N", "The number that was printed, such as 40"))
-}
-
-fn layout_line<'a>(alloc: Global) -> Result<Command<'a>, AllocError> {
-    Command::new(alloc, "layout")
-        .about("Shows the place and size of each item and file of a source")
-        .after_help("Example:\n  cobol layout stock.cob")
-        .arg(required(alloc, "SOURCE", "The program's text, in fixed format"))
-}
-
-/// A word that has to be there.
-fn required<'a>(alloc: Global, name: &'a str, help: &'a str) -> Arg<'a> {
-    Arg::new(alloc, name)
-        .help(help)
-        .required(true)
-        .action(ArgAction::Set)
+/// An option with a value, or a flag.
+fn long_option<'a>(alloc: Global, option: &LongOption) -> Result<Arg<'a>, AllocError> {
+    let named = Arg::new(alloc, option.name)
+        .long(option.name)
+        .help(option.help);
+    let argument = match option.value_name {
+        Some(value_name) => named.value_name(value_name),
+        None => named.action(ArgAction::SetTrue),
+    };
+    match option.conflicts_with {
+        Some(other) => argument.conflicts_with(other),
+        None => Ok(argument),
+    }
 }

@@ -22,6 +22,7 @@ mod numbers;
 mod progress;
 mod run_command;
 mod stat_command;
+mod subcommands;
 mod today;
 mod unknown_name;
 mod verdict;
