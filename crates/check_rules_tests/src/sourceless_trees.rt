@@ -123,21 +123,36 @@ fn reference(alloc: Global) -> Result<Reference, AllocError> {
     })
 }
 
-/// MOVE of this operand TO M.
-fn moved(alloc: Global, sender: Operand) -> Result<Verb<Statement>, AllocError> {
-    let receivers = list(alloc, reference(alloc)?)?;
-    Ok(Verb::DataStatement(DataStatement::Move { sender, receivers }))
+fn receivers(alloc: Global) -> Result<Items<Reference>, AllocError> {
+    list(alloc, reference(alloc)?)
 }
 
-/// ADD of this operand TO M.
-fn add(alloc: Global, operand: Operand) -> Result<Verb<Statement>, AllocError> {
+/// MOVE of this operand TO M.
+fn moved(alloc: Global, sender: Operand) -> Result<Verb<Statement>, AllocError> {
+    match receivers(alloc) {
+        Ok(receivers) => Ok(Verb::DataStatement(DataStatement::Move { sender, receivers })),
+        Err(error) => {
+            drop(sender);
+            Err(error)
+        }
+    }
+}
+
+/// M as the receiver of an ADD.
+fn sums(alloc: Global) -> Result<Items<Receiver>, AllocError> {
     let receiver = Receiver {
         item: reference(alloc)?,
         rounded: false,
     };
+    list(alloc, receiver)
+}
+
+/// ADD of this operand TO M.
+fn add(alloc: Global, operand: Operand) -> Result<Verb<Statement>, AllocError> {
+    let operands = list(alloc, operand)?;
     let operation = Operation::Add {
-        operands: list(alloc, operand)?,
-        receivers: list(alloc, receiver)?,
+        operands,
+        receivers: sums(alloc)?,
     };
     let phrases = Phrases {
         arose: None,

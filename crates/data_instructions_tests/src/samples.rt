@@ -43,21 +43,29 @@ pub const TWELVE: SenderIndex = SenderIndex { number: 1 };
 
 const TEXT: Kind = Kind::Alphanumeric { justified: false };
 
+const TEXTS: [&[u8]; 6] = [b"E=", b"|", b"WXYZ", &[1, 0, 1, 0], b"A", b"XAB  Y"];
+
+const AREAS: [&[u8]; 10] = [
+    &[b'0'; 72],
+    b"02",
+    b"03",
+    b"       ",
+    b"12AB  ",
+    b"0000",
+    b"000000",
+    b"00000",
+    b"00000",
+    b"    ",
+];
+
 /// The tables of those items and literals.
 pub fn tables(rt: &impl Abort, alloc: Global) -> DataTables {
-    let mut texts = Items::new(alloc);
-    add(rt, &mut texts, bytes(rt, alloc, b"E="));
-    add(rt, &mut texts, bytes(rt, alloc, b"|"));
-    add(rt, &mut texts, bytes(rt, alloc, b"WXYZ"));
-    add(rt, &mut texts, bytes(rt, alloc, &[1, 0, 1, 0]));
-    add(rt, &mut texts, bytes(rt, alloc, b"A"));
-    add(rt, &mut texts, bytes(rt, alloc, b"XAB  Y"));
     DataTables {
-        areas: areas(rt, alloc),
+        areas: texts_of(rt, alloc, &AREAS),
         items: data_items(rt, alloc),
         numbers: numbers(rt, alloc),
         senders: senders(rt, alloc),
-        texts,
+        texts: texts_of(rt, alloc, &TEXTS),
         inspections: inspections(rt, alloc),
     }
 }
@@ -84,98 +92,81 @@ fn add<T: Drop>(rt: &impl Abort, to: &mut Items<T>, item: T) {
     }
 }
 
-/// An item at the start of an area.
-fn at_start(kind: Kind, length: u32, area: u32) -> DataItem {
-    DataItem {
-        item: Item { kind, length },
-        editing: None,
-        area,
-        offset: 0,
-    }
-}
-
-fn edited(
-    rt: &impl Abort,
-    alloc: Global,
-    text: &[u8],
-    blank_when_zero: bool,
-    length: u32,
-    area: u32,
-) -> DataItem {
-    let Ok(picture) = Picture::read(alloc, text) else {
-        panic!(rt; "no picture");
-    };
-    let kind = Kind::NumericEdited { blank_when_zero };
-    DataItem {
-        item: Item { kind, length },
-        editing: Some(picture),
-        area,
-        offset: 0,
-    }
-}
-
-fn data_items(rt: &impl Abort, alloc: Global) -> Items<DataItem> {
-    let signed = OperationalSign::Trailing;
-    let unsigned = OperationalSign::Unsigned;
+fn texts_of(rt: &impl Abort, alloc: Global, texts: &[&[u8]]) -> Items<Items<u8>> {
     let mut items = Items::new(alloc);
-    add(rt, &mut items, at_start(number(5, 2, signed), 5, 0));
-    let mut name = at_start(TEXT, 4, 0);
-    name.offset = 20;
-    add(rt, &mut items, name);
-    add(rt, &mut items, at_start(number(2, 0, unsigned), 2, 1));
-    add(rt, &mut items, at_start(number(2, 0, signed), 2, 2));
-    add(rt, &mut items, edited(rt, alloc, b"-(3)9.99", false, 7, 3));
-    add(rt, &mut items, at_start(TEXT, 6, 4));
-    add(rt, &mut items, at_start(number(4, 0, unsigned), 4, 5));
-    add(rt, &mut items, at_start(number(6, 0, unsigned), 6, 6));
-    add(rt, &mut items, at_start(Kind::Group, 72, 0));
-    add(rt, &mut items, at_start(number(5, 2, signed), 5, 7));
-    add(rt, &mut items, at_start(number(5, 2, signed), 5, 8));
-    add(rt, &mut items, edited(rt, alloc, b"Z9.9", true, 4, 9));
+    for text in texts {
+        add(rt, &mut items, bytes(rt, alloc, text));
+    }
     items
 }
 
-fn literal(rt: &impl Abort, alloc: Global, kind: Kind, text: &[u8]) -> LiteralSender {
-    let Ok(length) = u32::try_from(text.len()) else {
-        panic!(rt; "too long");
-    };
-    LiteralSender {
-        taken: Taken::Item(Item { kind, length }),
-        bytes: bytes(rt, alloc, text),
+/// The picture of a text, if there is one.
+fn picture(rt: &impl Abort, alloc: Global, text: Option<&[u8]>) -> Option<Picture> {
+    match Picture::read(alloc, text?) {
+        Ok(picture) => Some(picture),
+        Err(_) => panic!(rt; "no picture"),
     }
 }
 
-fn senders(rt: &impl Abort, alloc: Global) -> Items<LiteralSender> {
-    let mut senders = Items::new(alloc);
-    add(rt, &mut senders, literal(rt, alloc, TEXT, b"AB"));
-    let signed = number(3, 1, OperationalSign::Trailing);
-    add(rt, &mut senders, literal(rt, alloc, signed, b"12u"));
-    add(rt, &mut senders, literal(rt, alloc, TEXT, b"123456789"));
-    let zero = LiteralSender {
-        taken: Taken::Figurative(items::Figurative::Zero),
-        bytes: Items::new(alloc),
+/// The items in their order: the kind, the length, the area, the place in the area, and the picture of an edited item.
+fn data_items(rt: &impl Abort, alloc: Global) -> Items<DataItem> {
+    let signed = OperationalSign::Trailing;
+    let unsigned = OperationalSign::Unsigned;
+    let floating = Kind::NumericEdited {
+        blank_when_zero: false,
     };
-    add(rt, &mut senders, zero);
-    let digit = number(1, 0, OperationalSign::Unsigned);
-    add(rt, &mut senders, literal(rt, alloc, digit, b"1"));
-    add(rt, &mut senders, literal(rt, alloc, digit, b"3"));
-    add(rt, &mut senders, literal(rt, alloc, digit, b"5"));
-    senders
+    let blank = Kind::NumericEdited {
+        blank_when_zero: true,
+    };
+    let mut items = Items::new(alloc);
+    for (kind, length, area, offset, editing) in [
+        (number(5, 2, signed), 5, 0, 0, None),
+        (TEXT, 4, 0, 20, None),
+        (number(2, 0, unsigned), 2, 1, 0, None),
+        (number(2, 0, signed), 2, 2, 0, None),
+        (floating, 7, 3, 0, Some(b"-(3)9.99".as_slice())),
+        (TEXT, 6, 4, 0, None),
+        (number(4, 0, unsigned), 4, 5, 0, None),
+        (number(6, 0, unsigned), 6, 6, 0, None),
+        (Kind::Group, 72, 0, 0, None),
+        (number(5, 2, signed), 5, 7, 0, None),
+        (number(5, 2, signed), 5, 8, 0, None),
+        (blank, 4, 9, 0, Some(b"Z9.9".as_slice())),
+    ] {
+        let item = DataItem {
+            item: Item { kind, length },
+            editing: picture(rt, alloc, editing),
+            area,
+            offset,
+        };
+        add(rt, &mut items, item);
+    }
+    items
 }
 
-fn areas(rt: &impl Abort, alloc: Global) -> Items<Items<u8>> {
-    let mut areas = Items::new(alloc);
-    add(rt, &mut areas, bytes(rt, alloc, &[b'0'; 72]));
-    add(rt, &mut areas, bytes(rt, alloc, b"02"));
-    add(rt, &mut areas, bytes(rt, alloc, b"03"));
-    add(rt, &mut areas, bytes(rt, alloc, b"       "));
-    add(rt, &mut areas, bytes(rt, alloc, b"12AB  "));
-    add(rt, &mut areas, bytes(rt, alloc, b"0000"));
-    add(rt, &mut areas, bytes(rt, alloc, b"000000"));
-    add(rt, &mut areas, bytes(rt, alloc, b"00000"));
-    add(rt, &mut areas, bytes(rt, alloc, b"00000"));
-    add(rt, &mut areas, bytes(rt, alloc, b"    "));
-    areas
+/// A literal of a kind, with so many characters.
+fn literal(kind: Kind, length: u32) -> Taken {
+    Taken::Item(Item { kind, length })
+}
+
+fn senders(rt: &impl Abort, alloc: Global) -> Items<LiteralSender> {
+    let signed = number(3, 1, OperationalSign::Trailing);
+    let digit = number(1, 0, OperationalSign::Unsigned);
+    let literals: [(Taken, &[u8]); 7] = [
+        (literal(TEXT, 2), b"AB"),
+        (literal(signed, 3), b"12u"),
+        (literal(TEXT, 9), b"123456789"),
+        (Taken::Figurative(items::Figurative::Zero), b""),
+        (literal(digit, 1), b"1"),
+        (literal(digit, 1), b"3"),
+        (literal(digit, 1), b"5"),
+    ];
+    let mut senders = Items::new(alloc);
+    for (taken, text) in literals {
+        let bytes = bytes(rt, alloc, text);
+        add(rt, &mut senders, LiteralSender { taken, bytes });
+    }
+    senders
 }
 
 fn numbers(rt: &impl Abort, alloc: Global) -> Items<Dec> {

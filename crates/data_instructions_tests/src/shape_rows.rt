@@ -25,21 +25,21 @@ fn known(
     Some(shape)
 }
 
+/// Whether each instruction finds what it needs, from nothing on.
+fn is_right(rt: &impl Abort, alloc: Global, code: &[DataInstruction]) -> bool {
+    let tables = tables(rt, alloc);
+    known(rt, &tables, code, Shape::empty(alloc)).is_some()
+}
+
 /// A literal and a receiver.
 fn is_sent(rt: &impl Abort, alloc: Global, take: DataInstruction, item: ItemIndex) -> bool {
-    let tables = tables(rt, alloc);
-    let code = [take, DataInstruction::Place { item }, DataInstruction::Move];
-    known(rt, &tables, &code, Shape::empty(alloc)).is_some()
+    let place = DataInstruction::Place { item };
+    is_right(rt, alloc, &[take, place, DataInstruction::Move])
 }
 
 fn operands(rt: &impl Abort, alloc: Global) {
-    let tables = tables(rt, alloc);
     let cell = DataInstruction::Place { item: CELL };
-    let short = [cell, ROW];
-    holds(
-        rt,
-        known(rt, &tables, &short, Shape::empty(alloc)).is_none(),
-    );
+    holds(rt, !is_right(rt, alloc, &[cell, ROW]));
     let past = [
         cell,
         cell,
@@ -49,12 +49,8 @@ fn operands(rt: &impl Abort, alloc: Global) {
             count: 4,
         },
     ];
-    holds(rt, known(rt, &tables, &past, Shape::empty(alloc)).is_none());
-    let moved = [cell, DataInstruction::Move];
-    holds(
-        rt,
-        known(rt, &tables, &moved, Shape::empty(alloc)).is_none(),
-    );
+    holds(rt, !is_right(rt, alloc, &past));
+    holds(rt, !is_right(rt, alloc, &[cell, DataInstruction::Move]));
 }
 
 #[test]
@@ -69,13 +65,12 @@ fn known_operands(rt: HostRuntime) {
 
 /// A part of an item, with two numbers on the stack.
 fn is_parted(rt: &impl Abort, alloc: Global, item: ItemIndex, part: Part) -> bool {
-    let tables = tables(rt, alloc);
     let number = DataInstruction::Literal {
         number: NumberIndex { number: 0 },
     };
     let place = DataInstruction::Place { item };
-    let code = [place, number, number, DataInstruction::Part(part)];
-    known(rt, &tables, &code, Shape::empty(alloc)).is_some()
+    let part = DataInstruction::Part(part);
+    is_right(rt, alloc, &[place, number, number, part])
 }
 
 /// X has the six bytes of its area, and I is a number of two digits.
@@ -90,54 +85,61 @@ fn known_parts(rt: HostRuntime) {
     holds(&rt, !is_parted(&rt, rt.alloc(), I, Part::Rest));
 }
 
+fn some(rt: &impl Abort, shape: Option<Shape>) -> Shape {
+    match shape {
+        Some(shape) => shape,
+        None => panic!(rt; "nothing is known"),
+    }
+}
+
+/// What is known after an instruction that finds what it needs.
+fn known_after(
+    rt: &impl Abort,
+    alloc: Global,
+    tables: &DataTables,
+    instruction: DataInstruction,
+) -> Shape {
+    some(rt, known(rt, tables, &[instruction], Shape::empty(alloc)))
+}
+
+fn copy(rt: &impl Abort, alloc: Global, shape: &Shape) -> Shape {
+    match shape.copy(alloc) {
+        Ok(copy) => copy,
+        Err(_) => panic!(rt; "no memory"),
+    }
+}
+
 /// Two ways with two senders; a third with a place more.
-fn ways(rt: &impl Abort, alloc: Global) {
-    let tables = tables(rt, alloc);
-    let text = [DataInstruction::TakeLiteral { literal: AB }];
-    let decimals = [DataInstruction::TakeLiteral { literal: TWELVE }];
-    let place = [DataInstruction::Place { item: I }];
-    let (Some(mut one), Some(other), Some(third)) = (
-        known(rt, &tables, &text, Shape::empty(alloc)),
-        known(rt, &tables, &decimals, Shape::empty(alloc)),
-        known(rt, &tables, &place, Shape::empty(alloc)),
-    ) else {
-        panic!(rt; "nothing is known");
-    };
-    let Ok(again) = one.copy(alloc) else {
-        panic!(rt; "no memory");
-    };
+fn ways(rt: &impl Abort, alloc: Global, tables: &DataTables) {
+    let text = DataInstruction::TakeLiteral { literal: AB };
+    let decimals = DataInstruction::TakeLiteral { literal: TWELVE };
+    let mut one = known_after(rt, alloc, tables, text);
+    let again = copy(rt, alloc, &one);
     holds(rt, one.join(again) && one.sender.is_some());
+    let other = known_after(rt, alloc, tables, decimals);
     holds(rt, one.join(other) && one.sender.is_none());
+    let third = known_after(rt, alloc, tables, DataInstruction::Place { item: I });
     holds(rt, !one.join(third));
 }
 
 #[test]
 fn joins(rt: HostRuntime) {
-    ways(&rt, rt.alloc());
+    ways(&rt, rt.alloc(), &tables(&rt, rt.alloc()));
 }
 
-fn given(rt: &impl Abort, alloc: Global) {
-    let tables = tables(rt, alloc);
-    let places = [
-        DataInstruction::Place { item: D },
-        DataInstruction::Place { item: D },
-    ];
-    let Some(shape) = known(rt, &tables, &places, Shape::empty(alloc)) else {
-        panic!(rt; "nothing is known");
-    };
+/// Two places of D: one is given a line, the other one the date.
+fn given(rt: &impl Abort, alloc: Global, tables: &DataTables) {
+    let place = DataInstruction::Place { item: D };
+    let shape = some(rt, known(rt, tables, &[place, place], Shape::empty(alloc)));
     holds(rt, shape.stacks.places.len() == 2);
-    let Some(shape) = accepting(shape) else {
-        panic!(rt; "nothing is known");
-    };
-    let Some(shape) = dating(&tables, shape) else {
-        panic!(rt; "nothing is known");
-    };
+    let shape = some(rt, accepting(shape));
+    let shape = some(rt, dating(tables, shape));
     holds(rt, shape.stacks.places.is_empty());
     holds(rt, accepting(shape).is_none());
 }
 
 #[test]
 fn what_is_given(rt: HostRuntime) {
-    given(&rt, rt.alloc());
+    given(&rt, rt.alloc(), &tables(&rt, rt.alloc()));
     holds(&rt, showing(Shape::empty(rt.alloc())).line == 0);
 }

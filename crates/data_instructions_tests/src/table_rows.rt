@@ -2,8 +2,8 @@
 use crate::asserted::holds;
 use crate::samples::tables;
 use data_instructions::{
-    Calculation, DataInstruction, Gather, ItemIndex, LiteralSender, NumberIndex, SenderIndex, Test,
-    TextIndex,
+    Calculation, DataInstruction, DataTables, Gather, ItemIndex, LiteralSender, NumberIndex,
+    SenderIndex, Test, TextIndex,
 };
 use items::Taken;
 use sqlite_items::Items;
@@ -34,34 +34,46 @@ fn short_area(rt: &impl Abort, alloc: Global) {
     holds(rt, !tables.are_in_order());
 }
 
-fn names(rt: &impl Abort, alloc: Global) {
-    let tables = tables(rt, alloc);
+/// Asserts whether an instruction names entries of these tables.
+fn names(rt: &impl Abort, tables: &DataTables, instruction: DataInstruction, is_so: bool) {
+    holds(rt, instruction.names_entries(tables) == is_so);
+}
+
+fn names_places_and_numbers(rt: &impl Abort, tables: &DataTables, number: u32) {
+    let item = ItemIndex { number };
+    names(rt, tables, DataInstruction::Place { item }, number < 12);
+    let is_number = number < 12;
+    let number = NumberIndex { number };
+    names(rt, tables, DataInstruction::Literal { number }, is_number);
+}
+
+fn names_literals(rt: &impl Abort, tables: &DataTables, number: u32) {
+    let literal = SenderIndex { number };
+    let sent = DataInstruction::TakeLiteral { literal };
+    names(rt, tables, sent, number < 7);
+    let equal = DataInstruction::Test(Test::OrEqual { literal });
+    names(rt, tables, equal, number < 7);
+    let within = DataInstruction::Test(Test::OrWithin { first: literal });
+    names(rt, tables, within, number < 6);
+}
+
+fn names_texts(rt: &impl Abort, tables: &DataTables, number: u32) {
+    let text = TextIndex { number };
+    let shown = DataInstruction::AppendLiteral { text };
+    names(rt, tables, shown, number < 6);
+    names(rt, tables, DataInstruction::Overlay { text }, number < 5);
+    let up_to = DataInstruction::Gather(Gather::UpToText { delimiter: text });
+    names(rt, tables, up_to, number < 6);
+}
+
+fn each_number(rt: &impl Abort, tables: &DataTables) {
     for number in 0..14 {
-        let item = ItemIndex { number };
-        let place = DataInstruction::Place { item };
-        holds(rt, place.names_entries(&tables) == (number < 12));
-        let literal = SenderIndex { number };
-        let sent = DataInstruction::TakeLiteral { literal };
-        holds(rt, sent.names_entries(&tables) == (number < 7));
-        let equal = DataInstruction::Test(Test::OrEqual { literal });
-        holds(rt, equal.names_entries(&tables) == (number < 7));
-        let within = DataInstruction::Test(Test::OrWithin { first: literal });
-        holds(rt, within.names_entries(&tables) == (number < 6));
-        let text = TextIndex { number };
-        let shown = DataInstruction::AppendLiteral { text };
-        holds(rt, shown.names_entries(&tables) == (number < 6));
-        let overlay = DataInstruction::Overlay { text };
-        holds(rt, overlay.names_entries(&tables) == (number < 5));
-        let up_to = DataInstruction::Gather(Gather::UpToText { delimiter: text });
-        holds(rt, up_to.names_entries(&tables) == (number < 6));
-        let number = NumberIndex { number };
-        let pushed = DataInstruction::Literal { number };
-        holds(rt, pushed.names_entries(&tables) == (number.number < 12));
+        names_places_and_numbers(rt, tables, number);
+        names_literals(rt, tables, number);
+        names_texts(rt, tables, number);
     }
-    holds(
-        rt,
-        DataInstruction::Calculate(Calculation::Add).names_entries(&tables),
-    );
+    let add = DataInstruction::Calculate(Calculation::Add);
+    names(rt, tables, add, true);
 }
 
 #[test]
@@ -72,5 +84,5 @@ fn tables_in_order(rt: HostRuntime) {
 
 #[test]
 fn entries(rt: HostRuntime) {
-    names(&rt, rt.alloc());
+    each_number(&rt, &tables(&rt, rt.alloc()));
 }

@@ -23,19 +23,26 @@ impl Counter {
 /// The two parts of a word at a byte.
 fn split(word: &[u8], at: u8) -> Option<(&[u8], &[u8])> {
     let end = word.iter().position(|byte| *byte == at)?;
-    Some((word.get(..end)?, word.get(end.wrapping_add(1)..)?))
+    match (word.get(..end), word.get(end.wrapping_add(1)..)) {
+        (Some(front), Some(back)) => Some((front, back)),
+        _ => None,
+    }
 }
 
 fn read_counter(word: &[u8]) -> Option<Counter> {
     let (name, rest) = split(word, b'=')?;
     let (start, rest) = split(rest, b'+')?;
     let (step, bound) = split(rest, b'%')?;
-    Some(Counter {
-        letter: *name.first()?,
-        value: number_of(start)?,
-        step: number_of(step)?,
-        bound: number_of(bound)?,
-    })
+    let numbers = (number_of(start), number_of(step), number_of(bound));
+    match (name, numbers) {
+        ([letter, ..], (Some(value), Some(step), Some(bound))) => Some(Counter {
+            letter: *letter,
+            value,
+            step,
+            bound,
+        }),
+        _ => None,
+    }
 }
 
 /// The counters that a row names.
@@ -53,11 +60,19 @@ pub fn read_counters(alloc: Global, mut words: Words<'_>) -> Result<Vec<Counter>
 
 /// The counter that `{x}` names at a place of a text.
 fn counter_at(text: &[u8], at: usize, counters: &[Counter]) -> Option<Counter> {
-    if text.get(at) != Some(&b'{') || text.get(at.wrapping_add(2)) != Some(&b'}') {
-        return None;
+    match text.get(at..) {
+        Some([b'{', letter, b'}', ..]) => counter_of(*letter, counters),
+        _ => None,
     }
-    let letter = *text.get(at.wrapping_add(1))?;
-    counters.iter().find(|one| one.letter == letter).copied()
+}
+
+fn counter_of(letter: u8, counters: &[Counter]) -> Option<Counter> {
+    for counter in counters {
+        if counter.letter == letter {
+            return Some(*counter);
+        }
+    }
+    None
 }
 
 /// A text with values in place of the counters.

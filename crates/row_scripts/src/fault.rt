@@ -14,6 +14,14 @@ pub enum Fault {
 }
 
 impl Fault {
+    /// The answer that was found, if there is memory for its words.
+    pub fn found(words: Result<String, AllocError>) -> Fault {
+        match words {
+            Ok(found) => Fault::Differs(found),
+            Err(_) => Fault::Memory,
+        }
+    }
+
     /// The reason in words.
     pub fn into_words(self, alloc: Global) -> Result<String, AllocError> {
         match self {
@@ -22,6 +30,16 @@ impl Fault {
             Fault::Refused(number) => format!(in alloc; "refused {number}"),
             Fault::Differs(found) => Ok(found),
         }
+    }
+}
+
+/// A value, if what was done with it worked.
+///
+/// A caller that returns at the error drops the value itself, on a path for each form of the value. Here dropping is one call.
+pub fn if_done<T: Drop>(value: T, done: Result<(), Fault>) -> Result<T, Fault> {
+    match done {
+        Ok(()) => Ok(value),
+        Err(fault) => Err(fault),
     }
 }
 

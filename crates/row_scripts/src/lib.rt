@@ -11,9 +11,9 @@ mod texts;
 mod words;
 
 pub use cases::Case;
-pub use fault::Fault;
+pub use fault::{Fault, if_done};
 pub use repeats::Row;
 pub use scripts::{CheckCase, run_scripts};
 pub use tally::{Difference, Tally};
 pub use texts::{escape, put_text, unquote};
-pub use words::{Words, number_of};
+pub use words::{Words, look_up, number_of};

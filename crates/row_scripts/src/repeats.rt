@@ -3,7 +3,7 @@
 use crate::counters::{Counter, read_counters, replace_counters};
 use crate::fault::Fault;
 use crate::words::Words;
-use std::alloc::Global;
+use std::alloc::{AllocError, Global};
 
 /// A row, and the number of its line.
 #[derive(Drop)]
@@ -22,18 +22,23 @@ fn read_repeat(alloc: Global, row: &[u8]) -> Result<(u64, Vec<Counter>), Fault> 
     }
 }
 
+/// A row as a turn has it.
+fn row_of_turn(alloc: Global, row: &Row, counters: &[Counter]) -> Result<Row, AllocError> {
+    let line = row.line;
+    let text = replace_counters(alloc, &row.text, counters)?;
+    Ok(Row { line, text })
+}
+
 /// The rows of one turn.
 fn put_turn(
     alloc: Global,
     body: &[Row],
     counters: &[Counter],
     rows: &mut Vec<Row>,
-) -> Result<(), Fault> {
+) -> Result<(), AllocError> {
     for row in body.iter() {
-        rows.push(Row {
-            line: row.line,
-            text: replace_counters(alloc, &row.text, counters)?,
-        })?;
+        let row = row_of_turn(alloc, row, counters)?;
+        rows.push(row)?;
     }
     Ok(())
 }

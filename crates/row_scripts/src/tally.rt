@@ -45,6 +45,19 @@ impl Tally {
         println!(rt; "{script}:{line}: over {over}: {found}")
     }
 
+    /// One more row of a script differs for this reason, over something. It is printed.
+    pub fn fail_at<R: Print + AllocGlobal>(
+        &mut self,
+        rt: &R,
+        script: &str,
+        over: &str,
+        line: u32,
+        fault: Fault,
+    ) -> io::Result<()> {
+        let difference = Difference::at(rt.alloc(), line, fault)?;
+        self.fail(rt, script, over, &difference)
+    }
+
     /// The last line of a program.
     pub fn print<R: Print>(&self, rt: &R) -> io::Result<()> {
         let passed = self.passed;

@@ -52,22 +52,27 @@ pub fn put_text(bytes: &mut [u8], place: usize, text: &[u8]) -> Result<(), Fault
     Ok(())
 }
 
-fn digit(byte: Option<&u8>) -> Option<u8> {
+fn digit(byte: u8) -> Option<u8> {
     match byte {
-        Some(byte @ b'0'..=b'9') => Some(byte.wrapping_sub(b'0')),
-        Some(byte @ b'a'..=b'f') => Some(byte.wrapping_sub(b'a').wrapping_add(10)),
+        b'0'..=b'9' => Some(byte.wrapping_sub(b'0')),
+        b'a'..=b'f' => Some(byte.wrapping_sub(b'a').wrapping_add(10)),
         _ => None,
     }
 }
 
 /// The byte of `\xNN` at a place.
 fn byte_of_escape(text: &[u8], at: usize) -> Option<u8> {
-    if text.get(at) != Some(&b'\\') || text.get(at.wrapping_add(1)) != Some(&b'x') {
-        return None;
+    match text.get(at..) {
+        Some([b'\\', b'x', high, low, ..]) => byte_of_digits(*high, *low),
+        _ => None,
     }
-    let high = digit(text.get(at.wrapping_add(2)))?;
-    let low = digit(text.get(at.wrapping_add(3)))?;
-    Some(high.wrapping_mul(16).wrapping_add(low))
+}
+
+fn byte_of_digits(high: u8, low: u8) -> Option<u8> {
+    match (digit(high), digit(low)) {
+        (Some(high), Some(low)) => Some(high.wrapping_mul(16).wrapping_add(low)),
+        _ => None,
+    }
 }
 
 fn digit_of(value: u8) -> u8 {

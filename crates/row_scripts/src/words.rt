@@ -66,6 +66,22 @@ impl<'a> Words<'a> {
         number_of(word)
     }
 
+    /// The next word as a number of 32 bits.
+    pub fn small_number(&mut self) -> Option<u32> {
+        match self.number() {
+            Some(number) => u32::try_from(number).ok(),
+            None => None,
+        }
+    }
+
+    /// The next two words as such numbers.
+    pub fn two_numbers(&mut self) -> Option<(u32, u32)> {
+        match (self.small_number(), self.small_number()) {
+            (Some(one), Some(other)) => Some((one, other)),
+            _ => None,
+        }
+    }
+
     /// What is left of the row.
     pub fn rest(&self) -> &'a [u8] {
         self.rest
@@ -75,6 +91,16 @@ impl<'a> Words<'a> {
     pub fn is_done(&self) -> bool {
         self.ahead().is_none()
     }
+}
+
+/// What a table has for a word.
+pub fn look_up<T: Copy>(table: &[(&[u8], T)], word: &[u8]) -> Option<T> {
+    for (name, found) in table {
+        if *name == word {
+            return Some(*found);
+        }
+    }
+    None
 }
 
 /// The number that digits spell.

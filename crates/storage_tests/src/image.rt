@@ -118,24 +118,26 @@ pub fn blank_station(rt: &impl Abort, alloc: Global, sectors: u32) -> MemoryStat
 /// A station with a volume of generation 1, by the description of the format: page 1 in sector 2, page 1,024 in sector 3, their maps
 /// in the sectors 4 and 5, with the first mark. The volume was empty in the generation before.
 pub fn station_of_format(rt: &impl Abort, alloc: Global) -> MemoryStation {
+    let sectors = [
+        root(b"COBVOL01", 0, SECTORS, 0, &[0, 0]),
+        root(b"COBVOL01", 1, SECTORS, 1, &[4, 5]),
+        filled(1),
+        filled(24),
+        map_of(1, 2),
+        map_of(0, 3),
+    ];
     let mut station = blank_station(rt, alloc, SECTORS);
-    put_sector(
-        rt,
-        &mut station,
-        0,
-        &root(b"COBVOL01", 0, SECTORS, 0, &[0, 0]),
-    );
-    put_sector(
-        rt,
-        &mut station,
-        1,
-        &root(b"COBVOL01", 1, SECTORS, 1, &[4, 5]),
-    );
-    put_sector(rt, &mut station, 2, &filled(1));
-    put_sector(rt, &mut station, 3, &filled(24));
-    put_sector(rt, &mut station, 4, &map_of(1, 2));
-    put_sector(rt, &mut station, 5, &map_of(0, 3));
+    put_sectors(rt, &mut station, &sectors);
     station
+}
+
+/// Writes the first sectors of a station.
+fn put_sectors(rt: &impl Abort, station: &mut MemoryStation, sectors: &[[u8; 4096]]) {
+    let mut sector = 0u32;
+    for bytes in sectors {
+        put_sector(rt, station, sector, bytes);
+        sector = sector.wrapping_add(1);
+    }
 }
 
 /// Puts a number at a place of a sector, if it fits there.

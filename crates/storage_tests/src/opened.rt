@@ -6,10 +6,11 @@ use crate::image::{alike, blank_station, changed, filled, image_of, sector_bytes
 use pages::{PageMap, PagesError, VolumeMark, format};
 use station::{Device, MemoryStation};
 use std::alloc::Global;
+use std::mem;
 use std::process::Abort;
 
 /// How often a station was to read, to write and to sync.
-#[derive(Clone, Copy, PartialEq, Eq)]
+#[derive(Clone, Copy)]
 pub struct Counts {
     reads: u64,
     writes: u64,
@@ -37,12 +38,17 @@ impl Volume {
         Volume::open(rt, alloc, new_volume(rt, alloc, sectors))
     }
 
+    /// Closes the volume. At the end of a test each of its parts would be a step of its own.
+    pub fn close(self) {
+        drop(self);
+    }
+
     /// Opens the volume again with a cache of so many pages, from 1 to 4,096.
     pub fn reopen(&mut self, rt: &impl Abort, alloc: Global, capacity: usize) {
         assert!(rt; 1 <= capacity);
         assert!(rt; capacity <= 4096);
         match PageMap::open(alloc, &mut self.station, capacity) {
-            Ok(pages) => self.pages = pages,
+            Ok(pages) => drop(mem::replace(&mut self.pages, pages)),
             Err(error) => panic!(rt; "open: {error:?}"),
         }
     }

@@ -1,7 +1,7 @@
 //! Rows of the cache of pages: how often the device is read.
 use crate::asserted::{same, same_in};
 use crate::opened::{Volume, works};
-use crate::steps::{Step, take_steps};
+use crate::steps::{Step, take_last_steps, take_steps};
 use std::alloc::Global;
 use std::process::Abort;
 
@@ -31,7 +31,9 @@ fn reads_of(rt: &impl Abort, volume: &mut Volume, numbers: &[u8; 5]) -> u64 {
 // The same of three pages that were just opened.
 fn reads_in(rt: &impl Abort, alloc: Global, capacity: usize, numbers: &[u8; 5]) -> u64 {
     let mut volume = three_pages(rt, alloc, capacity);
-    reads_of(rt, &mut volume, numbers)
+    let found = reads_of(rt, &mut volume, numbers);
+    volume.close();
+    found
 }
 
 // The page that was used least lately gives its place away.
@@ -65,7 +67,9 @@ fn loads_of(rt: &impl Abort, volume: &mut Volume, numbers: &[u8; 5]) -> u64 {
 // The same of three pages that were just opened.
 fn loads_in(rt: &impl Abort, alloc: Global, capacity: usize, numbers: &[u8; 5]) -> u64 {
     let mut volume = three_pages(rt, alloc, capacity);
-    loads_of(rt, &mut volume, numbers)
+    let found = loads_of(rt, &mut volume, numbers);
+    volume.close();
+    found
 }
 
 // A page that is brought into memory is seen there. If it is there already, its use isn't noted.
@@ -101,13 +105,13 @@ fn a_noted_page_stays(rt: HostRuntime) {
         Step::Cached(2),
         Step::Seen(2, Some(22)),
     ];
-    take_steps(&rt, rt.alloc(), &mut volume, &steps);
+    take_last_steps(&rt, rt.alloc(), volume, &steps);
 }
 
 // Pages that are allocated or edited past the cache stay out of it after a commit. Allocated and edited pages enter it.
 #[test]
 fn pages_past_the_cache_stay_out(rt: HostRuntime) {
-    let mut volume = Volume::empty(&rt, rt.alloc(), 1024);
+    let volume = Volume::empty(&rt, rt.alloc(), 1024);
     let steps = [
         Step::AllocatePast(1, 11),
         Step::EditPast(2, 12),
@@ -126,14 +130,14 @@ fn pages_past_the_cache_stay_out(rt: HostRuntime) {
         Step::Seen(3, Some(0)),
         Step::Seen(4, Some(14)),
     ];
-    take_steps(&rt, rt.alloc(), &mut volume, &steps);
+    take_last_steps(&rt, rt.alloc(), volume, &steps);
 }
 
 // A page of the cache that is edited past it leaves it. The last edit before a commit decides whether the page enters the cache. Each
 // page has its own bytes, whatever place in memory they were put into.
 #[test]
 fn the_last_edit_decides(rt: HostRuntime) {
-    let mut volume = three_pages(&rt, rt.alloc(), 3);
+    let volume = three_pages(&rt, rt.alloc(), 3);
     let steps = [
         Step::Has(1, Some(1)),
         Step::Has(2, Some(2)),
@@ -153,5 +157,5 @@ fn the_last_edit_decides(rt: HostRuntime) {
         Step::Has(2, Some(32)),
         Step::Cached(3),
     ];
-    take_steps(&rt, rt.alloc(), &mut volume, &steps);
+    take_last_steps(&rt, rt.alloc(), volume, &steps);
 }

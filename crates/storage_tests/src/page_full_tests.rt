@@ -1,7 +1,7 @@
 //! Rows of volumes that are full: how many pages they take, and that a refusal doesn't call the device.
 use crate::asserted::same;
 use crate::opened::Volume;
-use crate::steps::{Step, take_steps};
+use crate::steps::{Step, take_last_steps, take_steps};
 use pages::PagesError;
 use std::alloc::Global;
 use std::process::Abort;
@@ -18,7 +18,7 @@ fn volume_of(rt: &impl Abort, alloc: Global, end: u32) -> Volume {
 // 1,022 sectors are free: 1,021 pages and their map are the most that they take.
 #[test]
 fn the_largest_first_commit(rt: HostRuntime) {
-    let mut volume = Volume::empty(&rt, rt.alloc(), 1024);
+    let volume = Volume::empty(&rt, rt.alloc(), 1024);
     let steps = [
         Step::EditAll(1, 1023, 3),
         Step::Changed(1022),
@@ -28,13 +28,13 @@ fn the_largest_first_commit(rt: HostRuntime) {
         Step::Commit(1023, 2),
         Step::Free(0),
     ];
-    take_steps(&rt, rt.alloc(), &mut volume, &steps);
+    take_last_steps(&rt, rt.alloc(), volume, &steps);
 }
 
 // With no sector free neither an edited page nor a released one can be committed; the page of the catalog's root can.
 #[test]
 fn no_sector_is_free(rt: HostRuntime) {
-    let mut volume = volume_of(&rt, rt.alloc(), 1022);
+    let volume = volume_of(&rt, rt.alloc(), 1022);
     let steps = [
         Step::Edit(1, 1),
         Step::Full,
@@ -46,13 +46,13 @@ fn no_sector_is_free(rt: HostRuntime) {
         Step::Commit(1, 2),
         Step::Free(0),
     ];
-    take_steps(&rt, rt.alloc(), &mut volume, &steps);
+    take_last_steps(&rt, rt.alloc(), volume, &steps);
 }
 
 // With one sector free an edited page can't be committed, because its map needs one too; a released page can.
 #[test]
 fn one_sector_is_free(rt: HostRuntime) {
-    let mut volume = volume_of(&rt, rt.alloc(), 1021);
+    let volume = volume_of(&rt, rt.alloc(), 1021);
     let steps = [
         Step::Edit(1, 1),
         Step::Full,
@@ -64,7 +64,7 @@ fn one_sector_is_free(rt: HostRuntime) {
         Step::Commit(3, 2),
         Step::Free(2),
     ];
-    take_steps(&rt, rt.alloc(), &mut volume, &steps);
+    take_last_steps(&rt, rt.alloc(), volume, &steps);
 }
 
 // 1,024 sectors give the page numbers 1 to 1,023, each of which is allocated once.
@@ -75,4 +75,5 @@ fn no_page_number_is_left(rt: HostRuntime) {
     same(&rt, volume.allocate(), Err(PagesError::Full));
     same(&rt, volume.allocate_past(1), Err(PagesError::Full));
     same(&rt, PagesError::Full.number(), 81);
+    volume.close();
 }

@@ -2,7 +2,7 @@
 use crate::asserted::{holds, same, same_in};
 use crate::image::{SECTORS, filled, map_of, root, sector_bytes, station_of_format, word_at};
 use crate::opened::{Volume, counts_of, new_volume, works};
-use crate::steps::{Step, take_steps};
+use crate::steps::{Step, take_last_steps, take_steps};
 use pages::{PagesError, VolumeMark};
 use std::alloc::Global;
 use std::process::Abort;
@@ -38,6 +38,7 @@ fn a_new_volume(rt: HostRuntime) {
     same(&rt, volume.since(before), (2, 0, 1));
     has_figures(&rt, &volume, [1025, 1023, 2048, 0]);
     is_untouched(&rt, &volume);
+    volume.close();
 }
 
 // The two sectors that a first commit of page 5 takes, the lower first: the page's and its map's.
@@ -47,7 +48,9 @@ fn placed(rt: &impl Abort, alloc: Global) -> (u32, u32) {
     take_steps(rt, alloc, &mut volume, &steps);
     let map = number_in(rt, &mut volume, 1, 28);
     let page = number_in(rt, &mut volume, map, 20);
-    (map.min(page), map.max(page))
+    let found = (map.min(page), map.max(page));
+    volume.close();
+    found
 }
 
 // A first commit of page 5, stopped at a call: its answer, its writes and syncs, and the sectors that it changed.
@@ -67,7 +70,20 @@ fn stopped_commit(
     same_in(rt, &call, volume.commit(rt), answer);
     same_in(rt, &call, volume.since(before), calls);
     volume.fail_at(1_000_000);
-    let now = volume.changed(rt, alloc, &image);
+    has_changed(rt, alloc, &mut volume, &image, call, sectors);
+    volume.close();
+}
+
+// Asserts which sectors are not as they were, after a call.
+fn has_changed(
+    rt: &impl Abort,
+    alloc: Global,
+    volume: &mut Volume,
+    image: &[[u8; 4096]],
+    call: u64,
+    sectors: &[u32],
+) {
+    let now = volume.changed(rt, alloc, image);
     same_in(rt, &call, now.as_slice(), sectors);
 }
 
@@ -108,12 +124,13 @@ fn bytes_of_a_commit(rt: HostRuntime) {
     has_bytes(&rt, &mut volume, map, &map_of(5, page));
     has_bytes(&rt, &mut volume, page, &filled(7));
     has_bytes(&rt, &mut volume, 0, &root(b"COBVOL02", 0, 1024, 0, &[0]));
+    volume.close();
 }
 
 // If the catalog's page alone changed, the root alone is written. With nothing changed the device isn't called.
 #[test]
 fn a_commit_of_the_catalog(rt: HostRuntime) {
-    let mut volume = Volume::empty(&rt, rt.alloc(), 1024);
+    let volume = Volume::empty(&rt, rt.alloc(), 1024);
     let steps = [
         Step::Catalog(9),
         Step::Commit(1, 2),
@@ -122,7 +139,7 @@ fn a_commit_of_the_catalog(rt: HostRuntime) {
         Step::Catalog(9),
         Step::Commit(0, 0),
     ];
-    take_steps(&rt, rt.alloc(), &mut volume, &steps);
+    take_last_steps(&rt, rt.alloc(), volume, &steps);
 }
 
 // A volume that was written by the description of the format. An opening syncs, and reads the two roots and the two maps. Two roots,
@@ -131,7 +148,7 @@ fn a_commit_of_the_catalog(rt: HostRuntime) {
 fn a_volume_of_the_format(rt: HostRuntime) {
     let station = station_of_format(&rt, rt.alloc());
     let before = counts_of(&station);
-    let mut volume = Volume::open(&rt, rt.alloc(), station);
+    let volume = Volume::open(&rt, rt.alloc(), station);
     same(&rt, volume.since(before), (4, 0, 1));
     has_figures(&rt, &volume, [1500, 1494, 2048, 1]);
     let steps = [
@@ -140,7 +157,7 @@ fn a_volume_of_the_format(rt: HostRuntime) {
         Step::Has(2, None),
         Step::Has(2047, None),
     ];
-    take_steps(&rt, rt.alloc(), &mut volume, &steps);
+    take_last_steps(&rt, rt.alloc(), volume, &steps);
 }
 
 // If the mark alone became the second, the root alone is written, and the root before it keeps the first mark.
@@ -155,12 +172,13 @@ fn a_commit_of_the_mark(rt: HostRuntime) {
     has_bytes(&rt, &mut volume, 1, &older);
     let newest = root(b"COBVOL02", 2, SECTORS, 1, &[4, 5]);
     has_bytes(&rt, &mut volume, 0, &newest);
+    volume.close();
 }
 
 // A page that is released frees its sector by a commit; a map of zeros takes none.
 #[test]
 fn a_page_is_released(rt: HostRuntime) {
-    let mut volume = Volume::empty(&rt, rt.alloc(), 1024);
+    let volume = Volume::empty(&rt, rt.alloc(), 1024);
     let steps = [
         Step::EditAll(1, 3, 1),
         Step::Commit(4, 2),
@@ -172,13 +190,13 @@ fn a_page_is_released(rt: HostRuntime) {
         Step::Commit(1, 2),
         Step::Free(1022),
     ];
-    take_steps(&rt, rt.alloc(), &mut volume, &steps);
+    take_last_steps(&rt, rt.alloc(), volume, &steps);
 }
 
 // A page of each of two maps, and the sectors of both.
 #[test]
 fn pages_of_two_maps(rt: HostRuntime) {
-    let mut volume = Volume::empty(&rt, rt.alloc(), 2048);
+    let volume = Volume::empty(&rt, rt.alloc(), 2048);
     let steps = [
         Step::EditAll(1023, 1025, 3),
         Step::Commit(5, 2),
@@ -186,5 +204,5 @@ fn pages_of_two_maps(rt: HostRuntime) {
         Step::Commit(3, 2),
         Step::Free(2041),
     ];
-    take_steps(&rt, rt.alloc(), &mut volume, &steps);
+    take_last_steps(&rt, rt.alloc(), volume, &steps);
 }

@@ -38,19 +38,34 @@ fn has_told(rt: &impl Abort, station: &MemoryStation, expected: &[u8]) {
     }
 }
 
+// A sector that is written, read and synced.
+fn sectors_work(rt: &impl Abort, station: &mut MemoryStation) {
+    put_sector(rt, station, 3, &filled(1));
+    same(rt, sector_bytes(rt, station, 3)[0], 1);
+    same(rt, station.sync(), Ok(()));
+}
+
+// The one line of the console.
+fn lines_work(rt: &impl Abort, station: &mut MemoryStation) {
+    let mut line = *b"....";
+    same(rt, station.line(&mut line), Ok(Some(2)));
+    same(rt, line, *b"AB..");
+    same(rt, station.line(&mut line), Ok(None));
+}
+
+// A text and a note.
+fn events_work(rt: &impl Abort, station: &mut MemoryStation) {
+    same(rt, station.show(b"one"), Ok(()));
+    same(rt, station.note(NOTE), Ok(()));
+    has_told(rt, station, b"one");
+}
+
 #[test]
 fn each_call_works(rt: HostRuntime) {
     let mut station = fresh_station(&rt, rt.alloc());
-    let mut line = *b"....";
-    put_sector(&rt, &mut station, 3, &filled(1));
-    same(&rt, sector_bytes(&rt, &mut station, 3)[0], 1);
-    same(&rt, station.sync(), Ok(()));
-    same(&rt, station.line(&mut line), Ok(Some(2)));
-    same(&rt, line, *b"AB..");
-    same(&rt, station.line(&mut line), Ok(None));
-    same(&rt, station.show(b"one"), Ok(()));
-    same(&rt, station.note(NOTE), Ok(()));
-    has_told(&rt, &station, b"one");
+    sectors_work(&rt, &mut station);
+    lines_work(&rt, &mut station);
+    events_work(&rt, &mut station);
     let calls = (station.reads(), station.writes(), station.syncs());
     same(&rt, (calls, station.refused()), ((1, 1, 1), 0));
 }

@@ -43,6 +43,13 @@ pub fn take_steps(rt: &impl Abort, alloc: Global, volume: &mut Volume, steps: &[
     }
 }
 
+/// Takes these steps, and closes the volume.
+pub fn take_last_steps(rt: &impl Abort, alloc: Global, volume: Volume, steps: &[Step]) {
+    let mut volume = volume;
+    take_steps(rt, alloc, &mut volume, steps);
+    volume.close();
+}
+
 fn take_step(rt: &impl Abort, alloc: Global, volume: &mut Volume, place: usize, step: Step) {
     match step {
         Step::Edit(page, byte) => works(rt, volume.edit(rt, page, byte)),

@@ -24,8 +24,9 @@ pub fn make(rt: &HostRuntime, path: &str, rows: u32) -> Result<()> {
     let volume = NewVolume::open(rt, path)?.fill(rt.alloc(), sectors, |_| {})?;
     let device = NotedDevice::new(rt.alloc(), volume, false);
     let mut sales = Sales::make(rt.alloc(), device, Order::Scattered)?;
-    ensure!(sales.fill(0, rows)?, "a row of that key was there");
-    Ok(())
+    let filled = sales.fill(0, rows);
+    drop(sales);
+    filled
 }
 
 /// Inserts so many rows after those that are there.
@@ -34,15 +35,27 @@ pub fn measure(rt: &HostRuntime, path: &str, rows: u32, count: u32, raw_path: &s
     let device = NotedDevice::new(rt.alloc(), volume, true);
     let raw = open_file(rt, raw_path)?;
     let mut sales = Sales::open(rt.alloc(), device, Order::Scattered)?;
+    let inserted = insert_each(rt, &mut sales, &raw, rows, count);
+    drop(sales);
+    inserted
+}
+
+fn insert_each(
+    rt: &HostRuntime,
+    sales: &mut Sales<NotedDevice>,
+    raw: &File,
+    rows: u32,
+    count: u32,
+) -> Result<()> {
     let mut beside = Beside {
         inserts: Vec::new(rt.alloc()),
         raw: Vec::new(rt.alloc()),
         steps: 0,
     };
     for n in rows..rows.saturating_add(count) {
-        insert_beside(rt, &mut sales, &raw, n, &mut beside)?;
+        insert_beside(rt, sales, raw, n, &mut beside)?;
     }
-    print(rt, beside)
+    print(rt, &mut beside)
 }
 
 /// Inserts, what was done again, and how many writes and syncs that was.
@@ -74,7 +87,7 @@ fn insert_beside(
 }
 
 /// Prints the middle one and the mean of both times, and the steps of a hundred inserts.
-fn print(rt: &HostRuntime, mut beside: Beside) -> Result<()> {
+fn print(rt: &HostRuntime, beside: &mut Beside) -> Result<()> {
     let (average, middle) = (mean(&beside.inserts), median(&mut beside.inserts)?);
     println!(rt; "insert {middle} {average}")?;
     let (average, middle) = (mean(&beside.raw), median(&mut beside.raw)?);

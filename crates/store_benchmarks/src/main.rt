@@ -35,18 +35,22 @@ fn number(words: &[String], place: usize) -> u32 {
     word(words, place).parse::<u32>().unwrap_or(0)
 }
 
-fn main(rt: HostRuntime) -> Result<()> {
-    let words: Vec<String> = std::env::args(&rt)?.collect(rt.alloc())?;
-    let path = word(&words, 2);
-    let rows = number(&words, 3);
-    match word(&words, 1) {
-        "" => println!(rt; "{USAGE}")?,
-        "make" => durable::make(&rt, path, rows)?,
-        "durable" => durable::measure(&rt, path, rows, number(&words, 4), word(&words, 5))?,
-        "renewal" => renewal::measure(&rt, path)?,
-        "cached" => cached::measure(&rt)?,
-        "growth" => growth::measure(&rt)?,
+/// Does what the words of a command line name.
+fn measure(rt: &HostRuntime, words: &[String]) -> Result<()> {
+    let path = word(words, 2);
+    let rows = number(words, 3);
+    match word(words, 1) {
+        "" => Ok(println!(rt; "{USAGE}")?),
+        "make" => durable::make(rt, path, rows),
+        "durable" => durable::measure(rt, path, rows, number(words, 4), word(words, 5)),
+        "renewal" => renewal::measure(rt, path),
+        "cached" => cached::measure(rt),
+        "growth" => growth::measure(rt),
         other => bail!("there is no measurement {other}"),
     }
-    Ok(())
+}
+
+fn main(rt: HostRuntime) -> Result<()> {
+    let words: Vec<String> = std::env::args(&rt)?.collect(rt.alloc())?;
+    measure(&rt, &words)
 }

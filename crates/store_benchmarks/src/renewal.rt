@@ -16,16 +16,17 @@ pub fn measure(rt: &HostRuntime, path: &str) -> Result<()> {
     let volume = HostVolume::open(rt, path, Access::ReadWrite)?;
     let device = NotedDevice::new(rt.alloc(), volume, true);
     let mut sales = Sales::open(rt.alloc(), device, Order::Scattered)?;
+    let measured = measure_sales(rt, &mut sales, before);
+    drop(sales);
+    measured
+}
+
+fn measure_sales(rt: &HostRuntime, sales: &mut Sales<NotedDevice>, before: u64) -> Result<()> {
     let free = sales.free_sectors();
     let opened = kibibytes(rt, NOW)?;
     let reads = sales.device.reads;
     sales.device.steps.clear();
-    forget_most(rt)?;
-    let worked = processor_time(rt)?;
-    let start = Instant::now(rt)?;
-    sales.create()?;
-    let time = since(rt, start)?;
-    let worked = processor_time(rt)?.saturating_sub(worked);
+    let (time, worked) = create(rt, sales)?;
     let most = kibibytes(rt, MOST)?;
     let given_up = sales.free_sectors().saturating_sub(free);
     let reads = sales.device.reads.saturating_sub(reads);
@@ -34,4 +35,14 @@ pub fn measure(rt: &HostRuntime, path: &str) -> Result<()> {
     println!(rt; "kibibytes {before} {opened} {most}")?;
     println!(rt; "sectors {given_up} reads {reads} steps {steps}")?;
     Ok(())
+}
+
+/// Makes the file anew: its time, and the processor's part of it.
+fn create(rt: &HostRuntime, sales: &mut Sales<NotedDevice>) -> Result<(u64, u64)> {
+    forget_most(rt)?;
+    let worked = processor_time(rt)?;
+    let start = Instant::now(rt)?;
+    sales.create()?;
+    let time = since(rt, start)?;
+    Ok((time, processor_time(rt)?.saturating_sub(worked)))
 }

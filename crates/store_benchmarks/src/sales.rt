@@ -2,6 +2,7 @@
 
 use crate::row::{KEY, Order, RECORD};
 use alternate_keys::{PagedStore, format};
+use anyhow::ensure;
 use records::{
     AlternateKey, FileSpec, KeyBound, KeyOfReference, KeyPlace, Organization, Outcome, Side, Store,
     StoreFault,
@@ -56,8 +57,13 @@ impl<D: Device + Drop> Sales<D> {
         }
         format(&mut device)?;
         let mut sales = Sales::open(alloc, device, order)?;
-        sales.create()?;
-        Ok(sales)
+        match sales.create() {
+            Ok(()) => Ok(sales),
+            Err(fault) => {
+                drop(sales);
+                Err(fault)
+            }
+        }
     }
 
     /// A file without rows, in place of the one that is there.
@@ -101,14 +107,12 @@ impl<D: Device + Drop> Sales<D> {
         Ok(found.is_some())
     }
 
-    /// Inserts rows from one number on, up to another.
-    pub fn fill(&mut self, from: u32, to: u32) -> Result<bool, StoreFault> {
+    /// Inserts rows from one number on, up to another, of which none is there.
+    pub fn fill(&mut self, from: u32, to: u32) -> anyhow::Result<()> {
         for n in from..to {
-            if !self.insert(n)? {
-                return Ok(false);
-            }
+            ensure!(self.insert(n)?, "a row of that key was there");
         }
-        Ok(true)
+        Ok(())
     }
 
     /// How many sectors are free.

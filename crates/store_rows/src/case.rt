@@ -1,7 +1,7 @@
 //! A case of file statements: the volumes that it runs over, its SELECTs and its rows.
 use crate::connectors::Kind;
-use row_scripts::{Fault, Row, Words};
-use std::alloc::Global;
+use row_scripts::{Fault, Row, Words, look_up};
+use std::alloc::{AllocError, Global};
 
 /// The kinds of volumes of a case that names none.
 const KINDS: [Kind; 4] = [
@@ -47,27 +47,73 @@ impl Case {
     }
 
     fn put(&mut self, alloc: Global, row: Row) -> Result<(), Fault> {
-        let mut words = Words::of(&row.text);
-        match words.word() {
-            Some(b"over") => self.put_kinds(words)?,
-            Some(b"blank") => self.is_blank = true,
-            Some(b"sectors") => self.sectors = words.number().unwrap_or(0) as usize,
-            Some(b"select") => self.selects.push(Vec::from_slice(alloc, words.rest())?)?,
-            _ => self.rows.push(row)?,
+        if !self.is_described(alloc, &row.text)? {
+            self.rows.push(row)?;
         }
+        Ok(())
+    }
+
+    /// Whether a row describes the case. If so, the case is as it says.
+    fn is_described(&mut self, alloc: Global, row: &[u8]) -> Result<bool, Fault> {
+        let mut words = Words::of(row);
+        let Some(head) = look_up(&HEADS, words.word().unwrap_or(b"")) else {
+            return Ok(false);
+        };
+        match head {
+            Head::Over => self.put_kinds(words)?,
+            Head::Blank => self.is_blank = true,
+            Head::Sectors => self.sectors = words.number().unwrap_or(0) as usize,
+            Head::Select => self.put_select(alloc, words.rest())?,
+        }
+        Ok(true)
+    }
+
+    fn put_select(&mut self, alloc: Global, row: &[u8]) -> Result<(), AllocError> {
+        let row = Vec::from_slice(alloc, row)?;
+        self.selects.push(row)?;
         Ok(())
     }
 
     fn put_kinds(&mut self, mut words: Words<'_>) -> Result<(), Fault> {
         for _ in 0..16 {
-            let Some(word) = words.word() else { break };
-            let kind = match word {
-                b"halves" => Kind::Halves,
-                b"earlier-trees" => Kind::EarlierTrees(words.number().unwrap_or(8) as usize),
-                _ => Kind::Trees(words.number().unwrap_or(8) as usize),
-            };
-            self.kinds.push(kind)?;
+            if words.is_done() {
+                break;
+            }
+            self.kinds.push(read_kind(&mut words))?;
         }
         Ok(())
+    }
+}
+
+/// The rows that describe a case.
+#[derive(Clone, Copy)]
+enum Head {
+    Over,
+    Blank,
+    Sectors,
+    Select,
+}
+
+const HEADS: [(&[u8], Head); 4] = [
+    (b"over", Head::Over),
+    (b"blank", Head::Blank),
+    (b"sectors", Head::Sectors),
+    (b"select", Head::Select),
+];
+
+/// `halves`, `earlier-trees N` or `trees N`
+fn read_kind(words: &mut Words<'_>) -> Kind {
+    if words.takes(b"halves") {
+        return Kind::Halves;
+    }
+    let is_earlier = words.takes(b"earlier-trees");
+    if !is_earlier {
+        words.word();
+    }
+    let cached = words.number().unwrap_or(8) as usize;
+    if is_earlier {
+        Kind::EarlierTrees(cached)
+    } else {
+        Kind::Trees(cached)
     }
 }

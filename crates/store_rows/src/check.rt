@@ -7,6 +7,9 @@ use row_scripts::{CheckCase, Difference, Fault, Row, Tally};
 use std::alloc::{AllocError, Global};
 use std::io;
 
+/// The volume of a row that belongs to no case.
+const ANY: &str = "any volume";
+
 /// Cases that are run over each of their volumes.
 pub struct EachVolume;
 
@@ -29,25 +32,42 @@ fn check_case<R: Print + AllocGlobal>(
     rows: row_scripts::Case,
     tally: &mut Tally,
 ) -> io::Result<()> {
-    let alloc = rt.alloc();
-    if let Some(line) = rows.wrong {
-        let wrong = Difference::at(alloc, line, Fault::Spelling("this is no row"))?;
-        tally.fail(rt, script, "any volume", &wrong)?;
+    let wrong = rows.wrong;
+    let rows = rows.into_rows();
+    if let Some(line) = wrong {
+        let fault = Fault::Spelling("this is no row");
+        tally.fail_at(rt, script, ANY, line, fault)?;
     }
-    let case = match Case::of(alloc, rows.into_rows()) {
-        Ok(case) => case,
-        Err(fault) => {
-            let wrong = Difference::at(alloc, 0, fault)?;
-            return tally.fail(rt, script, "any volume", &wrong);
-        }
-    };
+    match Case::of(rt.alloc(), rows) {
+        Ok(case) => check_over_each(rt, script, &case, tally),
+        Err(fault) => tally.fail_at(rt, script, ANY, 0, fault),
+    }
+}
+
+fn check_over_each<R: Print + AllocGlobal>(
+    rt: &R,
+    script: &str,
+    case: &Case,
+    tally: &mut Tally,
+) -> io::Result<()> {
     for kind in case.kinds().iter() {
-        if let Some(difference) = do_rows(alloc, &case, *kind, tally)? {
-            let over = name_of(alloc, *kind)?;
-            tally.fail(rt, script, over.as_str(), &difference)?;
-        }
+        check_over(rt, script, case, *kind, tally)?;
     }
     Ok(())
+}
+
+fn check_over<R: Print + AllocGlobal>(
+    rt: &R,
+    script: &str,
+    case: &Case,
+    kind: Kind,
+    tally: &mut Tally,
+) -> io::Result<()> {
+    let Some(difference) = do_rows(rt.alloc(), case, kind, tally)? else {
+        return Ok(());
+    };
+    let over = name_of(rt.alloc(), kind)?;
+    tally.fail(rt, script, over.as_str(), &difference)
 }
 
 /// Does the row at a place. A statement or `migrate` after the row `disturbed` is also disturbed at each of its calls.
@@ -60,7 +80,8 @@ fn do_row<'a>(
 ) -> Result<(), Fault> {
     if row.text.starts_with(b"disturbed") {
         run.row(&row.text)?;
-        *replays = Some(Replays::of(run, kind, place.saturating_add(1))?);
+        let begun = Replays::of(run, kind, place.saturating_add(1))?;
+        drop(replays.replace(begun));
         return Ok(());
     }
     match replays {
@@ -106,9 +127,22 @@ fn do_rows(
         Err(fault) => return Ok(Some(Difference::at(alloc, 0, fault)?)),
     };
     let mut replays = None;
+    let found = first_difference(&mut run, kind, &mut replays, tally);
+    drop(replays);
+    drop(run);
+    found
+}
+
+fn first_difference<'a>(
+    run: &mut Run<'a>,
+    kind: Kind,
+    replays: &mut Option<Replays<'a>>,
+    tally: &mut Tally,
+) -> Result<Option<Difference>, AllocError> {
+    let case = run.case;
     for (place, row) in case.rows.iter().enumerate() {
-        if let Err(fault) = do_row(&mut run, kind, place, row, &mut replays) {
-            return Ok(Some(Difference::at(alloc, row.line, fault)?));
+        if let Err(fault) = do_row(run, kind, place, row, replays) {
+            return Ok(Some(Difference::at(run.alloc, row.line, fault)?));
         }
         tally.pass();
     }

@@ -2,7 +2,7 @@
 ghost use Rattle.std.specs.Prelude.{◌≡◌, IfOk};
 
 use crate::answer::Answer;
-use crate::statement::Statement;
+use crate::statement::FileCall;
 use alternate_keys::PagedStore;
 use file_verbs::Connectors;
 use half_store::HalfStore;
@@ -12,7 +12,7 @@ use station::{Device, MemoryStation};
 use std::alloc::Global;
 
 /// The kind of a volume: halves, or trees with so many pages in memory, with the mark of new volumes or with the earlier one.
-#[derive(Clone, Copy, PartialEq, Eq)]
+#[derive(Clone, Copy)]
 pub enum Kind {
     Halves,
     Trees(usize),
@@ -68,18 +68,18 @@ impl Verbs {
         }
     }
 
-    /// Does a statement on its record and number.
+    /// Does a statement on a record and a number.
     pub fn perform(
         &mut self,
         station: &mut MemoryStation,
-        statement: &Statement,
+        call: FileCall,
         record: &mut [u8],
         number: &mut u64,
     ) -> Result<Answer, Fault> {
         match self {
             Verbs::Closed => Err(Fault::Spelling("the volume isn't open")),
-            Verbs::Halves(over) => over.perform(station, statement, record, number),
-            Verbs::Trees(over) => over.perform(station, statement, record, number),
+            Verbs::Halves(over) => over.perform(station, call, record, number),
+            Verbs::Trees(over) => over.perform(station, call, record, number),
         }
     }
 }
@@ -88,12 +88,12 @@ impl OverHalves {
     fn perform(
         &mut self,
         station: &mut MemoryStation,
-        statement: &Statement,
+        call: FileCall,
         record: &mut [u8],
         number: &mut u64,
     ) -> Result<Answer, Fault> {
         let sectors = self.sectors;
-        perform_over(&mut self.all, sectors, station, statement, record, number)
+        perform_over(&mut self.all, sectors, station, call, record, number)
     }
 }
 
@@ -101,12 +101,12 @@ impl OverTrees {
     fn perform(
         &mut self,
         station: &mut MemoryStation,
-        statement: &Statement,
+        call: FileCall,
         record: &mut [u8],
         number: &mut u64,
     ) -> Result<Answer, Fault> {
         let sectors = self.sectors;
-        perform_over(&mut self.all, sectors, station, statement, record, number)
+        perform_over(&mut self.all, sectors, station, call, record, number)
     }
 }
 
@@ -158,12 +158,12 @@ fn connect<T: Store + Drop>(
     Ok(all)
 }
 
-/// Does a statement on its record and number, on a volume of so many sectors; or refuses a station that has fewer.
+/// Does a statement on a record and a number, on a volume of so many sectors; or refuses a station that has fewer.
 fn perform_over<T: Store + Drop>(
     all: &mut Connectors<T>,
     sectors: u32,
     station: &mut MemoryStation,
-    statement: &Statement,
+    call: FileCall,
     record: &mut [u8],
     number: &mut u64,
 ) -> Result<Answer, Fault>
@@ -173,10 +173,10 @@ fn perform_over<T: Store + Drop>(
     if sectors > station.count() {
         return Err(refusal(StoreFault::Damaged));
     }
-    if !all.accepts(statement.select, statement.verb, record.len()) {
+    if !all.accepts(call.select, call.verb, record.len()) {
         return Err(Fault::Spelling("the file has no such key"));
     }
-    match all.perform(station, statement.select, statement.verb, record, number) {
+    match all.perform(station, call.select, call.verb, record, number) {
         Ok(status) => Ok(Answer::Status(status.bytes())),
         Err(fault) => Ok(Answer::Refused(u64::from(fault.number()))),
     }

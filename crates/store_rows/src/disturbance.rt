@@ -8,9 +8,10 @@
 use crate::answer::{Answer, DEVICE, SPENT};
 use crate::case::Case;
 use crate::connectors::Kind;
+use crate::effect::Effect;
 use crate::images::Images;
-use crate::run::{Effect, Run};
-use crate::statement::{Statement, is_statement};
+use crate::run::Run;
+use crate::statement::{FileCall, Statement, is_statement};
 use crate::volume::Volume;
 use records::{OpenMode, Verb};
 use row_scripts::Fault;
@@ -51,8 +52,13 @@ impl<'a> Replays<'a> {
     pub fn of(run: &Run<'a>, kind: Kind, start: usize) -> Result<Replays<'a>, Fault> {
         let sectors = run.saved_sectors();
         let one = Run::closed(run.alloc, run.case, kind, sectors)?;
-        let other = Run::closed(run.alloc, run.case, kind, sectors)?;
-        Ok(Replays { start, one, other })
+        match Run::closed(run.alloc, run.case, kind, sectors) {
+            Ok(other) => Ok(Replays { start, one, other }),
+            Err(fault) => {
+                drop(one);
+                Err(fault)
+            }
+        }
     }
 }
 
@@ -74,6 +80,15 @@ pub fn is_disturbed(row: &[u8]) -> bool {
     is_statement(row) || is_migration(row)
 }
 
+/// Whether `migrate` ended before the call that is disturbed.
+fn is_migrated(volume: &mut Volume) -> Result<bool, Fault> {
+    match volume.migrate() {
+        Ok(()) => Ok(true),
+        Err(Fault::Refused(80)) => Ok(false),
+        Err(fault) => Err(fault),
+    }
+}
+
 fn is_needed(row: &[u8]) -> bool {
     is_disturbed(row) || row.starts_with(b"reopen") || row.starts_with(b"put ")
 }
@@ -90,22 +105,24 @@ impl<'a> Disturbance<'a> {
         Ok(())
     }
 
-    /// The statement, disturbed at a call, and whether it ended before that call.
+    /// The statement, disturbed at a call. The answer is whether it ended before that call.
     fn perform_disturbed(
         &self,
         run: &mut Run<'_>,
+        statement: &Statement,
         n: u64,
         is_stop: bool,
-    ) -> Result<(Statement, bool), Fault> {
+    ) -> Result<bool, Fault> {
         self.replay(run)?;
-        let statement = run.statement(self.row)?;
         run.volume.disturb(n, is_stop);
-        let effect = run.perform(&statement)?;
-        let is_done = effect.is_expected(&statement);
-        if !is_done {
-            self.check_refusal(&effect, &statement, DEVICE)?;
+        let effect = run.perform(statement)?;
+        if effect.is_same_as(&statement.expected) {
+            return Ok(true);
         }
-        Ok((statement, is_done))
+        let checked = self.check_refusal(&effect, statement, DEVICE);
+        drop(effect);
+        checked?;
+        Ok(false)
     }
 
     fn check_refusal(
@@ -117,87 +134,118 @@ impl<'a> Disturbance<'a> {
         if effect.answer == answer && effect.leaves(&statement.record, statement.number) {
             return Ok(());
         }
-        Err(effect.difference(self.alloc)?)
+        Err(effect.difference(self.alloc))
     }
 
     /// A volume has the files before, or those after.
     fn check_files(&self, volume: &mut Volume, is_done: bool) -> Result<(), Fault> {
         let files = volume.files()?;
-        if files.as_slice() == self.after.as_slice() {
-            return Ok(());
-        }
-        if !is_done && files.as_slice() == self.before.as_slice() {
+        let is_after = files.as_slice() == self.after.as_slice();
+        let is_before = files.as_slice() == self.before.as_slice();
+        drop(files);
+        if is_after || !is_done && is_before {
             return Ok(());
         }
         Err(Fault::Spelling("the files are neither those before nor those after"))
     }
 
     /// A stop at a call, and each image that it may leave.
-    fn check_stop(&self, replays: &mut Replays<'_>, n: u64) -> Result<(), Fault> {
-        let (_, is_done) = self.perform_disturbed(&mut replays.one, n, true)?;
-        let (_, _) = self.perform_disturbed(&mut replays.other, n, true)?;
+    fn check_stop(
+        &self,
+        replays: &mut Replays<'_>,
+        statement: &Statement,
+        n: u64,
+    ) -> Result<(), Fault> {
+        let is_done = self.perform_disturbed(&mut replays.one, statement, n, true)?;
+        self.perform_disturbed(&mut replays.other, statement, n, true)?;
         let stable = &mut replays.one.volume;
         let last = &mut replays.other.volume;
         stable.crash(&[]);
         last.crash(&[u32::MAX; 64]);
         let images = Images::of(self.alloc, stable, last)?;
+        self.check_images(&images, stable, is_done)
+    }
+
+    fn check_images(
+        &self,
+        images: &Images,
+        volume: &mut Volume,
+        is_done: bool,
+    ) -> Result<(), Fault> {
         for image in 0..images.count() {
-            images.leave(stable, image)?;
-            self.check_files(stable, is_done)?;
+            images.leave(volume, image)?;
+            self.check_files(volume, is_done)?;
         }
         Ok(())
     }
 
     /// A failure at a call. The answer is whether the statement ended before that call.
-    fn check_failure(&self, run: &mut Run<'_>, n: u64) -> Result<bool, Fault> {
-        let (statement, is_done) = self.perform_disturbed(run, n, false)?;
-        let mut is_after = is_done;
-        if !is_done {
-            is_after = self.perform_again(run, &statement)?;
+    fn check_failure(
+        &self,
+        run: &mut Run<'_>,
+        statement: &Statement,
+        n: u64,
+    ) -> Result<bool, Fault> {
+        if self.perform_disturbed(run, statement, n, false)? {
+            return Ok(true);
         }
-        if !is_after {
+        if !self.perform_again(run, statement)? {
             let choice = u32::try_from(n % 3).unwrap_or(0);
             run.volume.crash(&[choice; 64]);
-            self.check_files(&mut run.volume, is_done)?;
+            self.check_files(&mut run.volume, false)?;
         }
-        Ok(is_done)
+        Ok(false)
     }
 
     /// The second attempt after a failure. The answer is whether the statement was done, and all rows after it.
     fn perform_again(&self, run: &mut Run<'_>, statement: &Statement) -> Result<bool, Fault> {
         let effect = run.perform(statement)?;
         let is_spent = effect.answer == SPENT;
-        if spends(statement.verb).unwrap_or(is_spent) {
-            self.check_refusal(&effect, statement, SPENT)?;
+        let is_spent = spends(statement.call.verb).unwrap_or(is_spent);
+        let checked = self.check_second(&effect, statement, is_spent);
+        drop(effect);
+        checked?;
+        if is_spent {
             self.check_spent(run, statement)?;
-            return Ok(false);
+        } else {
+            self.do_later_rows(run)?;
         }
-        if !effect.is_expected(statement) {
-            return Err(effect.difference(self.alloc)?);
+        Ok(!is_spent)
+    }
+
+    /// The effect of the second attempt.
+    fn check_second(
+        &self,
+        effect: &Effect,
+        statement: &Statement,
+        is_spent: bool,
+    ) -> Result<(), Fault> {
+        if is_spent {
+            self.check_refusal(effect, statement, SPENT)
+        } else {
+            effect.compare(self.alloc, &statement.expected)
         }
+    }
+
+    fn do_later_rows(&self, run: &mut Run<'_>) -> Result<(), Fault> {
         for row in self.case.rows.iter().skip(self.place.saturating_add(1)) {
             run.row(&row.text)?;
         }
-        Ok(true)
+        Ok(())
     }
 
     /// The connector is as before: the status of CLOSE shows whether it is open.
     fn check_spent(&self, run: &mut Run<'_>, statement: &Statement) -> Result<(), Fault> {
-        let status = match statement.verb {
+        let status = match statement.call.verb {
             Verb::Open(_) => Answer::Status(*b"42"),
             _ => Answer::Status(*b"00"),
         };
-        let close = Statement {
-            select: statement.select,
+        let close = FileCall {
             verb: Verb::Close,
-            record: statement.record.clone()?,
-            number: statement.number,
-            answer: status,
-            record_after: statement.record.clone()?,
-            number_after: statement.number,
+            ..statement.call
         };
-        let effect = run.perform(&close)?;
-        self.check_refusal(&effect, &close, status)
+        let effect = run.perform_on(close, &statement.record, statement.number)?;
+        self.check_refusal(&effect, statement, status)
     }
 
     /// `migrate`, disturbed at a call, and a crash. Then the files are there, a second `migrate` ends, and a third one writes nothing.
@@ -212,11 +260,7 @@ impl<'a> Disturbance<'a> {
         self.replay(run)?;
         let volume = &mut run.volume;
         volume.disturb(n, is_stop);
-        let is_done = match volume.migrate() {
-            Ok(()) => true,
-            Err(Fault::Refused(80)) => false,
-            Err(fault) => return Err(fault),
-        };
+        let is_done = is_migrated(volume)?;
         volume.crash(choices);
         self.check_files(volume, true)?;
         volume.migrate()?;
@@ -253,10 +297,19 @@ impl<'a> Disturbance<'a> {
         if is_migration(self.row) {
             return self.migrate_to_each_call(&mut replays.one);
         }
+        let statement = replays.one.statement(self.row)?;
+        self.perform_at_each_call(replays, &statement)
+    }
+
+    fn perform_at_each_call(
+        &self,
+        replays: &mut Replays<'_>,
+        statement: &Statement,
+    ) -> Result<(), Fault> {
         for n in 1..MOST_CALLS {
-            let is_done = self.check_failure(&mut replays.one, n)?;
+            let is_done = self.check_failure(&mut replays.one, statement, n)?;
             if self.before != self.after {
-                self.check_stop(replays, n)?;
+                self.check_stop(replays, statement, n)?;
             }
             if is_done {
                 return Ok(());

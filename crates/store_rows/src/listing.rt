@@ -60,6 +60,10 @@ fn put_row(
     if !has_keys {
         put_number(alloc, text, row.number)?;
     }
+    put_record(alloc, text, row)
+}
+
+fn put_record(alloc: Global, text: &mut Vec<u8>, row: &StoredRow) -> Result<(), AllocError> {
     text.extend_from_slice(b" \"")?;
     escape(shortened(&row.bytes), text)?;
     text.push(b'"')?;

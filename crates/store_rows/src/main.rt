@@ -2,10 +2,12 @@
 #![tactic(auto)]
 
 mod answer;
+mod calls;
 mod case;
 mod check;
 mod connectors;
 mod disturbance;
+mod effect;
 mod images;
 mod listing;
 mod record;

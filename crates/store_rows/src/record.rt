@@ -28,18 +28,27 @@ pub fn read_record(
     words: &mut Words<'_>,
     length: usize,
 ) -> Result<Option<Vec<u8>>, Fault> {
-    let mut record = None;
-    for _ in 0..=length {
+    if words.ahead().and_then(piece).is_none() {
+        return Ok(None);
+    }
+    let mut record = record_of(alloc, length, b'-')?;
+    put_pieces(alloc, words, &mut record)?;
+    Ok(Some(record))
+}
+
+/// Puts the next pieces into a record.
+fn put_pieces(alloc: Global, words: &mut Words<'_>, record: &mut [u8]) -> Result<(), Fault> {
+    for _ in 0..=record.len() {
         let Some((offset, text)) = words.ahead().and_then(piece) else {
             break;
         };
         words.word();
-        let mut bytes = match record {
-            None => record_of(alloc, length, b'-')?,
-            Some(bytes) => bytes,
-        };
-        put_text(&mut bytes, offset, &unquote(alloc, text)?)?;
-        record = Some(bytes);
+        put_piece(alloc, record, offset, text)?;
     }
-    Ok(record)
+    Ok(())
+}
+
+fn put_piece(alloc: Global, record: &mut [u8], offset: usize, text: &[u8]) -> Result<(), Fault> {
+    let text = unquote(alloc, text)?;
+    put_text(record, offset, &text)
 }

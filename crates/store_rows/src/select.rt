@@ -1,7 +1,7 @@
 //! The SELECT of a row `select`: `NAME FILE ORGANIZATION LENGTH ACCESS`, and then `key OFFSET LENGTH`, the alternate keys by
 //! `unique OFFSET LENGTH` and `repeated OFFSET LENGTH`, `optional`, and `digits COUNT`.
 use records::{Access, AlternateKey, FileSpec, KeyPlace, Organization, Select};
-use row_scripts::{Fault, Words, unquote};
+use row_scripts::{Fault, Words, look_up, unquote};
 use std::alloc::Global;
 
 /// The name by which rows call a SELECT.
@@ -13,40 +13,47 @@ pub fn name_of(row: &[u8]) -> Option<&[u8]> {
 pub fn read_select(alloc: Global, row: &[u8]) -> Result<Select, Fault> {
     let mut words = Words::of(row);
     words.word();
-    let name = unquote(alloc, required(words.word())?)?;
-    let organization = required(organization(required(words.word())?))?;
-    let length = required(words.number())?;
-    let access = required(access(required(words.word())?))?;
-    let mut clauses = Clauses {
+    let Some(name) = words.word() else {
+        return Err(Fault::Spelling(WRONG));
+    };
+    let name = unquote(alloc, name)?;
+    match read_description(alloc, &mut words, row.len()) {
+        Ok(description) => description.select(name),
+        Err(fault) => Err(fault),
+    }
+}
+
+const WRONG: &str = "this is no SELECT";
+
+/// What a row says of the file after its name, in at most so many clauses.
+fn read_description(
+    alloc: Global,
+    words: &mut Words<'_>,
+    most: usize,
+) -> Result<Description, Fault> {
+    let Some(mut description) = read_head(alloc, words) else {
+        return Err(Fault::Spelling(WRONG));
+    };
+    for _ in 0..most {
+        let Some(word) = words.word() else { break };
+        description.clause(words, word)?;
+    }
+    Ok(description)
+}
+
+/// `ORGANIZATION LENGTH ACCESS`
+fn read_head(alloc: Global, words: &mut Words<'_>) -> Option<Description> {
+    let organization = look_up(&ORGANIZATIONS, words.word()?)?;
+    let record_length = u16::try_from(words.number()?).ok()?;
+    let access = look_up(&ACCESSES, words.word()?)?;
+    Some(Description {
         organization,
+        record_length,
+        access,
         alternates: Vec::new(alloc),
         optional: false,
         key_digits: None,
-    };
-    for _ in 0..row.len() {
-        let Some(word) = words.word() else { break };
-        clauses.clause(&mut words, word)?;
-    }
-    let record_length = required(u16::try_from(length).ok())?;
-    let file = FileSpec::new(
-        name,
-        clauses.organization,
-        record_length,
-        clauses.alternates,
-    );
-    Ok(Select {
-        file: required(file)?,
-        access,
-        optional: clauses.optional,
-        key_digits: clauses.key_digits,
     })
-}
-
-fn required<T: Drop>(found: Option<T>) -> Result<T, Fault> {
-    match found {
-        Some(found) => Ok(found),
-        None => Err(Fault::Spelling("this is no SELECT")),
-    }
 }
 
 fn key_place(words: &mut Words<'_>) -> Option<KeyPlace> {
@@ -55,55 +62,110 @@ fn key_place(words: &mut Words<'_>) -> Option<KeyPlace> {
     Some(KeyPlace { offset, length })
 }
 
-fn organization(word: &[u8]) -> Option<Organization> {
-    match word {
-        b"sequential" => Some(Organization::Sequential),
-        b"relative" => Some(Organization::Relative),
-        b"indexed" => Some(Organization::Indexed(KeyPlace {
+/// Where the prime key is, a clause says.
+const ORGANIZATIONS: [(&[u8], Organization); 3] = [
+    (b"sequential", Organization::Sequential),
+    (b"relative", Organization::Relative),
+    (
+        b"indexed",
+        Organization::Indexed(KeyPlace {
             offset: 0,
             length: 0,
-        })),
-        _ => None,
-    }
+        }),
+    ),
+];
+
+const ACCESSES: [(&[u8], Access); 3] = [
+    (b"sequential", Access::Sequential),
+    (b"random", Access::Random),
+    (b"dynamic", Access::Dynamic),
+];
+
+#[derive(Clone, Copy)]
+enum Clause {
+    Key,
+    Unique,
+    Repeated,
+    Optional,
+    Digits,
 }
 
-fn access(word: &[u8]) -> Option<Access> {
-    match word {
-        b"sequential" => Some(Access::Sequential),
-        b"random" => Some(Access::Random),
-        b"dynamic" => Some(Access::Dynamic),
-        _ => None,
-    }
-}
+const CLAUSES: [(&[u8], Clause); 5] = [
+    (b"key", Clause::Key),
+    (b"unique", Clause::Unique),
+    (b"repeated", Clause::Repeated),
+    (b"optional", Clause::Optional),
+    (b"digits", Clause::Digits),
+];
 
-/// The clauses after the access.
+/// What a row says of the file after its name.
 #[derive(Drop)]
-struct Clauses {
+struct Description {
     organization: Organization,
+    record_length: u16,
+    access: Access,
     alternates: Vec<AlternateKey>,
     optional: bool,
     key_digits: Option<u8>,
 }
 
-impl Clauses {
+impl Description {
+    /// The SELECT of the file of this name, if there is one.
+    fn select(self, name: Vec<u8>) -> Result<Select, Fault> {
+        let Description {
+            organization,
+            record_length,
+            access,
+            alternates,
+            optional,
+            key_digits,
+        } = self;
+        match FileSpec::new(name, organization, record_length, alternates) {
+            Some(file) => Ok(Select {
+                file,
+                access,
+                optional,
+                key_digits,
+            }),
+            None => Err(Fault::Spelling(WRONG)),
+        }
+    }
+
     fn alternate(&mut self, words: &mut Words<'_>, duplicates: bool) -> Result<(), Fault> {
-        let place = required(key_place(words))?;
+        let Some(place) = key_place(words) else {
+            return Err(Fault::Spelling(WRONG));
+        };
         self.alternates.push(AlternateKey { place, duplicates })?;
         Ok(())
     }
 
     fn clause(&mut self, words: &mut Words<'_>, word: &[u8]) -> Result<(), Fault> {
-        match word {
-            b"key" => self.organization = Organization::Indexed(required(key_place(words))?),
-            b"unique" => return self.alternate(words, false),
-            b"repeated" => return self.alternate(words, true),
-            b"optional" => self.optional = true,
-            b"digits" => {
-                let digits = required(words.number())?;
-                self.key_digits = u8::try_from(digits).ok();
+        match look_up(&CLAUSES, word) {
+            Some(Clause::Key) => self.prime(words),
+            Some(Clause::Unique) => self.alternate(words, false),
+            Some(Clause::Repeated) => self.alternate(words, true),
+            Some(Clause::Digits) => self.digits(words),
+            Some(Clause::Optional) => {
+                self.optional = true;
+                Ok(())
             }
-            _ => return Err(Fault::Spelling("this is no SELECT")),
+            None => Err(Fault::Spelling(WRONG)),
         }
+    }
+
+    fn prime(&mut self, words: &mut Words<'_>) -> Result<(), Fault> {
+        let Some(place) = key_place(words) else {
+            return Err(Fault::Spelling(WRONG));
+        };
+        self.organization = Organization::Indexed(place);
+        Ok(())
+    }
+
+    fn digits(&mut self, words: &mut Words<'_>) -> Result<(), Fault> {
+        let Some(digits) = words.number() else {
+            return Err(Fault::Spelling(WRONG));
+        };
+        self.key_digits = u8::try_from(digits).ok();
         Ok(())
     }
 }

@@ -3,52 +3,56 @@
 //! Before the arrow, the number is that of the RELATIVE KEY item (0 if it is left out), and the record is the record area (all `?` if it
 //! is left out). After the arrow they are the number and the record that the statement leaves, if they change.
 use crate::answer::Answer;
+use crate::effect::Effect;
 use crate::record::{read_record, record_of};
+use crate::select::name_of;
 use records::{FileSpec, KeyOfReference, OpenMode, Relation, Verb};
-use row_scripts::{Fault, Words, number_of};
+use row_scripts::{Fault, Words, look_up, number_of};
 use std::alloc::Global;
 
-/// A file statement, with the answer, the record and the number that are expected.
-#[derive(Drop)]
-pub struct Statement {
+/// A verb on the file of the SELECT at a place.
+#[derive(Clone, Copy)]
+pub struct FileCall {
     pub select: usize,
     pub verb: Verb,
-    pub record: Vec<u8>,
-    pub number: u64,
-    pub answer: Answer,
-    pub record_after: Vec<u8>,
-    pub number_after: u64,
 }
 
-/// The verb of a word, with the prime key. A START compares no byte yet.
+/// A file statement, with the effect that is expected.
+#[derive(Drop)]
+pub struct Statement {
+    pub call: FileCall,
+    pub record: Vec<u8>,
+    pub number: u64,
+    pub expected: Effect,
+}
+
+const PRIME: KeyOfReference = KeyOfReference::Prime;
+
+/// The verbs by their words, with the prime key. A START compares no byte yet.
+const VERBS: [(&[u8], Verb); 13] = [
+    (b"open-input", Verb::Open(OpenMode::Input)),
+    (b"open-output", Verb::Open(OpenMode::Output)),
+    (b"open-i-o", Verb::Open(OpenMode::InputOutput)),
+    (b"open-extend", Verb::Open(OpenMode::Extend)),
+    (b"close", Verb::Close),
+    (b"read-next", Verb::ReadNext),
+    (b"read", Verb::Read(PRIME)),
+    (b"write", Verb::Write),
+    (b"rewrite", Verb::Rewrite),
+    (b"delete", Verb::Delete),
+    (b"start-equal", Verb::Start(Relation::Equal, PRIME, 0)),
+    (b"start-greater", Verb::Start(Relation::Greater, PRIME, 0)),
+    (b"start-not-less", Verb::Start(Relation::NotLess, PRIME, 0)),
+];
+
+/// The verb of a word.
 pub fn verb_of(word: &[u8]) -> Option<Verb> {
-    let prime = KeyOfReference::Prime;
-    Some(match word {
-        b"open-input" => Verb::Open(OpenMode::Input),
-        b"open-output" => Verb::Open(OpenMode::Output),
-        b"open-i-o" => Verb::Open(OpenMode::InputOutput),
-        b"open-extend" => Verb::Open(OpenMode::Extend),
-        b"close" => Verb::Close,
-        b"read-next" => Verb::ReadNext,
-        b"read" => Verb::Read(prime),
-        b"write" => Verb::Write,
-        b"rewrite" => Verb::Rewrite,
-        b"delete" => Verb::Delete,
-        b"start-equal" => Verb::Start(Relation::Equal, prime, 0),
-        b"start-greater" => Verb::Start(Relation::Greater, prime, 0),
-        b"start-not-less" => Verb::Start(Relation::NotLess, prime, 0),
-        _ => return None,
-    })
+    look_up(&VERBS, word)
 }
 
 /// Whether a row is a statement.
 pub fn is_statement(row: &[u8]) -> bool {
     Words::of(row).word().and_then(verb_of).is_some()
-}
-
-/// Whether a verb opens a file.
-pub fn opens(verb: Verb) -> bool {
-    matches!(verb, Verb::Open(_))
 }
 
 /// The key of a number: 0 is the prime key, and the alternate keys are counted from 1.
@@ -99,6 +103,12 @@ fn read_key(words: &mut Words<'_>) -> Option<Key> {
     Some(key)
 }
 
+/// A verb with the key of the next words.
+fn read_verb(words: &mut Words<'_>, verb: Verb, file: &FileSpec) -> Option<Verb> {
+    let key = read_key(words)?;
+    with_key(verb, key, file)
+}
+
 fn with_key(verb: Verb, key: Key, file: &FileSpec) -> Option<Verb> {
     let reference = key_of(file, key.number)?;
     Some(match verb {
@@ -135,53 +145,78 @@ fn read_answer(words: &mut Words<'_>) -> Option<Answer> {
     }
 }
 
-fn required<T: Drop>(found: Option<T>) -> Result<T, Fault> {
-    match found {
-        Some(found) => Ok(found),
-        None => Err(Fault::Spelling("this is no file statement")),
-    }
-}
+const WRONG: &str = "this is no file statement";
 
-/// The verb of a row, and the place of its SELECT among names.
-pub fn read_verb(words: &mut Words<'_>, names: &[&[u8]]) -> Option<(Verb, usize)> {
+/// The verb of a row, and its SELECT, which is one of these.
+pub fn read_file_call(words: &mut Words<'_>, selects: &[Vec<u8>]) -> Option<FileCall> {
     let verb = verb_of(words.word()?)?;
     let name = words.word()?;
-    let select = names.iter().position(|one| *one == name)?;
-    Some((verb, select))
+    let select = selects.iter().position(|row| name_of(row) == Some(name))?;
+    Some(FileCall { select, verb })
 }
 
 /// The statement of the words after the verb and the SELECT.
 pub fn read_rest(
     alloc: Global,
     words: &mut Words<'_>,
-    verb: Verb,
-    select: usize,
+    call: FileCall,
     file: &FileSpec,
 ) -> Result<Statement, Fault> {
     let length = file.record_length as usize;
     let number = number_ahead(words).unwrap_or(0);
-    let key = required(read_key(words))?;
-    let verb = required(with_key(verb, key, file))?;
-    let record = match read_record(alloc, words, length)? {
-        Some(record) => record,
-        None => record_of(alloc, length, b'?')?,
+    let Some(verb) = read_verb(words, call.verb, file) else {
+        return Err(Fault::Spelling(WRONG));
     };
-    let answer = required(read_answer(words))?;
-    let number_after = number_ahead(words).unwrap_or(number);
-    let record_after = match read_record(alloc, words, length)? {
-        Some(record) => record,
-        None => record.clone()?,
+    let record = read_area(alloc, words, length)?;
+    match read_expected(alloc, words, &record, number) {
+        Ok(expected) => Ok(Statement {
+            call: FileCall { verb, ..call },
+            record,
+            number,
+            expected,
+        }),
+        Err(fault) => Err(fault),
+    }
+}
+
+/// The record area before a statement.
+fn read_area(alloc: Global, words: &mut Words<'_>, length: usize) -> Result<Vec<u8>, Fault> {
+    match read_record(alloc, words, length)? {
+        Some(record) => Ok(record),
+        None => Ok(record_of(alloc, length, b'?')?),
+    }
+}
+
+/// The record area after a statement on a record.
+fn read_record_after(
+    alloc: Global,
+    words: &mut Words<'_>,
+    record: &[u8],
+) -> Result<Vec<u8>, Fault> {
+    match read_record(alloc, words, record.len())? {
+        Some(record) => Ok(record),
+        None => Ok(Vec::from_slice(alloc, record)?),
+    }
+}
+
+/// What is expected of a statement on a record and a number.
+fn read_expected(
+    alloc: Global,
+    words: &mut Words<'_>,
+    record: &[u8],
+    number: u64,
+) -> Result<Effect, Fault> {
+    let Some(answer) = read_answer(words) else {
+        return Err(Fault::Spelling(WRONG));
     };
+    let number = number_ahead(words).unwrap_or(number);
+    let record = read_record_after(alloc, words, record)?;
     if !words.is_done() {
         return Err(Fault::Spelling("there is more after the statement"));
     }
-    Ok(Statement {
-        select,
-        verb,
+    Ok(Effect {
+        answer,
         record,
         number,
-        answer,
-        record_after,
-        number_after,
     })
 }

@@ -1,39 +1,47 @@
 //! The calls of rows, by their words.
+use row_scripts::look_up;
 
 /// A call.
 #[derive(Clone, Copy)]
 pub enum Call {
     Entry(EntryCall),
+    Pair(PairCall),
     Tree(TreeCall),
     Chain(ChainCall),
+    Change(ChangeCall),
     Volume(VolumeCall),
     Count(CountCall),
 }
 
-/// On entries.
+/// On the entry of a number.
 #[derive(Clone, Copy)]
 pub enum EntryCall {
     Insert,
     Remove,
     Drop,
-    Value,
     Get,
-    Valued,
     Seek,
     Next,
-    First,
+}
+
+/// With two numbers.
+#[derive(Clone, Copy)]
+pub enum PairCall {
+    Value,
+    Valued,
     Reads,
+    Leaves,
+    Thinner,
 }
 
 /// On the whole tree.
 #[derive(Clone, Copy)]
 pub enum TreeCall {
+    First,
     Walk,
     Right,
     Check,
     Pages,
-    Leaves,
-    Thinner,
     Clear,
     Commit,
     Try,
@@ -52,17 +60,22 @@ pub enum ChainCall {
     Zeros,
 }
 
-/// A change of the volume, which has no answer.
+/// A change of the volume by a number. It has no answer.
 #[derive(Clone, Copy)]
-pub enum VolumeCall {
-    Reopen,
+pub enum ChangeCall {
     Crash,
     Fail,
     Stop,
-    Plant,
     Allocate,
-    Page,
     Root,
+}
+
+/// Another change of the volume. It has no answer.
+#[derive(Clone, Copy)]
+pub enum VolumeCall {
+    Reopen,
+    Plant,
+    Page,
     Swap,
     Count,
 }
@@ -76,81 +89,51 @@ pub enum CountCall {
     Free,
 }
 
-const ENTRY_CALLS: [(&[u8], EntryCall); 10] = [
-    (b"insert", EntryCall::Insert),
-    (b"remove", EntryCall::Remove),
-    (b"drop", EntryCall::Drop),
-    (b"value", EntryCall::Value),
-    (b"get", EntryCall::Get),
-    (b"valued", EntryCall::Valued),
-    (b"seek", EntryCall::Seek),
-    (b"next", EntryCall::Next),
-    (b"first", EntryCall::First),
-    (b"reads", EntryCall::Reads),
+const CALLS: [(&[u8], Call); 41] = [
+    (b"insert", Call::Entry(EntryCall::Insert)),
+    (b"remove", Call::Entry(EntryCall::Remove)),
+    (b"drop", Call::Entry(EntryCall::Drop)),
+    (b"get", Call::Entry(EntryCall::Get)),
+    (b"seek", Call::Entry(EntryCall::Seek)),
+    (b"next", Call::Entry(EntryCall::Next)),
+    (b"value", Call::Pair(PairCall::Value)),
+    (b"valued", Call::Pair(PairCall::Valued)),
+    (b"reads", Call::Pair(PairCall::Reads)),
+    (b"leaves", Call::Pair(PairCall::Leaves)),
+    (b"thinner", Call::Pair(PairCall::Thinner)),
+    (b"first", Call::Tree(TreeCall::First)),
+    (b"walk", Call::Tree(TreeCall::Walk)),
+    (b"right", Call::Tree(TreeCall::Right)),
+    (b"check", Call::Tree(TreeCall::Check)),
+    (b"pages", Call::Tree(TreeCall::Pages)),
+    (b"clear", Call::Tree(TreeCall::Clear)),
+    (b"commit", Call::Tree(TreeCall::Commit)),
+    (b"try", Call::Tree(TreeCall::Try)),
+    (b"drawn", Call::Tree(TreeCall::Drawn)),
+    (b"lay", Call::Chain(ChainCall::Lay)),
+    (b"record", Call::Chain(ChainCall::Record)),
+    (b"fill", Call::Chain(ChainCall::Fill)),
+    (b"rewrite", Call::Chain(ChainCall::Rewrite)),
+    (b"release", Call::Chain(ChainCall::Release)),
+    (b"bytes", Call::Chain(ChainCall::Bytes)),
+    (b"zeros", Call::Chain(ChainCall::Zeros)),
+    (b"crash", Call::Change(ChangeCall::Crash)),
+    (b"fail", Call::Change(ChangeCall::Fail)),
+    (b"stop", Call::Change(ChangeCall::Stop)),
+    (b"allocate", Call::Change(ChangeCall::Allocate)),
+    (b"root", Call::Change(ChangeCall::Root)),
+    (b"reopen", Call::Volume(VolumeCall::Reopen)),
+    (b"plant", Call::Volume(VolumeCall::Plant)),
+    (b"page", Call::Volume(VolumeCall::Page)),
+    (b"swap", Call::Volume(VolumeCall::Swap)),
+    (b"count", Call::Volume(VolumeCall::Count)),
+    (b"read", Call::Count(CountCall::Read)),
+    (b"written", Call::Count(CountCall::Written)),
+    (b"changed", Call::Count(CountCall::Changed)),
+    (b"free", Call::Count(CountCall::Free)),
 ];
-
-const TREE_CALLS: [(&[u8], TreeCall); 10] = [
-    (b"walk", TreeCall::Walk),
-    (b"right", TreeCall::Right),
-    (b"check", TreeCall::Check),
-    (b"pages", TreeCall::Pages),
-    (b"leaves", TreeCall::Leaves),
-    (b"thinner", TreeCall::Thinner),
-    (b"clear", TreeCall::Clear),
-    (b"commit", TreeCall::Commit),
-    (b"try", TreeCall::Try),
-    (b"drawn", TreeCall::Drawn),
-];
-
-const CHAIN_CALLS: [(&[u8], ChainCall); 7] = [
-    (b"lay", ChainCall::Lay),
-    (b"record", ChainCall::Record),
-    (b"fill", ChainCall::Fill),
-    (b"rewrite", ChainCall::Rewrite),
-    (b"release", ChainCall::Release),
-    (b"bytes", ChainCall::Bytes),
-    (b"zeros", ChainCall::Zeros),
-];
-
-const VOLUME_CALLS: [(&[u8], VolumeCall); 10] = [
-    (b"reopen", VolumeCall::Reopen),
-    (b"crash", VolumeCall::Crash),
-    (b"fail", VolumeCall::Fail),
-    (b"stop", VolumeCall::Stop),
-    (b"plant", VolumeCall::Plant),
-    (b"allocate", VolumeCall::Allocate),
-    (b"page", VolumeCall::Page),
-    (b"root", VolumeCall::Root),
-    (b"swap", VolumeCall::Swap),
-    (b"count", VolumeCall::Count),
-];
-
-const COUNT_CALLS: [(&[u8], CountCall); 4] = [
-    (b"read", CountCall::Read),
-    (b"written", CountCall::Written),
-    (b"changed", CountCall::Changed),
-    (b"free", CountCall::Free),
-];
-
-/// The call that a table has for a word.
-fn look_up<T: Copy>(table: &[(&[u8], T)], word: &[u8]) -> Option<T> {
-    let row = table.iter().find(|row| row.0 == word)?;
-    Some(row.1)
-}
 
 /// The call of a word.
 pub fn call_of(word: &[u8]) -> Option<Call> {
-    if let Some(call) = look_up(&ENTRY_CALLS, word) {
-        return Some(Call::Entry(call));
-    }
-    if let Some(call) = look_up(&TREE_CALLS, word) {
-        return Some(Call::Tree(call));
-    }
-    if let Some(call) = look_up(&CHAIN_CALLS, word) {
-        return Some(Call::Chain(call));
-    }
-    if let Some(call) = look_up(&VOLUME_CALLS, word) {
-        return Some(Call::Volume(call));
-    }
-    look_up(&COUNT_CALLS, word).map(Call::Count)
+    look_up(&CALLS, word)
 }

@@ -5,6 +5,9 @@ use row_scripts::{Case, CheckCase, Difference, Fault, Row, Tally, Words};
 use std::alloc::{AllocError, Global};
 use std::io;
 
+/// Each row is over the tree of its case.
+const OVER: &str = "its case";
+
 /// Cases that are run over a tree.
 pub struct OneTree;
 
@@ -28,13 +31,13 @@ fn check_case<R: Print + AllocGlobal>(
     tally: &mut Tally,
 ) -> io::Result<()> {
     if let Some(line) = case.wrong {
-        let wrong = Difference::at(rt.alloc(), line, Fault::Spelling("this is no row"))?;
-        tally.fail(rt, script, "its case", &wrong)?;
+        let fault = Fault::Spelling("this is no row");
+        tally.fail_at(rt, script, OVER, line, fault)?;
     }
-    if let Some(difference) = do_rows(rt.alloc(), case, tally)? {
-        tally.fail(rt, script, "its case", &difference)?;
+    match do_rows(rt.alloc(), &case.rows, tally)? {
+        Some(difference) => tally.fail(rt, script, OVER, &difference),
+        None => Ok(()),
     }
-    Ok(())
 }
 
 fn no_tree() -> Fault {
@@ -61,15 +64,18 @@ fn read_tree(alloc: Global, row: &Row) -> Result<TreeRun, Fault> {
 
 /// Compares an answer with the expected one, after the arrow of a row.
 fn compare(words: &mut Words<'_>, answer: String) -> Result<(), Fault> {
-    let is_expected = words.takes(b"->");
-    let expected = match words.rest() {
-        [b' ', rest @ ..] if is_expected => rest,
-        rest => rest,
-    };
-    if answer.as_bytes() == expected {
+    if answer.as_bytes() == expected(words) {
         return Ok(());
     }
     Err(Fault::Differs(answer))
+}
+
+fn expected<'a>(words: &mut Words<'a>) -> &'a [u8] {
+    let is_expected = words.takes(b"->");
+    match words.rest() {
+        [b' ', rest @ ..] if is_expected => rest,
+        rest => rest,
+    }
 }
 
 /// The answer of a row's call. A refusal is an answer.
@@ -80,7 +86,7 @@ fn answer_of(
     words: &mut Words<'_>,
 ) -> Result<String, Fault> {
     match run.call(call, words) {
-        Err(Fault::Refused(number)) => Ok(format!(in alloc; "refused {number}")?),
+        Err(Fault::Refused(number)) => Ok(Fault::Refused(number).into_words(alloc)?),
         answer => answer,
     }
 }
@@ -98,18 +104,29 @@ fn do_row(alloc: Global, run: &mut TreeRun, row: &[u8]) -> Result<(), Fault> {
 /// Does the rows up to the first that differs.
 fn do_rows(
     alloc: Global,
-    case: &Case,
+    rows: &[Row],
     tally: &mut Tally,
 ) -> Result<Option<Difference>, AllocError> {
-    let Some((first, rows)) = case.rows.as_slice().split_first() else {
+    let Some((first, rows)) = rows.split_first() else {
         return Ok(None);
     };
     let mut run = match read_tree(alloc, first) {
         Ok(run) => run,
         Err(fault) => return Ok(Some(Difference::at(alloc, first.line, fault)?)),
     };
+    let found = first_difference(alloc, &mut run, rows, tally);
+    drop(run);
+    found
+}
+
+fn first_difference(
+    alloc: Global,
+    run: &mut TreeRun,
+    rows: &[Row],
+    tally: &mut Tally,
+) -> Result<Option<Difference>, AllocError> {
     for row in rows.iter() {
-        if let Err(fault) = do_row(alloc, &mut run, &row.text) {
+        if let Err(fault) = do_row(alloc, run, &row.text) {
             return Ok(Some(Difference::at(alloc, row.line, fault)?));
         }
         tally.pass();

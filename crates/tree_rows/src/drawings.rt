@@ -53,11 +53,8 @@ pub fn plant(
 
 /// The drawing of a tree: from the root on, and turned round.
 pub fn draw(alloc: Global, volume: &mut Volume, tree: &Tree) -> Result<Vec<u8>, Fault> {
+    let mut pages = root_pages(alloc, tree)?;
     let mut drawing = Vec::new(alloc);
-    let mut pages = Vec::new(alloc);
-    if tree.root() != 0 {
-        pages.push(tree.root())?;
-    }
     let mut end = 1;
     for place in 0..1024usize {
         let Some(page) = pages.get(place).copied() else {
@@ -68,11 +65,29 @@ pub fn draw(alloc: Global, volume: &mut Volume, tree: &Tree) -> Result<Vec<u8>, 
             end = pages.len();
         }
         let page = volume.tree_page(tree.layout(), page)?;
-        drawing.push(b'0'.wrapping_add((page.count() % 256) as u8))?;
-        push_children(&mut pages, &page)?;
+        draw_page(&page, &mut drawing, &mut pages)?;
     }
     drawing.reverse();
     Ok(drawing)
+}
+
+/// The page of the root, if there is one.
+fn root_pages(alloc: Global, tree: &Tree) -> Result<Vec<u32>, AllocError> {
+    let mut pages = Vec::new(alloc);
+    if tree.root() != 0 {
+        pages.push(tree.root())?;
+    }
+    Ok(pages)
+}
+
+/// Adds the rows of a page to a drawing, and its children after other pages.
+fn draw_page(
+    page: &TreePage,
+    drawing: &mut Vec<u8>,
+    pages: &mut Vec<u32>,
+) -> Result<(), AllocError> {
+    drawing.push(b'0'.wrapping_add((page.count() % 256) as u8))?;
+    push_children(pages, page)
 }
 
 /// A page of a tree, and the number of the least key below it.
@@ -115,6 +130,12 @@ fn push_row(alloc: Global, page: &mut TreePage, number: u32, rest: &[u8]) -> Res
     Ok(())
 }
 
+/// Adds the entry of a number after the last row of a leaf.
+fn push_entry(alloc: Global, leaf: &mut TreePage, number: u32) -> Result<(), Fault> {
+    let value = value_of(alloc, leaf.layout(), number)?;
+    push_row(alloc, leaf, number, &value)
+}
+
 /// Puts a leaf on a page, with so many entries from a place on.
 fn plant_leaf(
     alloc: Global,
@@ -125,16 +146,11 @@ fn plant_leaf(
 ) -> Result<PlacedPage, Fault> {
     let mut leaf = new_page(layout, Kind::Leaf)?;
     for place in 0..count {
-        let number = number_at(first.wrapping_add(place));
-        let value = value_of(alloc, layout, number)?;
-        push_row(alloc, &mut leaf, number, &value)?;
+        push_entry(alloc, &mut leaf, number_at(first.wrapping_add(place)))?;
     }
-    let page = volume.allocate()?;
-    volume.edit(page, &leaf.bytes())?;
-    Ok(PlacedPage {
-        least: number_at(first),
-        page,
-    })
+    let page = volume.put_page(&leaf)?;
+    let least = number_at(first);
+    Ok(PlacedPage { least, page })
 }
 
 /// The number of the entry at a place, counted from 0.
@@ -155,14 +171,13 @@ fn plant_inner(
     for child in children.iter() {
         push_row(alloc, &mut inner, child.least, &child.page.to_be_bytes())?;
     }
-    let page = volume.allocate()?;
-    volume.edit(page, &inner.bytes())?;
-    match children.first() {
-        Some(child) => Ok(PlacedPage {
-            least: child.least,
+    let page = volume.put_page(&inner)?;
+    match children {
+        [first, ..] => Ok(PlacedPage {
+            least: first.least,
             page,
         }),
-        None => Err(wrong()),
+        [] => Err(wrong()),
     }
 }
 
@@ -178,19 +193,29 @@ fn plant_level(
     let mut start = 0usize;
     for byte in drawing.iter() {
         let count = rows_in(*byte);
-        let end = start.wrapping_add(count);
-        let page = if below.is_empty() {
-            plant_leaf(alloc, volume, layout, start, count)?
-        } else {
-            match below.get(start..end) {
-                Some(children) => plant_inner(alloc, volume, layout, children)?,
-                None => return Err(wrong()),
-            }
-        };
+        let page = plant_page(alloc, volume, layout, below, start, count)?;
         level.push(page)?;
-        start = end;
+        start = start.wrapping_add(count);
     }
     Ok(level)
+}
+
+/// Puts a page with so many rows on a page: entries from a place on, or pages below it from a place on.
+fn plant_page(
+    alloc: Global,
+    volume: &mut Volume,
+    layout: RowLayout,
+    below: &[PlacedPage],
+    start: usize,
+    count: usize,
+) -> Result<PlacedPage, Fault> {
+    if below.is_empty() {
+        return plant_leaf(alloc, volume, layout, start, count);
+    }
+    match below.get(start..start.wrapping_add(count)) {
+        Some(children) => plant_inner(alloc, volume, layout, children),
+        None => Err(wrong()),
+    }
 }
 
 /// Adds the children of an inner page after other pages, from right to left.

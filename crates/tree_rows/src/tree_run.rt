@@ -1,11 +1,13 @@
 //! The rows of a case over a tree: `CALL OPERANDS -> ANSWER`. Beside the tree is the list of the numbers that it has to hold.
-use crate::calls::{Call, CountCall, EntryCall, TreeCall, VolumeCall, call_of};
+use crate::calls::{
+    Call, ChangeCall, CountCall, EntryCall, PairCall, TreeCall, VolumeCall, call_of,
+};
 use crate::chain_calls::chain_call;
 use crate::drawings::{draw, entries_in, leaves_in, plant};
-use crate::volume::{Volume, key_of, tree_of, value_of};
+use crate::volume::{Search, Volume, key_of, no_tree, tree_of, value_of};
 use btree::{Entry, Tree};
 use btree_pages::RowLayout;
-use row_scripts::{Fault, Words, put_text, unquote};
+use row_scripts::{Fault, Words, unquote};
 use std::alloc::{AllocError, Global};
 use std::mem;
 
@@ -29,18 +31,17 @@ pub struct TreeRun {
     thin: usize,
 }
 
-/// The number that is the next word.
-pub fn number(words: &mut Words<'_>) -> Result<u32, Fault> {
-    match words.number().and_then(|number| u32::try_from(number).ok()) {
-        Some(number) => Ok(number),
-        None => Err(Fault::Spelling("a number belongs here")),
-    }
+/// Why a row without a number that belongs there is none.
+pub const NO_NUMBER: &str = "a number belongs here";
+
+/// An answer of one word.
+pub fn say(alloc: Global, word: &str) -> Result<String, Fault> {
+    Ok(word.to_string(alloc)?)
 }
 
 /// One of two words for a fact.
 pub fn word_of(alloc: Global, fact: bool, yes: &str, no: &str) -> Result<String, Fault> {
-    let word = if fact { yes } else { no };
-    Ok(word.to_string(alloc)?)
+    say(alloc, if fact { yes } else { no })
 }
 
 /// `so`, or `otherwise`.
@@ -59,18 +60,48 @@ fn marks_in(seen: &[bool]) -> usize {
     count
 }
 
+/// `marked PAGE`, if that is next: the page is marked.
+fn put_mark(words: &mut Words<'_>, seen: &mut [bool]) -> Result<(), Fault> {
+    if !words.takes(b"marked") {
+        return Ok(());
+    }
+    let Some(page) = words.small_number() else {
+        return Err(Fault::Spelling(NO_NUMBER));
+    };
+    if let Some(mark) = seen.get_mut(page as usize) {
+        *mark = true;
+    }
+    Ok(())
+}
+
+/// `marks COUNT`, if that is next: how many marks there are.
+fn mark_count(words: &mut Words<'_>) -> Result<usize, Fault> {
+    if !words.takes(b"marks") {
+        return Ok(1024);
+    }
+    match words.small_number() {
+        Some(count) => Ok(count as usize),
+        None => Err(Fault::Spelling(NO_NUMBER)),
+    }
+}
+
 impl TreeRun {
     /// A new volume, with a tree without entries.
     pub fn new(alloc: Global, layout: RowLayout, cached: usize) -> Result<TreeRun, Fault> {
+        let volume = Volume::new(alloc, cached)?;
+        if !layout.is_possible() {
+            drop(volume);
+            return Err(no_tree());
+        }
         Ok(TreeRun {
             alloc,
             layout,
             cached,
-            volume: Volume::new(alloc, cached)?,
-            tree: tree_of(alloc, layout, 0)?,
+            volume,
+            tree: Tree::new(alloc, layout, 0),
             there: Vec::new(alloc),
             committed: Vec::new(alloc),
-            other: tree_of(alloc, layout, 0)?,
+            other: Tree::new(alloc, layout, 0),
             other_there: Vec::new(alloc),
             calls: (0, 0),
             thin: usize::MAX,
@@ -84,41 +115,52 @@ impl TreeRun {
         };
         match call {
             Call::Entry(call) => self.entry_call(call, words),
+            Call::Pair(call) => self.pair_call(call, words),
             Call::Tree(call) => self.tree_call(call, words),
             Call::Chain(call) => chain_call(self.alloc, &mut self.volume, call, words),
-            Call::Volume(call) => {
-                self.volume_call(call, words)?;
-                Ok(String::new(self.alloc))
-            }
+            Call::Change(call) => self.change_call(call, words),
+            Call::Volume(call) => self.volume_call(call, words),
             Call::Count(call) => self.number_words(self.count(call)),
         }
     }
 
-    /// A call on entries.
+    /// A call on the entry of a number.
     fn entry_call(&mut self, call: EntryCall, words: &mut Words<'_>) -> Result<String, Fault> {
+        let Some(number) = words.small_number() else {
+            return Err(Fault::Spelling(NO_NUMBER));
+        };
         match call {
-            EntryCall::Insert => self.insert(words),
-            EntryCall::Remove => self.remove(words),
-            EntryCall::Drop => self.drop_entry(words),
-            EntryCall::Value => self.value(words),
-            EntryCall::Get => self.get(words),
-            EntryCall::Valued => self.valued(words),
-            EntryCall::Seek => self.seek(words),
-            EntryCall::Next => self.next(words),
-            EntryCall::First => self.first(),
-            EntryCall::Reads => self.reads(words),
+            EntryCall::Insert => self.insert(number),
+            EntryCall::Remove => self.remove(number),
+            EntryCall::Drop => self.drop_entry(number),
+            EntryCall::Get => self.find(Search::Get, number, words),
+            EntryCall::Seek => self.find(Search::Seek, number, words),
+            EntryCall::Next => self.find(Search::Next, number, words),
+        }
+    }
+
+    /// A call with two numbers.
+    fn pair_call(&mut self, call: PairCall, words: &mut Words<'_>) -> Result<String, Fault> {
+        let Some((one, other)) = words.two_numbers() else {
+            return Err(Fault::Spelling(NO_NUMBER));
+        };
+        match call {
+            PairCall::Value => self.value(one, other),
+            PairCall::Valued => self.valued(one, other),
+            PairCall::Reads => self.reads(one, other),
+            PairCall::Leaves => self.leaves(one as usize, other as usize),
+            PairCall::Thinner => self.thinner(one as usize, other as usize),
         }
     }
 
     /// A call on the whole tree.
     fn tree_call(&mut self, call: TreeCall, words: &mut Words<'_>) -> Result<String, Fault> {
         match call {
+            TreeCall::First => self.first(),
             TreeCall::Walk => self.walk(),
             TreeCall::Right => self.right(),
             TreeCall::Check => self.check(words),
             TreeCall::Pages => self.pages(),
-            TreeCall::Leaves => self.leaves(words),
-            TreeCall::Thinner => self.thinner(words),
             TreeCall::Clear => self.clear(),
             TreeCall::Commit => self.commit(),
             TreeCall::Try => self.try_commit(),
@@ -126,41 +168,36 @@ impl TreeRun {
         }
     }
 
-    /// A change of the volume.
-    fn volume_call(&mut self, call: VolumeCall, words: &mut Words<'_>) -> Result<(), Fault> {
+    /// A change of the volume by a number.
+    fn change_call(&mut self, call: ChangeCall, words: &mut Words<'_>) -> Result<String, Fault> {
+        let Some(number) = words.small_number() else {
+            return Err(Fault::Spelling(NO_NUMBER));
+        };
         match call {
-            VolumeCall::Reopen => self.reopen(words),
-            VolumeCall::Crash => self.crash(words),
-            VolumeCall::Fail => self.disturb(words, false),
-            VolumeCall::Stop => self.disturb(words, true),
-            VolumeCall::Plant => self.plant(words),
-            VolumeCall::Allocate => self.allocate(words),
-            VolumeCall::Page => self.page(words),
-            VolumeCall::Root => self.take_root(words),
-            VolumeCall::Swap => {
-                self.swap();
-                Ok(())
-            }
-            VolumeCall::Count => {
-                self.calls = self.volume.calls();
-                Ok(())
-            }
+            ChangeCall::Crash => self.volume.crash(number),
+            ChangeCall::Fail => self.volume.disturb(u64::from(number), false),
+            ChangeCall::Stop => self.volume.disturb(u64::from(number), true),
+            ChangeCall::Allocate => self.allocate(number)?,
+            ChangeCall::Root => self.take_root(number)?,
         }
+        Ok(String::new(self.alloc))
     }
 
-    fn crash(&mut self, words: &mut Words<'_>) -> Result<(), Fault> {
-        self.volume.crash(number(words)?);
-        Ok(())
-    }
-
-    fn disturb(&mut self, words: &mut Words<'_>, is_stop: bool) -> Result<(), Fault> {
-        self.volume.disturb(u64::from(number(words)?), is_stop);
-        Ok(())
+    /// Another change of the volume.
+    fn volume_call(&mut self, call: VolumeCall, words: &mut Words<'_>) -> Result<String, Fault> {
+        match call {
+            VolumeCall::Reopen => self.reopen(words)?,
+            VolumeCall::Plant => self.plant(words)?,
+            VolumeCall::Page => self.page(words)?,
+            VolumeCall::Swap => self.swap(),
+            VolumeCall::Count => self.calls = self.volume.calls(),
+        }
+        Ok(String::new(self.alloc))
     }
 
     /// `root PAGE`: the tree below a page.
-    fn take_root(&mut self, words: &mut Words<'_>) -> Result<(), Fault> {
-        self.tree = tree_of(self.alloc, self.layout, number(words)?)?;
+    fn take_root(&mut self, page: u32) -> Result<(), Fault> {
+        self.tree = tree_of(self.alloc, self.layout, page)?;
         self.there.clear();
         Ok(())
     }
@@ -187,7 +224,14 @@ impl TreeRun {
 
     /// Where a number is among those that have to be there, or where it belongs.
     fn place(&self, number: u32) -> usize {
-        self.there.iter().take_while(|one| **one < number).count()
+        match self.there.binary_search(&number) {
+            Ok(place) | Err(place) => place,
+        }
+    }
+
+    /// Whether a number has to be there.
+    fn has(&self, number: u32) -> bool {
+        self.from(number) == Some(number)
     }
 
     /// The first number from one on.
@@ -195,42 +239,54 @@ impl TreeRun {
         self.there.get(self.place(number)).copied()
     }
 
-    fn insert(&mut self, words: &mut Words<'_>) -> Result<String, Fault> {
-        let number = number(words)?;
+    fn insert(&mut self, number: u32) -> Result<String, Fault> {
         let is_new = self.volume.insert(&mut self.tree, number)?;
-        let place = self.place(number);
-        if is_new && place <= self.there.len() {
-            self.there.insert(place, number)?;
+        if is_new {
+            self.note_new(number)?;
         }
         word_of(self.alloc, is_new, "new", "there")
+    }
+
+    /// A number has to be there from now on.
+    fn note_new(&mut self, number: u32) -> Result<(), AllocError> {
+        let place = self.place(number);
+        if place <= self.there.len() {
+            self.there.insert(place, number)?;
+        }
+        Ok(())
     }
 
     /// Takes an entry out. The answer is whether it was there.
     fn take_out(&mut self, number: u32) -> Result<bool, Fault> {
         let was_there = self.volume.remove(&mut self.tree, number)?;
         if was_there {
-            self.there.retain(|one| *one != number);
+            self.note_gone(number);
         }
         Ok(was_there)
     }
 
-    fn remove(&mut self, words: &mut Words<'_>) -> Result<String, Fault> {
-        let was_there = self.take_out(number(words)?)?;
+    /// A number is not there from now on.
+    fn note_gone(&mut self, number: u32) {
+        let place = self.place(number);
+        if place < self.there.len() && self.there[place] == number {
+            self.there.remove(place);
+        }
+    }
+
+    fn remove(&mut self, number: u32) -> Result<String, Fault> {
+        let was_there = self.take_out(number)?;
         word_of(self.alloc, was_there, "gone", "missing")
     }
 
     /// `drop N`: it goes if it has to be there, and else it isn't there.
-    fn drop_entry(&mut self, words: &mut Words<'_>) -> Result<String, Fault> {
-        let number = number(words)?;
-        let is_there = self.from(number) == Some(number);
+    fn drop_entry(&mut self, number: u32) -> Result<String, Fault> {
+        let is_there = self.has(number);
         let was_there = self.take_out(number)?;
         self.whether(was_there == is_there)
     }
 
     /// `value N M`: the value of M for the entry N.
-    fn value(&mut self, words: &mut Words<'_>) -> Result<String, Fault> {
-        let one = number(words)?;
-        let other = number(words)?;
+    fn value(&mut self, one: u32, other: u32) -> Result<String, Fault> {
         let is_there = self.volume.replace(&mut self.tree, one, other)?;
         word_of(self.alloc, is_there, "new", "missing")
     }
@@ -245,45 +301,38 @@ impl TreeRun {
     /// The number of the entry that was found, if it is the expected one.
     fn entry_words(&self, found: Option<Entry>, expected: Option<u32>) -> Result<String, Fault> {
         let Some(entry) = found else {
-            return Ok("none".to_string(self.alloc)?);
+            return say(self.alloc, "none");
         };
         let number = expected.unwrap_or(0);
         if self.is_entry(&entry, number)? {
             return self.number_words(u64::from(number));
         }
-        Ok("another".to_string(self.alloc)?)
+        say(self.alloc, "another")
     }
 
     /// The number that a row expects after its arrow.
     fn expected(words: &Words<'_>) -> Option<u32> {
         let mut words = *words;
         words.word();
-        words.number().and_then(|number| u32::try_from(number).ok())
+        words.small_number()
     }
 
     /// `valued N M`: whether the entry N has the value of M.
-    fn valued(&mut self, words: &mut Words<'_>) -> Result<String, Fault> {
-        let one = number(words)?;
-        let other = number(words)?;
-        let value = value_of(self.alloc, self.layout, other)?;
-        match self.volume.get(&self.tree, one)? {
-            Some(entry) => self.whether(entry.value() == value.as_slice()),
+    fn valued(&mut self, one: u32, other: u32) -> Result<String, Fault> {
+        match self.volume.find(&self.tree, Search::Get, one)? {
+            Some(entry) => self.has_value(&entry, other),
             None => self.whether(false),
         }
     }
 
-    fn get(&mut self, words: &mut Words<'_>) -> Result<String, Fault> {
-        let found = self.volume.get(&self.tree, number(words)?)?;
-        self.entry_words(found, TreeRun::expected(words))
+    fn has_value(&self, entry: &Entry, number: u32) -> Result<String, Fault> {
+        let value = value_of(self.alloc, self.layout, number)?;
+        self.whether(entry.value() == value.as_slice())
     }
 
-    fn seek(&mut self, words: &mut Words<'_>) -> Result<String, Fault> {
-        let found = self.volume.seek(&self.tree, number(words)?)?;
-        self.entry_words(found, TreeRun::expected(words))
-    }
-
-    fn next(&mut self, words: &mut Words<'_>) -> Result<String, Fault> {
-        let found = self.volume.next(&self.tree, number(words)?)?;
+    /// `get N`, `seek N` and `next N`.
+    fn find(&mut self, search: Search, number: u32, words: &Words<'_>) -> Result<String, Fault> {
+        let found = self.volume.find(&self.tree, search, number)?;
         self.entry_words(found, TreeRun::expected(words))
     }
 
@@ -301,38 +350,38 @@ impl TreeRun {
         }
     }
 
-    /// Whether the entry of a number is got, if it has to be there.
-    fn is_got(&mut self, number: u32) -> Result<bool, Fault> {
-        let found = self.volume.get(&self.tree, number)?;
-        self.is_found(found, self.from(number).filter(|from| *from == number))
+    /// The number that a search from a number has to find.
+    fn sought(&self, search: Search, number: u32) -> Option<u32> {
+        match search {
+            Search::Get if self.has(number) => Some(number),
+            Search::Get => None,
+            Search::Seek => self.from(number),
+            Search::Next => self.from(number.wrapping_add(1)),
+        }
     }
 
-    fn is_sought(&mut self, number: u32) -> Result<bool, Fault> {
-        let found = self.volume.seek(&self.tree, number)?;
-        self.is_found(found, self.from(number))
-    }
-
-    fn is_followed(&mut self, number: u32) -> Result<bool, Fault> {
-        let found = self.volume.next(&self.tree, number)?;
-        self.is_found(found, self.from(number.wrapping_add(1)))
+    /// Whether a search from a number finds the entry that it has to find.
+    fn is_right(&mut self, search: Search, number: u32) -> Result<bool, Fault> {
+        let found = self.volume.find(&self.tree, search, number)?;
+        self.is_found(found, self.sought(search, number))
     }
 
     /// Asks for a number by each call that takes a key.
     fn is_read(&mut self, number: u32) -> Result<bool, Fault> {
-        let is_read = self.is_got(number)? && self.is_sought(number)?;
-        Ok(is_read && self.is_followed(number)?)
+        if !self.is_right(Search::Get, number)? || !self.is_right(Search::Seek, number)? {
+            return Ok(false);
+        }
+        self.is_right(Search::Next, number)
     }
 
     /// `reads FROM TO`: asks for each number.
-    fn reads(&mut self, words: &mut Words<'_>) -> Result<String, Fault> {
-        let from = number(words)?;
-        let to = number(words)?;
+    fn reads(&mut self, from: u32, to: u32) -> Result<String, Fault> {
         for number in from..to {
             if !self.is_read(number)? {
                 return self.another_at(number);
             }
         }
-        Ok("right".to_string(self.alloc)?)
+        say(self.alloc, "right")
     }
 
     fn another_at(&self, number: u32) -> Result<String, Fault> {
@@ -350,7 +399,7 @@ impl TreeRun {
             if !self.is_found(found, Some(number))? {
                 return Ok(Some(number));
             }
-            found = self.volume.next(&self.tree, number)?;
+            found = self.volume.find(&self.tree, Search::Next, number)?;
         }
         if self.is_found(found, None)? {
             Ok(None)
@@ -372,7 +421,7 @@ impl TreeRun {
         let most = self.there.last().copied().unwrap_or(0) / 10;
         for tenth in 0..=most {
             let number = tenth.wrapping_mul(10);
-            if !self.is_got(number)? {
+            if !self.is_right(Search::Get, number)? {
                 return Ok(Some(number));
             }
         }
@@ -388,7 +437,7 @@ impl TreeRun {
             return self.another_at(number);
         }
         self.check_marks(&mut [false; 1024])?;
-        Ok("right".to_string(self.alloc)?)
+        say(self.alloc, "right")
     }
 
     /// How many pages a check marks.
@@ -405,16 +454,14 @@ impl TreeRun {
     }
 
     /// How many leaves there are, and how many have fewer rows than so many.
-    fn leaf_counts(&mut self, words: &mut Words<'_>) -> Result<(usize, usize), Fault> {
-        let least = number(words)? as usize;
+    fn leaf_counts(&mut self, least: usize) -> Result<(usize, usize), Fault> {
         let drawing = draw(self.alloc, &mut self.volume, &self.tree)?;
         Ok(leaves_in(&drawing, least))
     }
 
     /// `leaves LEAST MOST`: how many leaves have fewer rows than LEAST. The others are MOST at most.
-    fn leaves(&mut self, words: &mut Words<'_>) -> Result<String, Fault> {
-        let (leaves, thin) = self.leaf_counts(words)?;
-        let most = number(words)? as usize;
+    fn leaves(&mut self, least: usize, most: usize) -> Result<String, Fault> {
+        let (leaves, thin) = self.leaf_counts(least)?;
         self.thin = thin;
         if leaves > thin.saturating_add(most) {
             return self.whether(false);
@@ -423,9 +470,8 @@ impl TreeRun {
     }
 
     /// `thinner LEAST MOST`: whether no more leaves are thin than before, and the others are MOST at most.
-    fn thinner(&mut self, words: &mut Words<'_>) -> Result<String, Fault> {
-        let (leaves, thin) = self.leaf_counts(words)?;
-        let most = number(words)? as usize;
+    fn thinner(&mut self, least: usize, most: usize) -> Result<String, Fault> {
+        let (leaves, thin) = self.leaf_counts(least)?;
         let is_so = thin <= self.thin && leaves <= thin.saturating_add(most);
         self.thin = thin;
         self.whether(is_so)
@@ -434,26 +480,17 @@ impl TreeRun {
     /// `check`, or `check marked PAGE`, or `check marks COUNT`: the pages of the tree, with one marked before, or with so many marks.
     fn check(&mut self, words: &mut Words<'_>) -> Result<String, Fault> {
         let mut seen = [false; 1024];
-        if words.takes(b"marked") {
-            let page = number(words)? as usize;
-            if let Some(mark) = seen.get_mut(page) {
-                *mark = true;
-            }
-        }
-        let count = if words.takes(b"marks") {
-            number(words)? as usize
-        } else {
-            1024
-        };
+        put_mark(words, &mut seen)?;
+        let count = mark_count(words)?;
         let Some(seen) = seen.get_mut(..count) else {
             return Err(Fault::Spelling("there are 1024 marks"));
         };
         self.check_marks(seen)?;
-        Ok("a tree".to_string(self.alloc)?)
+        say(self.alloc, "a tree")
     }
 
     fn done(&self) -> Result<String, Fault> {
-        Ok("done".to_string(self.alloc)?)
+        say(self.alloc, "done")
     }
 
     fn clear(&mut self) -> Result<String, Fault> {
@@ -486,14 +523,27 @@ impl TreeRun {
     /// `reopen`, with so many pages in memory if a number follows: the entries of the last commit are there. By `reopen new` they are those
     /// that were to be committed, by `reopen either` the ones or the others.
     fn reopen(&mut self, words: &mut Words<'_>) -> Result<(), Fault> {
-        let mut is_new = words.takes(b"new");
+        let is_new = words.takes(b"new");
         let is_either = words.takes(b"either");
-        let cached = match words.ahead() {
-            Some(b"->") | None => self.cached,
-            Some(_) => number(words)? as usize,
-        };
+        let cached = self.cached_pages(words)?;
         self.volume.reopen(cached)?;
         self.tree = tree_of(self.alloc, self.layout, self.volume.root())?;
+        self.take_numbers(is_new, is_either)
+    }
+
+    /// How many pages are in memory then.
+    fn cached_pages(&self, words: &mut Words<'_>) -> Result<usize, Fault> {
+        match words.ahead() {
+            Some(b"->") | None => Ok(self.cached),
+            Some(_) => match words.small_number() {
+                Some(cached) => Ok(cached as usize),
+                None => Err(Fault::Spelling(NO_NUMBER)),
+            },
+        }
+    }
+
+    fn take_numbers(&mut self, is_new: bool, is_either: bool) -> Result<(), Fault> {
+        let mut is_new = is_new;
         if is_either {
             is_new = self.first_wrong()?.is_none();
         }
@@ -530,8 +580,8 @@ impl TreeRun {
     }
 
     /// `allocate COUNT`.
-    fn allocate(&mut self, words: &mut Words<'_>) -> Result<(), Fault> {
-        for _ in 0..number(words)? {
+    fn allocate(&mut self, count: u32) -> Result<(), Fault> {
+        for _ in 0..count {
             self.volume.allocate()?;
         }
         Ok(())
@@ -539,11 +589,10 @@ impl TreeRun {
 
     /// `page NUMBER PLACE TEXT`: bytes of a page.
     fn page(&mut self, words: &mut Words<'_>) -> Result<(), Fault> {
-        let page = number(words)?;
-        let place = number(words)? as usize;
+        let Some((page, place)) = words.two_numbers() else {
+            return Err(Fault::Spelling(NO_NUMBER));
+        };
         let text = unquote(self.alloc, words.word().unwrap_or(b""))?;
-        let mut bytes = self.volume.page(page)?;
-        put_text(&mut bytes, place, &text)?;
-        self.volume.edit(page, &bytes)
+        self.volume.put_text(page, place as usize, &text)
     }
 }

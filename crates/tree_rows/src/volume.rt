@@ -7,9 +7,18 @@ use btree_check::check_tree;
 use btree_pages::{RowLayout, TreePage};
 use chains::{RecordBuffer, lay, read_record, release, rewrite};
 use pages::{PageMap, PagesError, format};
-use row_scripts::Fault;
+use row_scripts::{Fault, if_done, put_text};
 use station::{Device, MemoryStation};
 use std::alloc::{AllocError, Global};
+use std::mem;
+
+/// Which entry is sought from a number on: its own, the first from it on, or the first after it.
+#[derive(Clone, Copy)]
+pub enum Search {
+    Get,
+    Seek,
+    Next,
+}
 
 /// An opened volume on its station.
 #[derive(Drop)]
@@ -23,11 +32,21 @@ pub struct Volume {
 /// The bytes of a key.
 pub fn key_of(alloc: Global, layout: RowLayout, number: u32) -> Result<Vec<u8>, AllocError> {
     let mut key = vec![in alloc; 7u8; layout.key_length]?;
-    let bytes = number.to_be_bytes();
-    for (byte, new) in key.iter_mut().rev().zip(bytes.iter().rev()) {
-        *byte = *new;
-    }
+    put_number(&mut key, number);
     Ok(key)
+}
+
+/// Puts a number into the last four bytes, or its last bytes into fewer.
+fn put_number(bytes: &mut [u8], number: u32) {
+    let mut place = bytes.len();
+    let mut rest = number;
+    for _ in 0..4 {
+        place = place.wrapping_sub(1);
+        if let Some(byte) = bytes.get_mut(place) {
+            *byte = (rest % 256) as u8;
+        }
+        rest /= 256;
+    }
 }
 
 /// The bytes of a value.
@@ -45,13 +64,26 @@ fn refused(error: PagesError) -> Fault {
     Fault::Refused(u64::from(error.number()))
 }
 
+/// The fault of a layout that no tree has.
+pub fn no_tree() -> Fault {
+    Fault::Spelling("no tree has these lengths")
+}
+
 /// The tree of a layout below a root.
 pub fn tree_of(alloc: Global, layout: RowLayout, root: u32) -> Result<Tree, Fault> {
     if layout.is_possible() {
         Ok(Tree::new(alloc, layout, root))
     } else {
-        Err(Fault::Spelling("no tree has these lengths"))
+        Err(no_tree())
     }
+}
+
+/// Makes a volume of a station of 1,024 sectors.
+fn format_station(station: &mut MemoryStation) -> Result<(), Fault> {
+    if station.count() != 1024 || format(station).is_err() {
+        return Err(small());
+    }
+    Ok(())
 }
 
 impl Volume {
@@ -59,13 +91,8 @@ impl Volume {
     pub fn new(alloc: Global, cached: usize) -> Result<Volume, Fault> {
         let sectors = vec![in alloc; [0; 4096]; 1024]?;
         let mut station = MemoryStation::new(alloc, sectors, Vec::new(alloc))?;
-        if station.count() != 1024 {
-            return Err(small());
-        }
-        if format(&mut station).is_err() {
-            return Err(small());
-        }
-        Volume::open(alloc, station, cached)
+        let formatted = format_station(&mut station);
+        Volume::open(alloc, if_done(station, formatted)?, cached)
     }
 
     fn open(alloc: Global, mut station: MemoryStation, cached: usize) -> Result<Volume, Fault> {
@@ -90,7 +117,7 @@ impl Volume {
         }
         match PageMap::open(self.alloc, &mut self.station, cached) {
             Ok(pages) => {
-                self.pages = pages;
+                drop(mem::replace(&mut self.pages, pages));
                 Ok(())
             }
             Err(_) => Err(Fault::Spelling("the volume isn't opened")),
@@ -170,11 +197,25 @@ impl Volume {
         }
     }
 
+    /// Puts a text into the bytes of a page, from a place on.
+    pub fn put_text(&mut self, page: u32, place: usize, text: &[u8]) -> Result<(), Fault> {
+        let mut bytes = self.page(page)?;
+        put_text(&mut bytes, place, text)?;
+        self.edit(page, &bytes)
+    }
+
+    /// Puts the bytes of a page of a tree on a page that wasn't used. The answer is the number of that page.
+    pub fn put_page(&mut self, page: &TreePage) -> Result<u32, Fault> {
+        let number = self.allocate()?;
+        self.edit(number, &page.bytes())?;
+        Ok(number)
+    }
+
     /// A page of a tree.
     pub fn tree_page(&mut self, layout: RowLayout, page: u32) -> Result<TreePage, Fault> {
         let bytes = self.page(page)?;
         if !layout.is_possible() {
-            return Err(Fault::Spelling("no tree has these lengths"));
+            return Err(no_tree());
         }
         match TreePage::read(bytes, layout) {
             Some(page) => Ok(page),
@@ -219,34 +260,25 @@ impl Volume {
             .map_err(refused)
     }
 
-    /// The entry of a number.
-    pub fn get(&mut self, tree: &Tree, number: u32) -> Result<Option<Entry>, Fault> {
-        let key = key_of(self.alloc, tree.layout(), number)?;
+    /// The entry that a search from a number finds.
+    pub fn find(
+        &mut self,
+        tree: &Tree,
+        search: Search,
+        number: u32,
+    ) -> Result<Option<Entry>, Fault> {
         if self.pages.sectors() > self.station.count() {
             return Err(small());
         }
-        tree.get(&mut self.pages, &mut self.station, &key)
-            .map_err(refused)
-    }
-
-    /// The first entry from a number on.
-    pub fn seek(&mut self, tree: &Tree, number: u32) -> Result<Option<Entry>, Fault> {
         let key = key_of(self.alloc, tree.layout(), number)?;
-        if self.pages.sectors() > self.station.count() {
-            return Err(small());
-        }
-        tree.seek(&mut self.pages, &mut self.station, &key)
-            .map_err(refused)
-    }
-
-    /// The first entry after a number.
-    pub fn next(&mut self, tree: &Tree, number: u32) -> Result<Option<Entry>, Fault> {
-        let key = key_of(self.alloc, tree.layout(), number)?;
-        if self.pages.sectors() > self.station.count() {
-            return Err(small());
-        }
-        tree.next(&mut self.pages, &mut self.station, &key)
-            .map_err(refused)
+        let pages = &mut self.pages;
+        let station = &mut self.station;
+        let found = match search {
+            Search::Get => tree.get(pages, station, &key),
+            Search::Seek => tree.seek(pages, station, &key),
+            Search::Next => tree.next(pages, station, &key),
+        };
+        found.map_err(refused)
     }
 
     /// The first entry.

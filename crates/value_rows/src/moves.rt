@@ -2,7 +2,7 @@
 
 use crate::decimals::decimal;
 use crate::entry::numeric;
-use crate::words::{or_none, told, unreadable, word};
+use crate::words::{or_none, told, unreadable};
 use edited_move::{Receiving, Sending, is_permitted, is_short, move_number};
 use items::{Figurative, Item, Kind, Taken, initialize};
 use picture::{Category, Picture};
@@ -14,21 +14,28 @@ const MOST_LENGTH: u128 = 65_535;
 
 /// `permitted SENDER RECEIVER`: entries without usage, or a figurative constant or ALL for the sender.
 pub fn permitted(alloc: Global, words: &[String]) -> io::Result<String> {
-    let receiver = item(alloc, words, 2)?;
-    let sender = match word(words, 1)? {
-        "ZERO" => Taken::Figurative(Figurative::Zero),
-        "SPACE" => Taken::Figurative(Figurative::Space),
-        "QUOTE" => Taken::Figurative(Figurative::Quote),
-        "ALL" => Taken::All,
-        _ => Taken::Item(item(alloc, words, 1)?),
+    let [_, sender, receiver, ..] = words else {
+        return Err(unreadable());
     };
+    let receiver = item(alloc, receiver)?;
+    let sender = taken(alloc, sender)?;
     let is_permitted = is_permitted(Sending::of(sender), Receiving::of(receiver.kind));
     or_none(alloc, Some(is_permitted && is_short(receiver, sender)))
 }
 
+/// A figurative constant, ALL, or the item of an entry.
+fn taken(alloc: Global, sender: &str) -> io::Result<Taken> {
+    match sender {
+        "ZERO" => Ok(Taken::Figurative(Figurative::Zero)),
+        "SPACE" => Ok(Taken::Figurative(Figurative::Space)),
+        "QUOTE" => Ok(Taken::Figurative(Figurative::Quote)),
+        "ALL" => Ok(Taken::All),
+        _ => Ok(Taken::Item(item(alloc, sender)?)),
+    }
+}
+
 /// The item of an entry, or a group of two bytes.
-fn item(alloc: Global, words: &[String], at: usize) -> io::Result<Item> {
-    let text = word(words, at)?;
+fn item(alloc: Global, text: &str) -> io::Result<Item> {
     if text == "GROUP" {
         return Ok(Item {
             kind: Kind::Group,
@@ -45,7 +52,7 @@ fn item(alloc: Global, words: &[String], at: usize) -> io::Result<Item> {
         Category::NumericEdited => Kind::NumericEdited {
             blank_when_zero: false,
         },
-        Category::Numeric => Kind::Numeric(numeric(alloc, words, at)?),
+        Category::Numeric => Kind::Numeric(numeric(alloc, text, &[])?),
     };
     let length = picture.size().min(MOST_LENGTH) as u32;
     Ok(Item { kind, length })
@@ -53,15 +60,22 @@ fn item(alloc: Global, words: &[String], at: usize) -> io::Result<Item> {
 
 /// `moved NUMBER ENTRY`: the bytes of a numeric item.
 pub fn moved(alloc: Global, words: &[String]) -> io::Result<String> {
-    let item = numeric(alloc, words, 2)?;
+    let [_, number, picture, usage @ ..] = words else {
+        return Err(unreadable());
+    };
+    let item = numeric(alloc, picture, usage)?;
+    let number = decimal(alloc, number)?;
     let mut bytes = vec![in alloc; 0u8; item.length()]?;
-    move_number(decimal(alloc, words, 1)?, item, &mut bytes);
+    move_number(number, item, &mut bytes);
     told(alloc, bytes.as_slice())
 }
 
 /// `initial PICTURE`: what an item that isn't numeric holds without VALUE.
 pub fn initial(alloc: Global, words: &[String]) -> io::Result<String> {
-    let item = item(alloc, words, 1)?;
+    let [_, picture, ..] = words else {
+        return Err(unreadable());
+    };
+    let item = item(alloc, picture)?;
     let mut bytes = vec![in alloc; b'.'; item.length as usize]?;
     match item.kind {
         Kind::Numeric(_) => Err(unreadable()),

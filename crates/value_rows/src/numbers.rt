@@ -13,15 +13,22 @@ use std::io;
 
 /// `bytes NUMBER ENTRY`
 pub fn bytes_of(alloc: Global, words: &[String]) -> io::Result<String> {
-    let item = numeric(alloc, words, 2)?;
-    let bytes = stored(alloc, item, decimal(alloc, words, 1)?)?;
+    let [_, number, picture, usage @ ..] = words else {
+        return Err(unreadable());
+    };
+    let item = numeric(alloc, picture, usage)?;
+    let bytes = stored(alloc, item, decimal(alloc, number)?)?;
     told(alloc, bytes.as_slice())
 }
 
 /// `number BYTES ENTRY`
 pub fn number_in(alloc: Global, words: &[String]) -> io::Result<String> {
-    let item = numeric(alloc, words, 2)?;
-    match number_of(item, bytes(alloc, words, 1)?.as_slice())? {
+    let [_, text, picture, usage @ ..] = words else {
+        return Err(unreadable());
+    };
+    let item = numeric(alloc, picture, usage)?;
+    let text = bytes(alloc, text)?;
+    match number_of(item, text.as_slice())? {
         Some(number) => spelled(alloc, number),
         None => Ok(format!(in alloc; "none")?),
     }
@@ -30,7 +37,11 @@ pub fn number_in(alloc: Global, words: &[String]) -> io::Result<String> {
 /// `bytes_at_each_scale INTEGER ENTRY`: the bytes of the integer, where the entry's digits hold it with any number of decimals in
 /// the same bytes, and these are read as it again.
 pub fn bytes_at_each_scale(alloc: Global, words: &[String]) -> io::Result<String> {
-    let (item, integer) = (numeric(alloc, words, 2)?, count(words, 1)?);
+    let [_, integer, picture, usage @ ..] = words else {
+        return Err(unreadable());
+    };
+    let item = numeric(alloc, picture, usage)?;
+    let integer = count(integer)?;
     let first = there_and_back(alloc, item, 0, integer)?;
     for decimals in 0..item.digits {
         let other = there_and_back(alloc, item, decimals + 1, integer)?;
@@ -43,16 +54,28 @@ pub fn bytes_at_each_scale(alloc: Global, words: &[String]) -> io::Result<String
 
 /// `bytes_at BYTES PLACE ENTRY`: the bytes at that place, counted from 0, with which all are a number.
 pub fn bytes_at(alloc: Global, words: &[String]) -> io::Result<String> {
-    let item = numeric(alloc, words, 3)?;
-    let (mut text, place) = (bytes(alloc, words, 1)?, count(words, 2)?);
+    let [_, text, place, picture, usage @ ..] = words else {
+        return Err(unreadable());
+    };
+    let item = numeric(alloc, picture, usage)?;
+    let place = count(place)?;
+    let mut text = bytes(alloc, text)?;
+    let found = bytes_with(alloc, item, place, &mut text)?;
+    told(alloc, found.as_slice())
+}
+
+/// The bytes at a place of a text with which it is a number.
+fn bytes_with(alloc: Global, item: Numeric, place: usize, text: &mut [u8]) -> io::Result<Vec<u8>>
+    requires { IsNumeric item }
+{
     let mut found = Vec::new(alloc);
     for byte in 0..=u8::MAX {
-        put_at(&mut text, place, byte);
-        if number_of(item, text.as_slice())?.is_some() {
+        put_at(text, place, byte);
+        if number_of(item, text)?.is_some() {
             found.push(byte)?;
         }
     }
-    told(alloc, found.as_slice())
+    Ok(found)
 }
 
 /// The number as the item holds it.

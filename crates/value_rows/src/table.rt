@@ -2,6 +2,7 @@
 
 use crate::operations::given;
 use crate::words::words_of;
+use std::alloc::Global;
 use std::io;
 
 /// What stands between the words of a row and what it gives.
@@ -43,13 +44,7 @@ fn is_as_expected(
     line: &str,
 ) -> io::Result<bool> {
     let (row, expected) = line.rsplit_once(EQUALS).unwrap_or((line, ""));
-    let words = words_of(rt.alloc(), row)?;
-    let given = match given(rt.alloc(), words.as_slice()) {
-        Err(error) if error.kind() == io::ErrorKind::InvalidData => {
-            format!(in rt.alloc(); "no row")?
-        }
-        given => given?,
-    };
+    let given = what_is_given(rt.alloc(), row)?;
     let (table, number) = place;
     if expected.is_empty() {
         println!(rt; "{row} = {given}")?;
@@ -58,4 +53,15 @@ fn is_as_expected(
         return Ok(false);
     }
     Ok(true)
+}
+
+/// What a row gives, in words.
+fn what_is_given(alloc: Global, row: &str) -> io::Result<String> {
+    let words = words_of(alloc, row)?;
+    match given(alloc, words.as_slice()) {
+        Err(error) if error.kind() == io::ErrorKind::InvalidData => {
+            Ok(format!(in alloc; "no row")?)
+        }
+        given => given,
+    }
 }

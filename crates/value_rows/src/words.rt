@@ -31,28 +31,19 @@ pub fn words_of(alloc: Global, row: &str) -> io::Result<Vec<String>> {
     Ok(words)
 }
 
-/// The word at that place; the operation is at 0.
-pub fn word(words: &[String], at: usize) -> io::Result<&str> {
-    match words.get(at) {
-        Some(word) => Ok(word.as_str()),
-        None => Err(unreadable()),
-    }
-}
-
 /// A number of some type of Rust, as a count or a place.
-pub fn count<T: FromStr>(words: &[String], at: usize) -> io::Result<T>
+pub fn count<T: FromStr>(word: &str) -> io::Result<T>
 where
     T::Err: Drop,
 {
-    match word(words, at)?.parse() {
+    match word.parse() {
         Ok(count) => Ok(count),
         Err(_) => Err(unreadable()),
     }
 }
 
 /// Bytes: a text in quotation marks, or `x"` and hexadecimal digits.
-pub fn bytes(alloc: Global, words: &[String], at: usize) -> io::Result<Vec<u8>> {
-    let word = word(words, at)?;
+pub fn bytes(alloc: Global, word: &str) -> io::Result<Vec<u8>> {
     if let Some(digits) = inside(word, "x\"") {
         return match hex::decode(alloc, digits.as_bytes()) {
             Ok(bytes) => Ok(bytes),
@@ -71,13 +62,24 @@ fn inside<'a>(word: &'a str, begin: &str) -> Option<&'a str> {
 
 /// The word of bytes: the text if each byte is a character that can be printed, else hexadecimal digits.
 pub fn told(alloc: Global, bytes: &[u8]) -> io::Result<String> {
-    if bytes.iter().all(|byte| matches!(*byte, b' '..=b'~')) && !bytes.contains(&b'"') {
-        if let Ok(text) = std::str::from_utf8(bytes) {
-            return Ok(format!(in alloc; "\"{text}\"")?);
-        }
+    if let Some(text) = text_of(bytes) {
+        return Ok(format!(in alloc; "\"{text}\"")?);
     }
     let digits = hex::encode(alloc, bytes)?;
     Ok(format!(in alloc; "x\"{digits}\"")?)
+}
+
+/// Bytes as a text that can be printed between quotation marks.
+fn text_of(bytes: &[u8]) -> Option<&str> {
+    if bytes.iter().all(|byte| is_plain(*byte)) {
+        std::str::from_utf8(bytes).ok()
+    } else {
+        None
+    }
+}
+
+fn is_plain(byte: u8) -> bool {
+    matches!(byte, b' '..=b'~') && byte != b'"'
 }
 
 /// The word of what there is, or `none`.
