@@ -2,8 +2,10 @@
 use Rattle.std.proofs.Common.{◌≡◌, ◌<◌, zero, suc, ◌⊎◌, ⊎_elim, inl, inr, ℕ, Bool, List, [], ◌∷◌, ◌++◌, length, get_or}
 use Rattle.std.proofs.Common.{cond, true, false, refl, sym, ◌∙◌, ap, subst, arith, Bor}
 use Rattle.std.specs.Prelude.{option_copied, Option, Some, None, is_some, Contains, IsSome, IfNone, IfSome, nat_eq}
+use Rattle.std.specs.Prelude.{option_map, slice_get}
 use Rattle.std.specs.List.{All, IsDistinct}
 use Rattle.std.specs.Map.{lookup, lookup_entry, remove_entry, keys_of}
+use Rattle.std.specs.Option.{option_map_or}
 use Rattle.std.specs.Cmp.{nat_eq_equiv}
 use Rattle.std.proofs.lemmas.Bool.{eqb-true, false≢true}
 use Rattle.std.proofs.lemmas.List.{get_or-map, get_or_default, length-map}
@@ -12,6 +14,7 @@ use Rattle.std.proofs.lemmas.Map.{lookup-remove_entry}
 use Rattle.std.proofs.lemmas.Map.Views.{IsSome-lookup_from_Contains}
 use Rattle.station.specs.Disk.{Sector, sector_at}
 use Rattle.lru.specs.LruCache.{LruCache, lru_cache, promoted, put_entries}
+use Rattle.lru.proofs.Pairs.{lookup-lookup_entry}
 use Rattle.lru.proofs.Splits.{Contains-head}
 use Rattle.lru.proofs.CallerLemmas.{Contains-lookup, Contains-promoted, Contains-remove_entry, Contains-put_entries}
 use Rattle.pages.specs.Cache.{IsCacheOf, Recalls, StaysOut, ComesIn, CachesPage, KeepsChanges, Gathers}
@@ -48,6 +51,22 @@ pub missed : (cache new : LruCache ℕ Sector) (page : ℕ) (found : Option Sect
 missed cache new page None is after =
     after ∙ ap (λ (es : List (ℕ × Sector)). lru_cache es cache.cap) (promoted_none cache.entries page (sym is))
 missed cache new page (Some bytes) is after = tt
+
+-- an entry that is there becomes the first one
+put_first : (found : Option (ℕ × Sector)) (entries rest : List (ℕ × Sector))
+    → is_some (option_map (λ (e : ℕ × Sector). e.1) found) ≡ true
+    → option_map (λ (e : ℕ × Sector). e.1) (slice_get (option_map_or (λ e. e ∷ rest) found entries) 0)
+    ≡ option_map (λ (e : ℕ × Sector). e.1) found
+put_first None entries rest is = absurd (false≢true is)
+put_first (Some e) entries rest is = refl
+
+pub promoted_first : (entries : List (ℕ × Sector)) (page : ℕ) → is_some (lookup (nat_eq page) entries) ≡ true
+    → option_map (λ (e : ℕ × Sector). e.1) (slice_get (promoted (nat_eq page) entries) 0)
+    ≡ lookup (nat_eq page) entries
+promoted_first entries page is =
+    let same = lookup-lookup_entry (nat_eq page) entries in
+    put_first (lookup_entry (nat_eq page) entries) entries (remove_entry (nat_eq page) entries) (ap is_some same ∙ is)
+    ∙ same
 
 pub after_promoted : (pages : List (Option Sector)) (changed : List ℕ) (entries : List (ℕ × Sector)) (page : ℕ)
     → IsCacheOf pages changed entries → IsCacheOf pages changed (promoted (nat_eq page) entries)

@@ -18,6 +18,7 @@ pub mod Edits
 pub mod Caches
 pub mod Lookups
 pub mod Keeping
+pub mod Visiting
 pub mod Formatted
 pub mod Counted
 pub mod Counting

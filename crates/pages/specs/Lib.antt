@@ -21,3 +21,4 @@ pub mod Devices
 pub mod Edits
 pub mod Reads
 pub mod Opens
+pub mod Visits

@@ -1,5 +1,5 @@
 //! Pages as committed, so many as the cache may hold, the most recently used first.
-ghost use Rattle.std.specs.Prelude.{◌≡◌, ◌<◌, ◌↔◌, if◌then◌else◌, ℕ, List, [], ◌∷◌, true, false, Ok, Err, Some, None, slice_index_or, nat_eq, option_copied, Contains, IfOk, IfNone, OnErr, IsSome};
+ghost use Rattle.std.specs.Prelude.{◌≡◌, ◌<◌, ◌↔◌, if◌then◌else◌, ℕ, List, [], ◌∷◌, true, false, Ok, Err, Some, None, is_some, option_map, slice_get, slice_index_or, nat_eq, option_copied, Contains, IfOk, IfNone, OnErr, IsSome};
 ghost use Rattle.std.specs.List.{All};
 ghost use Rattle.std.specs.Map.{lookup};
 ghost use Rattle.station.specs.Calls.{OnlyReads};
@@ -52,11 +52,23 @@ pub(crate) fn seen_page(cache: &LruCache<u32, PageBytes>, page: u32) -> Option<&
     }
 }
 
-/// A page of the cache becomes the most recently used one.
-pub(crate) fn promote_page(cache: &mut LruCache<u32, PageBytes>, page: u32)
-    ensures { cache.new ≡ lru_cache (promoted (nat_eq page) cache.old.entries) cache.old.cap }
+/// A page of the cache becomes the most recently used one. It returns whether the cache has the page.
+pub(crate) fn promote_page(cache: &mut LruCache<u32, PageBytes>, page: u32) -> bool
+    ensures is_there { result ≡ is_some (lookup (nat_eq page) cache.old.entries) }
+    ensures entries { cache.new
+        ≡ lru_cache (promoted (nat_eq page) cache.old.entries) cache.old.cap }
 {
-    cache.promote(&page);
+    cache.promote(&page)
+}
+
+/// The most recently used page, if the cache has any. It takes no look-up.
+pub(crate) fn most_recent_page(cache: &LruCache<u32, PageBytes>) -> Option<&[u8; 4096]>
+    ensures { option_copied result ≡ option_map (λ e. e.1) (slice_get cache.now.entries 0) }
+{
+    match cache.peek_mru() {
+        Some((_, kept)) => Some(kept.view()),
+        None => None,
+    }
 }
 
 /// The page of a number in a table, or none: from the cache where it is there, and otherwise from the device, by way of the cache.

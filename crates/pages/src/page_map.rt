@@ -8,8 +8,8 @@ ghost use Rattle.pages.specs.Use.{free_count};
 ghost use Rattle.pages.specs.Ready.{IsReady, ready_props};
 
 use crate::cache::{
-    copy_page, fetch_page, forget_page, keep_changes, load_page, new_cache, promote_page,
-    recall_page, seen_page, take_page,
+    copy_page, fetch_page, forget_page, keep_changes, load_page, most_recent_page, new_cache,
+    promote_page, recall_page, seen_page, take_page,
 };
 use crate::change::{
     Change, clear_places, find_change, forget_run, is_kept, pass_runs, reserve_change, set_change,
@@ -62,6 +62,8 @@ impl PageMap {
     ghost use Rattle.pages.specs.Edits.{SameMap, SameChanges, SameFilled, SameMark, SameSectors, SameCache, SameCapacity, SameMapOnErr, SameChangesOnErr, SameFilledOnErr, SameCacheOnErr, ReplacesPage, PutsPage, AddsPage, AddsChange, ForgetsPage, FillsAtMost, LacksPage, ReportsSpent, ReportsFull, IfFull};
     ghost use Rattle.pages.specs.Reads.{IfChanged, StaysIfChanged, StaysIfCached, LeavesDeviceIfCached, LeavesDeviceIfNone, LoadsNothingIfAbsent, SameOnErr, ReadsPage, RecallsPage, IsPageReadRefusal};
     ghost use Rattle.pages.specs.Opens.{IsJustOpened, HasFilled, HasCapacity, LeavesPossible, Syncs, SyncsAtMost, HoldsCommitted, RefusesDisk, IfHoldsMap, IfHoldsForeign, IfDamaged};
+    ghost use Rattle.std.specs.Borrow.{sem};
+    ghost use Rattle.pages.specs.Visits.{EndsVisited};
     ghost use Rattle.pages.specs.Devices.{KeepsHonesty, KeepsSectors, BlamesDevice, OnlyReadsDevice, OnlyWritesDevice, FitsDevice};
 
     /// Opens the volume of a device. It syncs first, and writes nothing. The cache holds at most `capacity` pages, from 1 to 4,096.
@@ -361,7 +363,7 @@ impl PageMap {
     }
 
     /// The bytes of a page where they stand in memory: of one that was changed since the last commit, or is in the cache. The order of
-    /// use stays; `note_use` changes it. A value that is spent has none.
+    /// use stays; `visit` and `note_use` change it. A value that is spent has none.
     pub fn view(&self, page: u32) -> Option<&[u8; 4096]>
         ensures page { (disk : Disk) → Agrees self.now disk → IfSome result
             (λ bytes. page_of (map_now self.now disk.present) page ≡ Some bytes.now) }
@@ -378,6 +380,29 @@ impl PageMap {
             Some(i) => self.changes[i].view(),
             None => seen_page(&self.cache, page),
         }
+    }
+
+    /// The bytes of a page where they stand in memory, as `view` gives them. A page of the cache becomes the most recently used one.
+    pub fn visit(&mut self, page: u32) -> Option<&[u8; 4096]>
+        ensures* visits { sem 𝓛 (EndsVisited self.entry page) }
+        ensures page { (disk : Disk) → Agrees self.old disk → IfSome result
+            (λ bytes. page_of (map_now self.old disk.present) page ≡ Some bytes.now) }
+        ensures changed { is_spent self.old ≡ false → Contains (changed_pages_of self.old) page
+            → (image : List Sector) → option_copied result ≡ page_of (map_now self.old image) page }
+        ensures cached { is_spent self.old ≡ false → (Contains (changed_pages_of self.old) page → ⊥)
+            → option_copied result ≡ lookup (nat_eq page) (cache_of self.old).entries }
+        ensures spent { is_spent self.old ≡ true → result ≡ None }
+    {
+        if self.spent {
+            return None;
+        }
+        if let Some(i) = find_change(&self.changes, &self.places, page) {
+            return self.changes[i].view();
+        }
+        if !promote_page(&mut self.cache, page) {
+            return None;
+        }
+        most_recent_page(&self.cache)
     }
 
     /// A page of the cache becomes the most recently used one.

@@ -164,6 +164,14 @@ impl Volume {
         }
     }
 
+    /// The same of a page that becomes the most recently used one, if it is in the cache.
+    pub fn visit(&mut self, page: u32) -> Option<u8> {
+        match self.pages.visit(page) {
+            Some(bytes) => Some(alike(bytes)),
+            None => None,
+        }
+    }
+
     /// Notes that a page was used, if it is in the cache.
     pub fn note_use(&mut self, page: u32) {
         self.pages.note_use(page);

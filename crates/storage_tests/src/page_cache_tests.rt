@@ -108,6 +108,24 @@ fn a_noted_page_stays(rt: HostRuntime) {
     take_last_steps(&rt, rt.alloc(), volume, &steps);
 }
 
+// Of two pages in the cache the one that was visited stays. A changed page is visited too, and one that isn't in memory is not seen.
+#[test]
+fn a_visited_page_stays(rt: HostRuntime) {
+    let mut volume = three_pages(&rt, rt.alloc(), 2);
+    same(&rt, reads_of(&rt, &mut volume, &[1, 2, 2, 2, 2]), 2);
+    let steps = [
+        Step::Visit(1, Some(1)),
+        Step::Visit(3, None),
+        Step::Has(3, Some(3)),
+        Step::Seen(1, Some(1)),
+        Step::Visit(2, None),
+        Step::Edit(2, 22),
+        Step::Visit(2, Some(22)),
+        Step::Cached(2),
+    ];
+    take_last_steps(&rt, rt.alloc(), volume, &steps);
+}
+
 // Pages that are allocated or edited past the cache stay out of it after a commit. Allocated and edited pages enter it.
 #[test]
 fn pages_past_the_cache_stay_out(rt: HostRuntime) {

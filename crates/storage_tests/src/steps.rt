@@ -31,6 +31,8 @@ pub enum Step {
     Has(u32, Option<u8>),
     /// The same of a page in memory.
     Seen(u32, Option<u8>),
+    /// The same of a page that becomes the most recently used one.
+    Visit(u32, Option<u8>),
     Cached(usize),
     Changed(usize),
     Free(u32),
@@ -71,6 +73,7 @@ fn look(rt: &impl Abort, volume: &mut Volume, place: usize, step: Step) {
     match step {
         Step::Has(page, byte) => same_in(rt, &place, volume.has(rt, page), byte),
         Step::Seen(page, byte) => same_in(rt, &place, volume.seen(page), byte),
+        Step::Visit(page, byte) => same_in(rt, &place, volume.visit(page), byte),
         Step::Cached(count) => same_in(rt, &place, volume.cached(), count),
         Step::Changed(count) => same_in(rt, &place, volume.changed_pages(), count),
         Step::Free(count) => same_in(rt, &place, volume.free_sectors(), count),

@@ -11,5 +11,5 @@ pub returns-clause-keeps : goal.returns-clause-keeps
 returns-clause-keeps c =
     let changed = changed_pages c.args.self.now.changes.items in
     keeps_committed c.args.self.now _ (record { volume = refl; mark = refl; spent = refl }) refl
-    (λ pages is. subst (λ (l : LruCache ℕ Sector). IsCacheOf pages changed l.entries) (sym c.promote_page.ensures)
-    (after_promoted pages changed c.args.self.now.cache.entries c.args.page is))
+    (λ pages is. subst (λ (l : LruCache ℕ Sector). IsCacheOf pages changed l.entries)
+    (sym c.promote_page.ensures.entries) (after_promoted pages changed c.args.self.now.cache.entries c.args.page is))
