@@ -1,6 +1,6 @@
 -- Keys of which eight bytes are compared as one number.
-use Rattle.std.proofs.Common.{◌≡◌, ◌≤◌, ◌<◌, ◌+◌, ◌*◌, ◌^◌, ℕ, zero, suc, List, [], ◌∷◌, length, take, drop, slice_index}
-use Rattle.std.proofs.Common.{refl, sym, ap, ◌∙◌, arith}
+use Rattle.std.proofs.Common.{◌≡◌, ◌≤◌, ◌<◌, ◌+◌, ◌*◌, ◌^◌, ℕ, zero, suc, List, [], ◌∷◌, length, take, drop}
+use Rattle.std.proofs.Common.{refl, sym, ap, ◌∙◌, arith, slice_index}
 use Rattle.std.specs.Ordering.{nat_cmp, ordering_then}
 use Rattle.std.specs.Cmp.{nat_cmp_is}
 use Rattle.std.proofs.lemmas.List.{length-drop, take-take, take_all}
@@ -40,15 +40,16 @@ first_decides (suc k) (x ∷ xs) (y ∷ ys) long longer =
     ∙ sym (then_assoc (nat_cmp x y) (key_cmp (take k xs) (take k ys)) (key_cmp (drop k xs) (drop k ys)))
 
 -- what is known of the first bytes
-pub decided : (k : ℕ) (xs ys : List ℕ) (o : Ordering) → k ≤ length xs → k ≤ length ys → key_cmp (take k xs) (take k ys) ≡ o
-    → key_cmp xs ys ≡ ordering_then o (key_cmp (drop k xs) (drop k ys))
+pub decided : (k : ℕ) (xs ys : List ℕ) (o : Ordering) → k ≤ length xs → k ≤ length ys
+    → key_cmp (take k xs) (take k ys) ≡ o → key_cmp xs ys ≡ ordering_then o (key_cmp (drop k xs) (drop k ys))
 decided k xs ys o long longer is =
     first_decides k xs ys long longer ∙ ap (λ r. ordering_then r (key_cmp (drop k xs) (drop k ys))) is
 
 -- a key compares as equal to itself
 reflexive : (xs : List ℕ) → key_cmp xs xs ≡ Equal
 reflexive [] = refl
-reflexive (x ∷ xs) = ap (λ (o : Ordering). ordering_then o (key_cmp xs xs)) (sym (nat_cmp_is x x Equal refl)) ∙ reflexive xs
+reflexive (x ∷ xs) =
+    ap (λ (o : Ordering). ordering_then o (key_cmp xs xs)) (sym (nat_cmp_is x x Equal refl)) ∙ reflexive xs
 
 alike : (xs ys : List ℕ) → xs ≡ ys → key_cmp xs ys ≡ Equal
 alike xs ys e = ap (key_cmp xs) (sym e) ∙ reflexive xs
@@ -59,8 +60,8 @@ pub past : (k : ℕ) (xs ys : List ℕ) → k ≤ length xs → k ≤ length ys 
 past k xs ys long longer e = decided k xs ys Equal long longer (alike (take k xs) (take k ys) e)
 
 -- the last word may overlap the first one
-pub overlapping : (k : ℕ) (xs ys : List ℕ) → k ≤ 8 → length xs ≡ k + 8 → length ys ≡ k + 8 → take 8 xs ≡ take 8 ys
-    → key_cmp xs ys ≡ key_cmp (take 8 (drop k xs)) (take 8 (drop k ys))
+pub overlapping : (k : ℕ) (xs ys : List ℕ) → k ≤ 8 → length xs ≡ k + 8 → length ys ≡ k + 8
+    → take 8 xs ≡ take 8 ys → key_cmp xs ys ≡ key_cmp (take 8 (drop k xs)) (take 8 (drop k ys))
 overlapping k xs ys few long longer e =
     let one : take k (take 8 xs) ≡ take k xs = take-take k 8 xs few in
     let other : take k (take 8 ys) ≡ take k ys = take-take k 8 ys few in

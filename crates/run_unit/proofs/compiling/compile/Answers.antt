@@ -25,4 +25,5 @@ returns-in_err-tree-clause-fault c =
 
 pub returns-clause-fault : goal.returns-clause-fault
 returns-clause-fault c =
-    result_fault c.args.source.now _ c.image_of_tree-image.result c.in_ok-tree.ensures.rules c.image_of_tree-image.ensures.fault
+    result_fault c.args.source.now _ c.image_of_tree-image.result c.in_ok-tree.ensures.rules
+    c.image_of_tree-image.ensures.fault
