@@ -105,14 +105,21 @@ finds_none layout pages root levels key page depth sought entry tree down answer
     (subst (λ (s : Sought). AnswersAt layout pages page key s None) with answers)
 
 -- its page is that of a leaf of the tree
+pub leaf_of_way : (layout : RowLayout) (pages : List (Option Sector)) (root : ℕ) (key : List ℕ)
+    (levels : List (List TreeNode)) (steps : List PathStep) (page : ℕ) (right : Option (List ℕ))
+    → IsTree layout pages root levels → LeadsTo layout pages key levels steps page right → HasLeaf levels page
+leaf_of_way layout pages root key levels steps page right tree leads =
+    let at = leads.ends in
+    subst (HasLeaf levels) at.at_page
+    (has_spot levels at.leaf (leaf_of layout pages key levels steps at.leaf tree.joined at.reaches).leaves)
+
 pub ends_in_leaf : (layout : RowLayout) (pages : List (Option Sector)) (root : ℕ) (levels : List (List TreeNode))
     (key : List ℕ) (page depth : ℕ) (sought : Sought) (answer : Option Entry)
     → IsTree layout pages root levels → Down layout pages levels key page depth
     → AnswersAt layout pages page key sought answer → HasLeaf levels page
 ends_in_leaf layout pages root levels key page depth sought answer tree down answers =
-    let at = (ends layout pages root levels key page depth sought answer tree down answers).ends in
-    subst (HasLeaf levels) at.at_page
-    (has_spot levels at.leaf (leaf_of layout pages key levels down.steps at.leaf tree.joined at.reaches).leaves)
+    leaf_of_way layout pages root key levels down.steps page down.right tree
+    (ends layout pages root levels key page depth sought answer tree down answers)
 
 -- what a page answers after a call that only reads, it answered before it
 pub looked_before : {D : Type 0} (device : Devices D) (old new : PageMap) (a b : D) (layout : RowLayout) (page : ℕ)

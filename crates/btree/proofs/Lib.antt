@@ -9,6 +9,7 @@ pub mod Searches
 pub mod Answering
 pub mod Nearby
 pub mod Descending
+pub mod Finding
 pub mod Firsts
 pub mod TreeNodes
 pub mod Frames

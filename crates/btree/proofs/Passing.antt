@@ -35,11 +35,17 @@ never_ok is = cc
 pub never_err : {T E A : Type 0} {x : T} {e : E} → (◌≡◌ {A = Result T E} (Err e) (Ok x)) → A
 never_err is = cc
 
+pub ok_is : {T E : Type 0} {x y : T} → (◌≡◌ {A = Result T E} (Ok x) (Ok y)) → x ≡ y
+ok_is is = cc
+
 pub some_not_none : {T E A : Type 0} {x : T} → (◌≡◌ {A = Result (Option T) E} (Ok (Some x)) (Ok None)) → A
 some_not_none is = cc
 
 pub false_not_true : {E A : Type 0} → (◌≡◌ {A = Result Bool E} (Ok false) (Ok true)) → A
 false_not_true is = cc
+
+pub true_not_false : {E A : Type 0} → (◌≡◌ {A = Result Bool E} (Ok true) (Ok false)) → A
+true_not_false is = cc
 
 pub never_true : {A : Type 0} {b : Bool} → b ≡ false → b ≡ true → A
 never_true off on = cc

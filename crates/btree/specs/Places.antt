@@ -64,6 +64,11 @@ module _ {D : Type 0} (device : Devices D) where
   DamagedOnlyIfNoTreeNear tree pages now place result = OnNoTree device tree.layout tree.root pages now
       (ReturnsDamaged result × IsLeafPlace place (pages_on device pages now))
 
+  -- A search that puts an entry in place returns whether it is the one of this key.
+  abbrev pub FindsKey : RootedTree → PageMap → D → (List Entry → List ℕ → Option Entry) → List ℕ → Entry → Result Bool PagesError → Type 0
+  FindsKey tree pages now find key entry result = OnTree device tree.layout tree.root pages now
+      (λ levels. IfOk result (λ found. if_found found entry ≡ find (entries_of tree.layout levels) key))
+
   -- and the place after the call is one too
   abbrev pub KeepsLeafPlace : PageMap → D → LeafPlace → LeafPlace → Type 0
   KeepsLeafPlace pages now place place' =

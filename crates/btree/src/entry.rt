@@ -38,6 +38,7 @@ impl Entry {
     ghost use Rattle.std.specs.Prelude.{◌<◌, [], slice_index_or};
     ghost use Rattle.btree_pages.specs.Node.{IsNode};
     ghost use Rattle.btree.specs.Entries.{HasLengths, entry_of};
+    ghost use Rattle.btree.specs.Places.{if_found};
 
     /// An entry without bytes.
     pub fn blank() -> Entry
@@ -62,6 +63,13 @@ impl Entry {
         put_front(&mut self.bytes, row);
         self.length = row.len();
         self.key_length = leaf.layout().key_length;
+    }
+
+    /// The entry, if it was found.
+    pub(crate) fn if_found(self, found: bool) -> Option<Entry>
+        ensures { result ≡ if_found found self }
+    {
+        if found { Some(self) } else { None }
     }
 
     /// Its key, of the tree's key length.

@@ -10,6 +10,7 @@ mod count;
 mod descend;
 mod enter_leaf;
 mod entry;
+mod find;
 mod insert;
 mod insert_into_leaf;
 mod key;

@@ -54,8 +54,7 @@ pub fn read_node<D: Device>(
     ensures spent { ExactlyIfSpent pages.old result }
     ensures cause { IfErr result IsReadRefusal }
 {
-    pages.note_use(page);
-    if let Some(bytes) = pages.view(page) {
+    if let Some(bytes) = pages.visit(page) {
         return copy_node(bytes, layout);
     }
     node_loaded(pages, device, layout, page)

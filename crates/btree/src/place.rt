@@ -1,4 +1,4 @@
-//! The leaf where a search ended, in which the next search in order begins.
+//! The leaf that has the entry of a search, in which the next search in order begins.
 ghost use Rattle.std.specs.Prelude.{◌≡◌, ◌≢◌, ◌<◌, ◌↔◌, List, Option, Ok, true, false, IfErr};
 ghost use Rattle.station.specs.Disk.{Disk, Sector};
 ghost use Rattle.pages.specs.Pages.{Agrees, IsUnchanged, KeepsCommitted, is_spent, map_now};
@@ -12,7 +12,7 @@ ghost use Rattle.btree.specs.Places.{IsLeafPlace, SpellsLeaf, IsNextIn, IsNextOf
 
 use crate::entry::Entry;
 use crate::node::view_node;
-use crate::sought::{Sought, search, sought_place};
+use crate::sought::{Sought, sought_place};
 use crate::tree::Tree;
 use btree_pages::{Kind, RowLayout};
 use pages::{PageMap, PagesError};
@@ -56,8 +56,8 @@ impl LeafPlace {
 
 impl Tree {
     /// Puts the first entry after a key into `entry`, and returns whether there is one. The search begins in the noted leaf if it is one
-    /// of this tree, and the leaf where it ends is noted. `entry` may have any bytes if there is none, and after a refusal. Refusals are
-    /// those of `get`.
+    /// of this tree, and the leaf that has the entry is noted. `entry` may have any bytes if there is none, and after a refusal. Refusals
+    /// are those of `get`.
     pub fn next_near<D: Device>(
         &self,
         pages: &mut PageMap,
@@ -87,30 +87,15 @@ impl Tree {
         if look_near(pages, place, self.layout, self.root, key, entry) {
             return Ok(true);
         }
-        let end = search(
-            pages,
-            device,
-            self.layout,
-            self.root,
-            key,
-            Sought::After,
-            entry,
-        )?;
-        *place = LeafPlace {
-            layout: self.layout,
-            root: self.root,
-            leaf: end.leaf,
-        };
+        let end = self.search_right(pages, device, key, Sought::After, entry)?;
         if end.found {
-            return Ok(true);
+            *place = LeafPlace {
+                layout: self.layout,
+                root: self.root,
+                leaf: end.leaf,
+            };
         }
-        match self.search_right(pages, device, key, Sought::After)? {
-            Some(right) => {
-                *entry = right;
-                Ok(true)
-            }
-            None => Ok(false),
-        }
+        Ok(end.found)
     }
 }
 
@@ -136,8 +121,7 @@ fn look_near(
     if !place.is_in(layout, root) {
         return false;
     }
-    pages.note_use(place.leaf);
-    match pages.view(place.leaf) {
+    match pages.visit(place.leaf) {
         Some(bytes) => near_in(bytes, layout, key, entry),
         None => false,
     }

@@ -1,5 +1,5 @@
 //! What a search finds: the entry in the leaf where a key belongs, read where the pages stand.
-ghost use Rattle.std.specs.Prelude.{◌≡◌, Err, List, drop, IfOk, IfErr, IfSome, OnErr, true};
+ghost use Rattle.std.specs.Prelude.{◌≡◌, Ok, Err, List, drop, IfOk, IfErr, OnErr, true};
 ghost use Rattle.pages.specs.Pages.{IsUnchanged};
 ghost use Rattle.pages.specs.Devices.{FitsDevice};
 ghost use Rattle.btree_pages.specs.RowLayouts.{IsRowLayout};
@@ -7,7 +7,7 @@ ghost use Rattle.btree_pages.specs.Keys.{Ascend, keys_of};
 ghost use Rattle.btree.specs.Tree.{TreeNode, IsTree};
 ghost use Rattle.btree.specs.Entries.{HasLengths, entries_of_rows, entries_of, first_entry};
 ghost use Rattle.btree.specs.Reading.{IsReadRefusal, SpellsNoNode, NoneOfKind, NoTree};
-ghost use Rattle.btree.specs.Places.{HasLeaf};
+ghost use Rattle.btree.specs.Places.{HasLeaf, if_found};
 ghost use Rattle.btree.specs.Sought.{sought_in, AnswersAt, LooksIn, LooksAt, FindsEntry};
 ghost use Rattle.btree.specs.Calls.{OnPages, OnlyReadsFor, KeepsAgreement};
 ghost use Rattle.btree.specs.PageReads.{AnswersFromPage};
@@ -144,14 +144,14 @@ fn look_at<D: Device>(
         pages.old device.old pages.new device.new result }
     ensures lengths { IfOk result (λ look. look ≡ Look.Here → HasLengths layout entry.new) }
 {
-    pages.note_use(page);
-    if let Some(bytes) = pages.view(page) {
+    if let Some(bytes) = pages.visit(page) {
         return look_in(bytes, layout, key, sought, entry);
     }
     look_loaded(pages, device, layout, page, key, sought, entry)
 }
 
-/// The entry that is sought, in the leaf of that page number. `Damaged` means that the page is no leaf of a tree.
+/// Puts the entry that is sought into `entry`, and returns whether the leaf of that page number has it. `Damaged` means that the page is
+/// no leaf of a tree.
 pub(crate) fn entry_at<D: Device>(
     pages: &mut PageMap,
     device: &mut D,
@@ -159,24 +159,25 @@ pub(crate) fn entry_at<D: Device>(
     page: u32,
     key: &[u8],
     sought: Sought,
-) -> Result<Option<Entry>, PagesError>
+    entry: &mut Entry,
+) -> Result<bool, PagesError>
     requires sectors { FitsDevice D.Device pages.old device.old }
     requires layout { IsRowLayout layout }
     ensures only { OnlyReadsFor D.Device device.old device.new result }
     ensures unchanged { IsUnchanged pages.old pages.new }
     ensures agrees { KeepsAgreement D.Device pages.old device.old pages.new device.new }
     ensures entry { OnPages D.Device pages.old device.old
-        (λ before. IfOk result (AnswersAt layout before page key.now sought)) }
-    ensures lengths { IfOk result (λ entry. IfSome entry (HasLengths layout)) }
+        (λ before. IfOk result
+        (λ found. AnswersAt layout before page key.now sought (if_found found entry.new))) }
+    ensures lengths { result ≡ Ok true → HasLengths layout entry.new }
     ensures damaged { OnPages D.Device pages.old device.old
         (NoneOfKind layout Kind.Leaf page (ReturnsDamaged result)) }
     ensures spent { ExactlyIfSpent pages.old result }
     ensures cause { IfErr result IsReadRefusal }
 {
-    let mut entry = Entry::blank();
-    match look_at(pages, device, layout, page, key, sought, &mut entry)? {
-        Look::Here => Ok(Some(entry)),
-        Look::Missing => Ok(None),
+    match look_at(pages, device, layout, page, key, sought, entry)? {
+        Look::Here => Ok(true),
+        Look::Missing => Ok(false),
         Look::Below(_) => Err(PagesError::Damaged),
     }
 }

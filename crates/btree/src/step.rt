@@ -31,8 +31,7 @@ pub(crate) fn step_at<D: Device>(
         (λ before. StepsAt layout before page key.now right.old right.new) (IsSearchRefusal layout)
         pages.old device.old pages.new device.new result }
 {
-    pages.note_use(page);
-    if let Some(bytes) = pages.view(page) {
+    if let Some(bytes) = pages.visit(page) {
         return step_in(alloc, bytes, layout, key, right);
     }
     step_loaded(alloc, pages, device, layout, page, key, right)

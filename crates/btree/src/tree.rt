@@ -1,20 +1,16 @@
 //! A tree, and what is read of it.
-ghost use Rattle.std.specs.Prelude.{◌≡◌, ◌≢◌, ◌++◌, ◌⊎◌, Err, ℕ, List, IfOk, IfErr, IfSome};
+ghost use Rattle.std.specs.Prelude.{◌≡◌, ◌⊎◌, IfOk, IfErr, IfSome};
 ghost use Rattle.pages.specs.Pages.{IsUnchanged};
 ghost use Rattle.pages.specs.Devices.{FitsDevice};
 ghost use Rattle.btree_pages.specs.RowLayouts.{IsRowLayout};
-ghost use Rattle.btree.specs.Tree.{TreeNode, IsTree, rows_in_order};
-ghost use Rattle.btree.specs.Path.{first_key};
-ghost use Rattle.btree.specs.Entries.{HasLengths, entry_with, first_from, first_entry_after, first_entry, entries_of_rows};
+ghost use Rattle.btree.specs.Entries.{HasLengths, entry_with, first_from, first_entry_after, first_entry};
 ghost use Rattle.btree.specs.Reading.{IsSearchRefusal};
 ghost use Rattle.btree.specs.Sought.{sought_in};
-ghost use Rattle.btree.specs.Calls.{OnPages, AnswersEntry, OnlyReadsFor, KeepsAgreement, DamagedOnlyIfNoTree, AnswersKey};
-ghost use Rattle.btree.specs.Results.{OnlyIfSpent, ExactlyIfSpent, ExactlyIfSpentAt};
+ghost use Rattle.btree.specs.Calls.{AnswersEntry, OnlyReadsFor, KeepsAgreement, DamagedOnlyIfNoTree, AnswersKey};
+ghost use Rattle.btree.specs.Results.{ExactlyIfSpentAt};
 
-use crate::descend::follow;
 use crate::entry::Entry;
-use crate::key::Key;
-use crate::sought::{Sought, entry_at, search};
+use crate::sought::Sought;
 use btree_pages::{MOST_ROW_BYTES, RowLayout};
 use pages::{PageMap, PagesError};
 use station::Device;
@@ -92,23 +88,9 @@ impl Tree {
         ensures lengths { IfOk result (λ entry. IfSome entry (HasLengths self.now.layout)) }
         ensures cause { IfErr result (IsSearchRefusal self.now.layout) }
     {
-        if self.root == 0 {
-            return Ok(None);
-        }
         let mut entry = Entry::blank();
-        let end = search(
-            pages,
-            device,
-            self.layout,
-            self.root,
-            key,
-            Sought::With,
-            &mut entry,
-        )?;
-        if end.found {
-            return Ok(Some(entry));
-        }
-        Ok(None)
+        let found = self.find(pages, device, key, &mut entry)?;
+        Ok(entry.if_found(found))
     }
 
     /// The first entry from a key on. Refusals are those of `get`.
@@ -192,82 +174,8 @@ impl Tree {
         ensures lengths { IfOk result (λ entry. IfSome entry (HasLengths self.now.layout)) }
         ensures cause { IfErr result (IsSearchRefusal self.now.layout) }
     {
-        if self.root == 0 {
-            return Ok(None);
-        }
-        let root = self.root;
         let mut entry = Entry::blank();
-        let end = search(pages, device, self.layout, root, key, sought, &mut entry)?;
-        if end.found {
-            return Ok(Some(entry));
-        }
-        self.search_right(pages, device, key, sought)
-    }
-
-    /// The same in a tree that has a root, by a way that keeps what is to the right of its leaf. Refusals are those of `get`.
-    #[cold]
-    #[inline(never)]
-    pub(crate) fn search_right<D: Device>(
-        &self,
-        pages: &mut PageMap,
-        device: &mut D,
-        key: &[u8],
-        sought: Sought,
-    ) -> Result<Option<Entry>, PagesError>
-        requires root { self.now.root ≢ 0 }
-        requires sectors { FitsDevice D.Device pages.old device.old }
-        requires sought { (sought ≡ Sought.From) ⊎ (sought ≡ Sought.After) }
-        ensures only { OnlyReadsFor D.Device device.old device.new result }
-        ensures unchanged { IsUnchanged pages.old pages.new }
-        ensures agrees { KeepsAgreement D.Device pages.old device.old pages.new device.new }
-        ensures entry { AnswersKey D.Device self.now pages.old device.old (sought_in sought) key.now
-            result }
-        ensures damaged { DamagedOnlyIfNoTree D.Device self.now pages.old device.old result }
-        ensures spent { ExactlyIfSpent pages.old result }
-        ensures lengths { IfOk result (λ entry. IfSome entry (HasLengths self.now.layout)) }
-        ensures cause { IfErr result (IsSearchRefusal self.now.layout) }
-    {
-        let way = follow(self.alloc, pages, device, self.layout, self.root, key)?;
-        match entry_at(pages, device, self.layout, way.page, key, sought)? {
-            Some(found) => Ok(Some(found)),
-            None => self.right_entry(pages, device, way.right),
-        }
-    }
-
-    /// The entry to the right of a leaf: that of the first key there, if there is one.
-    #[cold]
-    #[inline(never)]
-    fn right_entry<D: Device>(
-        &self,
-        pages: &mut PageMap,
-        device: &mut D,
-        right: Option<Key>,
-    ) -> Result<Option<Entry>, PagesError>
-        requires sectors { FitsDevice D.Device pages.old device.old }
-        ensures only { OnlyReadsFor D.Device device.old device.new result }
-        ensures unchanged { IsUnchanged pages.old pages.new }
-        ensures agrees { KeepsAgreement D.Device pages.old device.old pages.new device.new }
-        ensures entry { OnPages D.Device pages.old device.old
-            (λ before. (levels : List (List TreeNode)) → IsTree self.now.layout before self.now.root
-            levels → (passed after : List (List ℕ)) → rows_in_order levels ≡ passed ++ after
-            → right ≡ first_key self.now.layout after → IfOk result
-            (λ entry. entry ≡ first_entry (entries_of_rows self.now.layout after))) }
-        ensures damaged { OnPages D.Device pages.old device.old
-            (λ before. result ≡ Err PagesError.Damaged → (levels : List (List TreeNode))
-            → IsTree self.now.layout before self.now.root levels
-            → (passed after : List (List ℕ)) → rows_in_order levels ≡ passed ++ after
-            → right ≡ first_key self.now.layout after → ⊥) }
-        ensures spent { OnlyIfSpent pages.old result }
-        ensures lengths { IfOk result (λ entry. IfSome entry (HasLengths self.now.layout)) }
-        ensures cause { IfErr result (IsSearchRefusal self.now.layout) }
-    {
-        let right = match right {
-            Some(right) => right,
-            None => return Ok(None),
-        };
-        match self.get(pages, device, right.bytes())? {
-            Some(entry) => Ok(Some(entry)),
-            None => Err(PagesError::Damaged),
-        }
+        let found = self.find_on(pages, device, key, sought, &mut entry)?;
+        Ok(entry.if_found(found))
     }
 }
