@@ -50,3 +50,11 @@ module _ {D : Type 0} (d : Devices D) where
   -- the pages after a call that only reads
   pub same_on : (p q : PageMap) (a : D) → IsUnchanged p q → pages_on d q a ≡ pages_on d p a
   same_on p q a unchanged = ap (λ (m : Map). m.pages) (unchanged.map (d.state a).disk.present)
+
+  -- what a call says of the pages, after another one that only reads, it says of them before that one
+  pub told_before : (A : Type 0) (p q : PageMap) (a b : D) (claim : List (Option Sector) → Type 0) → d.is_honest a
+      → Agrees p (d.state a).disk → OnlyReads d A a b → IsUnchanged p q
+      → (d.is_honest a → Agrees p (d.state a).disk → Agrees q (d.state b).disk) → OnPages d q b claim
+      → claim (pages_on d p a)
+  told_before A p q a b claim honest agrees only unchanged still told =
+      subst claim (same_on p q a unchanged) (pages_told A q a b claim honest only (still honest agrees) told)

@@ -1,13 +1,14 @@
 -- What a search of a tree of rows answers.
-use Rattle.std.proofs.Common.{◌≡◌, ◌≢◌, ◌++◌, ℕ, List, length, sym, ap, subst, ◌∙◌}
-use Rattle.std.specs.Prelude.{Option, Some, None, option_map, take, drop}
+use Rattle.std.proofs.Common.{◌≡◌, ◌≢◌, ◌≤◌, ◌++◌, true, false, ℕ, zero, suc, List, length, refl, sym, ap, subst, ◌∙◌}
+use Rattle.std.specs.Prelude.{Option, Some, None, IfSome, option_map, take, drop}
 use Rattle.station.specs.Disk.{Sector}
 use Rattle.station.specs.declared.device.Device.{Ghosts as Devices}
 use Rattle.byteorder.specs.Endian.{big_number}
 use Rattle.pages.specs.Pages.{Agrees}
 use Rattle.pages.specs.declared.page_map.PageMap.{PageMap}
 use Rattle.btree.specs.Calls.{OnPages, OnTree, pages_on}
-use Rattle.btree.specs.Entries.{Entry, entry_with}
+use Rattle.btree_pages.specs.declared.row_layout.RowLayout.{RowLayout}
+use Rattle.btree.specs.Entries.{Entry, HasLengths, entry_with}
 use Rattle.btree.specs.Tree.{TreeNode, IsTreeOrEmpty}
 use Rattle.chains.specs.Chain.{pages_for}
 use Rattle.chains.specs.Chain as chain
@@ -18,7 +19,8 @@ use Rattle.volume_format.specs.Calls.{LooksAt}
 use Rattle.volume_format.specs.Chained.{form_of}
 use Rattle.volume_format.specs.Forest.{TreeLevels}
 use Rattle.row_trees.specs.Calls.{OnRowTree}
-use Rattle.row_trees.specs.RowTree.{ChainedTree, IsRowTree}
+use Rattle.row_trees.specs.Reading.{IsRecordLength, HasRecord, ReadsRecord, ReadsRow}
+use Rattle.row_trees.specs.RowTree.{ChainedTree, IsRowTree, FitsForm}
 use Rattle.row_trees.proofs.Calling.{pages_told, same_on}
 use Rattle.row_trees.proofs.Among.{stored_in, stands_alone, seen_alone}
 use Rattle.row_trees.proofs.Forms.{pair, unrolled_long, unrolled_short}
@@ -82,6 +84,45 @@ long_got pages rows planted key told entry bytes value first is says some long m
     ∙ ap Some (record_seen rows.record_bytes pages entry bytes first long many first_is read)
     ∙ sym (ap (option_map (unrolled_entry (form_of rows.record_bytes) pages)) some)
     ∙ got_seen pages rows planted key told is says
+
+-- A row that is read by its key.
+pub none_read : (pages : List (Option Sector)) (rows : ChainedTree) (planted : TreeLevels) (key bytes : List ℕ)
+    (told : Option Entry) → IsRowTree pages rows planted → Says pages rows key told → told ≡ None
+    → ReadsRow (entry_with planted.entries key) bytes bytes false
+none_read pages rows planted key bytes told is says none =
+    subst (λ (o : Option Entry). ReadsRow o bytes bytes false) (none_got pages rows planted key told is says none)
+    (refl, refl)
+
+pub row_read : (pages : List (Option Sector)) (rows : ChainedTree) (planted : TreeLevels) (key old new : List ℕ)
+    (told : Option Entry) (entry : Entry) → IsRowTree pages rows planted → Says pages rows key told
+    → told ≡ Some entry → ReadsRecord rows.record_bytes pages entry old new
+    → ReadsRow (entry_with planted.entries key) old new true
+row_read pages rows planted key old new told entry is says some read =
+    subst (λ (o : Option Entry). ReadsRow o old new true)
+    (sym (ap (option_map (unrolled_entry (form_of rows.record_bytes) pages)) some)
+    ∙ got_seen pages rows planted key told is says) (refl, read.bytes_are)
+
+record_there : (n : ℕ) (pages : List (Option Sector)) (layout : RowLayout) (entry : Entry) (size : ℕ) → FitsForm n layout
+    → IsRecordLength n size → length entry.value ≡ layout.value_length
+    → size ≤ length (unrolled_entry (form_of n) pages entry).value
+    → (n ≢ 0 → chain.Stands pages (pages_for n) (big_number 4 entry.value)) → HasRecord n pages entry size
+record_there zero pages layout entry size fits is long whole stands = whole
+record_there (suc more) pages layout entry size fits is long whole stands =
+    (is, subst (λ (k : ℕ). 4 ≤ k) (sym long) fits.0, stands (λ none. cc))
+
+-- the entry that was found has the record
+pub record_found : (pages : List (Option Sector)) (rows : ChainedTree) (planted : TreeLevels) (key : List ℕ)
+    (told : Option Entry) (entry : Entry) (size : ℕ) → IsRowTree pages rows planted → Says pages rows key told
+    → told ≡ Some entry → FitsForm rows.record_bytes rows.tree.layout → IsRecordLength rows.record_bytes size
+    → HasLengths rows.tree.layout entry
+    → IfSome (entry_with planted.entries key) (λ row. size ≤ length row.value)
+    → HasRecord rows.record_bytes pages entry size
+record_found pages rows planted key told entry size is says some fits size_is lengths whole =
+    record_there rows.record_bytes pages rows.tree.layout entry size fits size_is lengths.1
+    (subst (λ (o : Option Entry). IfSome o (λ row. size ≤ length row.value))
+    (sym (got_seen pages rows planted key told is says)
+    ∙ ap (option_map (unrolled_entry (form_of rows.record_bytes) pages)) some) whole)
+    (got_chain pages rows planted key told entry is says some)
 
 module _ {D : Type 0} (d : Devices D) where
   -- so a read of it isn't refused as damaged

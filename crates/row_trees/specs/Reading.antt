@@ -1,5 +1,5 @@
 -- What a read of a record is asked for.
-use Rattle.std.specs.Prelude.{◌≡◌, ◌≤◌, ℕ, zero, suc, List, length, take, Option, ⊤}
+use Rattle.std.specs.Prelude.{◌≡◌, ◌≤◌, ℕ, zero, suc, Bool, List, length, take, Option, Some, None, is_some, ⊤}
 use Rattle.station.specs.Disk.{Sector}
 use Rattle.btree.specs.Entries.{Entry}
 use Rattle.chains.specs.Rows.{HasChain, unrolled_entry}
@@ -21,3 +21,12 @@ pub record ReadsRecord (record_bytes : ℕ) (pages : List (Option Sector)) (entr
   where
     pub has : HasRecord record_bytes pages entry (length old)
     pub bytes_are : new ≡ take (length old) (unrolled_entry (form_of record_bytes) pages entry).value
+
+-- a buffer with the record of a row, as it was if there is none
+abbrev pub record_into : Option Entry → List ℕ → List ℕ
+record_into None old = old
+record_into (Some row) old = take (length old) row.value
+
+-- It is said whether the row is there, and a buffer got its record.
+abbrev pub ReadsRow : Option Entry → List ℕ → List ℕ → Bool → Type 0
+ReadsRow row old new found = (found ≡ is_some row) × (new ≡ record_into row old)
