@@ -20,7 +20,6 @@ ghost use Rattle.alternate_keys.specs.Aims.{found_entry};
 ghost use Rattle.alternate_keys.specs.Searches.{OnPairEntry};
 ghost use Rattle.alternate_keys.specs.Seen.{IsRowEntry, number_in, begins_with_value};
 
-use crate::look::copy_record;
 use crate::notes::SearchNotes;
 use crate::search_start::SearchStart;
 use btree::{Entry, LeafPlace, Tree};
@@ -135,12 +134,12 @@ pub(crate) fn read_alternate_row<D: Device>(
         place,
         &mut notes.next,
     )?;
-    let row = match prime.find(notes.alloc, pages, device, notes.entry.value())? {
-        Some(row) => row,
-        None => return Err(PagesError::Damaged),
-    };
-    copy_record(row.value(), bytes)?;
-    Ok(Found { number, repeated })
+    let record = &mut notes.record;
+    let prime_key = notes.entry.value();
+    if prime.read_row(record, pages, device, prime_key, &mut notes.next, bytes)? {
+        return Ok(Found { number, repeated });
+    }
+    Err(PagesError::Damaged)
 }
 
 /// The number that a key of the tree of rows has: 0 in an indexed file.

@@ -29,6 +29,7 @@ mod row_changes;
 mod row_move;
 mod row_turn;
 mod row_verb;
+mod search_key;
 mod search_keys;
 mod search_start;
 mod second_mark;

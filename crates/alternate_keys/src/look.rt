@@ -51,7 +51,7 @@ pub(crate) fn look<D: Device>(
 }
 
 /// Puts the entry of a tree that is looked for into `entry`, and returns whether there is one. A search after a key begins in the leaf
-/// that is noted, and the leaf where it ends is noted.
+/// that is noted, and the leaf that has the entry is noted.
 pub(crate) fn look_near<D: Device>(
     tree: &Tree,
     pages: &mut PageMap,
@@ -80,27 +80,7 @@ pub(crate) fn look_near<D: Device>(
 {
     match aim {
         SearchStart::Nothing => Ok(false),
-        SearchStart::From => match tree.seek(pages, device, key)? {
-            Some(found) => {
-                *entry = found;
-                Ok(true)
-            }
-            None => Ok(false),
-        },
+        SearchStart::From => tree.find_from(pages, device, key, entry),
         SearchStart::After => tree.next_near(pages, device, key, place, entry),
     }
-}
-
-/// Puts the record of a row into `bytes`, by the value of the row. A value that is shorter is none of a row.
-pub(crate) fn copy_record(value: &[u8], bytes: &mut [u8]) -> Result<(), PagesError>
-    ensures ok { OnOk result (bytes.new ≡ take (length bytes.old) value.now) }
-    ensures kept { OnErr result (bytes.new ≡ bytes.old) }
-    ensures err { IfErr result
-        (λ error. (error ≡ PagesError.Damaged) × (length value.now < length bytes.old)) }
-{
-    if value.len() < bytes.len() {
-        return Err(PagesError::Damaged);
-    }
-    bytes.copy_from_slice(&value[..bytes.len()]);
-    Ok(())
 }

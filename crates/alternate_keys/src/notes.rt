@@ -19,8 +19,8 @@ use station::Device;
 use std::alloc::{AllocError, Global};
 use volume_format::{LISTING_BYTES, listing_part};
 
-/// The file of the last search with its listing in the catalog, and the leaf of a tree where a search ended. No file is noted if the name
-/// is empty. The entries and the record are memory that each search uses again.
+/// The file of the last search with its listing in the catalog, and the leaf of a tree that has the entry of a search. No file is noted
+/// if the name is empty. The entries and the record are memory that each search uses again.
 #[derive(Drop)]
 pub(crate) struct SearchNotes {
     pub(crate) alloc: Global,
@@ -83,6 +83,35 @@ impl SearchNotes {
         if self.name[..] == name[..] {
             return Ok(true);
         }
+        self.note_other_file(pages, device, name)
+    }
+
+    /// The same if another file is noted.
+    #[cold]
+    #[inline(never)]
+    fn note_other_file<D: Device>(
+        &mut self,
+        pages: &mut PageMap,
+        device: &mut D,
+        name: &[u8],
+    ) -> Result<bool, StoreFault>
+        requires sectors { sectors_of pages.old ≤ D.sectors device.old }
+        requires name { is_name name.now ≡ true }
+        ensures looks { LooksAt D.Device (result ≡ Err StoreFault.Device) pages.old device.old
+            pages.new device.new }
+
+        // If what was noted is true of the pages, so is the answer, and so is what is noted then.
+        ensures listed { OnNotes D.Device (noted_search self.old) pages.old device.old
+            (λ m. (files : Files) → MapHolds m files → IfOk result (λ is_there.
+            IsListingOf m (file_at name.now files) is_there self.new.listing)) }
+        ensures notes { OnNotes D.Device (noted_search self.old) pages.old device.old
+            (AreNotesOf (noted_search self.new)) }
+        ensures damaged { IfAgrees D.Device pages.old device.old ((files : Files)
+            → MapHolds (map_now pages.old (D.state device.old).disk.present) files
+            → result ≡ Err StoreFault.Damaged → ⊥) }
+        ensures spent { result ≡ Err StoreFault.Spent → is_spent pages.old ≡ true }
+        ensures cause { IfErr result IsReadFault }
+    {
         match find_listing(self.alloc, pages, device, name)? {
             Some(entry) => {
                 self.note_listing(name, listing_part(&entry))?;

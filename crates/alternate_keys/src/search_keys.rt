@@ -1,9 +1,10 @@
 //! How a tree is looked into for the first row after a place.
-ghost use Rattle.std.specs.Prelude.{◌≡◌, ◌≤◌, ◌++◌, length, IfOk, IsOkUnless};
+ghost use Rattle.std.specs.Prelude.{◌≡◌, ◌≤◌, ◌+◌, ◌++◌, length, IfOk, IsOkUnless};
 ghost use Rattle.byteorder.specs.Endian.{big_bytes};
 ghost use Rattle.records.specs.Stores.{spec_of, IsKey, key_length, bound_at};
-ghost use Rattle.alternate_keys.specs.Aims.{extended_bytes, fill, aim_at, aim_short, aim_number, aim_value, aim_of, aim_key, pair_aim_key};
+ghost use Rattle.alternate_keys.specs.Aims.{fill, aim_at, aim_short, aim_number, aim_value, aim_of, aim_key, pair_aim_key};
 
+use crate::search_key::SearchKey;
 use crate::search_start::SearchStart;
 use records::{FileSpec, KeyOfReference, Organization, Side, StoreFault};
 use std::alloc::Global;
@@ -75,34 +76,32 @@ pub(crate) fn number_bytes(alloc: Global, number: u64) -> Result<Vec<u8>, StoreF
     Ok(out)
 }
 
-/// The key from which a key's tree is looked into.
-pub(crate) fn key_for(
-    alloc: Global,
+/// Puts the key from which a key's tree is looked into in place.
+pub(crate) fn put_key(
+    at: &mut SearchKey,
     file: &FileSpec,
     key: KeyOfReference,
     side: Side,
     value: &[u8],
     number: u64,
-) -> Result<Vec<u8>, StoreFault>
+)
     requires key { IsKey (spec_of file.now) key }
     requires value { length value.now ≤ key_length (spec_of file.now) key }
-    ensures bytes { IfOk result
-        (λ bytes. bytes.items ≡ aim_key (spec_of file.now) key (bound_at side value.now number)) }
-    ensures memory { IsOkUnless result StoreFault.Memory }
+    ensures { at.new ≡ aim_key (spec_of file.now) key (bound_at side value.now number) }
 {
     let count = file.key_place(key).length as usize;
     match key {
         KeyOfReference::Prime => match file.organization {
-            Organization::Sequential => pair_bytes(alloc, &[], number),
-            Organization::Relative => number_bytes(alloc, number),
-            Organization::Indexed(_) => extend(alloc, value, count, fill_byte(side)),
+            Organization::Sequential => at.set_pair(&[], number),
+            Organization::Relative => at.set_number(number),
+            Organization::Indexed(_) => at.set_filled(value, count, fill_byte(side)),
         },
         KeyOfReference::Alternate(_) => {
             let count = count + ARRIVAL_BYTES;
             if value.len() + ARRIVAL_BYTES < count {
-                extend(alloc, value, count, fill_byte(side))
+                at.set_filled(value, count, fill_byte(side));
             } else {
-                whole_key(alloc, count, side, value, number)
+                put_whole_key(at, count, side, value, number);
             }
         }
     }
@@ -169,36 +168,15 @@ fn fill_byte(side: Side) -> u8
     }
 }
 
-/// A value, filled up to so many bytes.
-fn extend(alloc: Global, value: &[u8], count: usize, byte: u8) -> Result<Vec<u8>, StoreFault>
+/// Puts a place under an alternate key in place, in whole.
+fn put_whole_key(at: &mut SearchKey, count: usize, side: Side, value: &[u8], number: u64)
     requires count { count ≤ 200 }
-    requires fits { length value.now ≤ count }
-    ensures bytes { IfOk result (λ bytes. bytes.items ≡ extended_bytes count byte value.now) }
-    ensures memory { IsOkUnless result StoreFault.Memory }
-{
-    let mut out = Vec::with_capacity(alloc, count)?;
-    out.extend_from_slice(value)?;
-    out.resize(count, byte)?;
-    Ok(out)
-}
-
-/// A place under an alternate key, in whole.
-fn whole_key(
-    alloc: Global,
-    count: usize,
-    side: Side,
-    value: &[u8],
-    number: u64,
-) -> Result<Vec<u8>, StoreFault>
-    requires count { count ≤ 200 }
-    requires fits { length value.now ≤ count }
-    ensures bytes { IfOk result (λ bytes. bytes.items
-        ≡ pair_aim_key count side (record { value = value.now; number = number })) }
-    ensures memory { IsOkUnless result StoreFault.Memory }
+    requires fits { length value.now + 8 ≤ count }
+    ensures { at.new ≡ pair_aim_key count side (record { value = value.now; number = number }) }
 {
     match side {
-        Side::From => pair_bytes(alloc, value, number),
-        Side::After => pair_bytes(alloc, value, number),
-        Side::Beyond => extend(alloc, value, count, 255),
+        Side::From => at.set_pair(value, number),
+        Side::After => at.set_pair(value, number),
+        Side::Beyond => at.set_filled(value, count, 255),
     }
 }

@@ -12,7 +12,8 @@ ghost use Rattle.alternate_keys.specs.Notes.{AreNotesOf, OnNotes, noted_search};
 
 use crate::file_tree::{file_tree, row_tree};
 use crate::notes::SearchNotes;
-use crate::search_keys::{key_for, search_start_for};
+use crate::search_key::SearchKey;
+use crate::search_keys::{put_key, search_start_for};
 use crate::seek::{KeySearch, seek_row};
 use pages::{PageMap, map_bounds};
 use records::{FileSpec, Found, KeyBound, KeyOfReference, StoreFault};
@@ -63,9 +64,10 @@ pub(crate) fn seek_in<D: Device>(
     let alloc = notes.alloc;
     let prime = row_tree(alloc, file, &notes.listing);
     let under = file_tree(alloc, file, key, &notes.listing);
-    let at = key_for(alloc, file, key, bound.side, bound.value, bound.number)?;
+    let mut at = SearchKey::blank();
+    put_key(&mut at, file, key, bound.side, bound.value, bound.number);
     let aim = search_start_for(file, key, bound.side, bound.value, bound.number);
-    let from = at.as_slice();
+    let from = at.bytes();
     let key_search = KeySearch {
         file,
         key,

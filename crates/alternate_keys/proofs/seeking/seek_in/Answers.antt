@@ -53,17 +53,17 @@ sought : (g : Over) (c : After-seek_row g) → OnNotes g.D.Device (noted_search 
     c.args.device.now (λ m. (files : Files) (held : File) → MapHolds m files → Has files c.args.file.now held
     → IsSought (spec_of c.args.file.now) c.args.key (bound_of c.args.bound)
     (pages_on g.D.Device c.note_file.new.pages c.note_file.new.device) held.rows c.row_tree-prime.result
-    c.file_tree-under.result c.search_start_for-aim.result c.as_slice-from.result.now)
+    c.file_tree-under.result c.search_start_for-aim.result c.bytes-from.result.now)
 sought g c honest agrees are files held holds has =
     let low : c.args.bound.number < 2 ^ 64 = search rules in
     let way = sought_in _ _ held (spec_of c.args.file.now) c.args.key (bound_of c.args.bound)
     c.note_file.new.self.listing c.row_tree-prime.result c.file_tree-under.result
-    c.search_start_for-aim.result c.as_slice-from.result.now (knows g c honest agrees are files held holds has)
+    c.search_start_for-aim.result c.bytes-from.result.now (knows g c honest agrees are files held holds has)
     (record { value = c.requires.value; number = omega (arith, low) })
-    c.search_start_for-aim.ensures (c.as_slice-from.ensures.value ∙ c.in_ok-at.ensures.bytes) in
+    c.search_start_for-aim.ensures (c.bytes-from.ensures ∙ c.put_key.ensures) in
     subst (λ (p : List (Option Sector)). IsSought (spec_of c.args.file.now) c.args.key (bound_of c.args.bound) p
     held.rows c.row_tree-prime.result c.file_tree-under.result c.search_start_for-aim.result
-    c.as_slice-from.result.now) (sym (same_after g c honest)) way
+    c.bytes-from.result.now) (sym (same_after g c honest)) way
 
 -- the leaf that is noted is one of its tree, before the search and after it
 near : (g : Over) (c : After-seek_row g) → OnNotes g.D.Device (noted_search c.args.notes.now) c.args.pages.now
@@ -85,8 +85,8 @@ noted g c honest agrees are =
 pub returns-in-Ok-clause-notes : goal.returns-in-Ok-clause-notes
 returns-in-Ok-clause-notes g c = noted g (goal.at.returns-in-Ok-clause-notes g c).After-seek_row
 
-pub returns-clause-notes : goal.returns-clause-notes
-returns-clause-notes g c = noted g (goal.at.returns-clause-notes g c).After-seek_row
+pub returns-in-Err-clause-notes : goal.returns-in-Err-clause-notes
+returns-in-Err-clause-notes g c = noted g (goal.at.returns-in-Err-clause-notes g c).After-seek_row
 
 pub returns-in_err-note_file-clause-damaged : goal.returns-in_err-note_file-clause-damaged
 returns-in_err-note_file-clause-damaged g c = λ honest agrees are files held holds has is.
@@ -130,9 +130,9 @@ returns-in-Ok-clause-bytes g c = λ honest agrees are files held holds has.
     (sought g at.After-seek_row honest agrees are files held holds has)
     (near g at.After-seek_row honest agrees are) c.requires.bytes
 
-pub returns-clause-damaged : goal.returns-clause-damaged
-returns-clause-damaged g c = λ honest agrees are files held holds has is.
-    let at = goal.at.returns-clause-damaged g c in
+pub returns-in-Err-clause-damaged : goal.returns-in-Err-clause-damaged
+returns-in-Err-clause-damaged g c = λ honest agrees are files held holds has is.
+    let at = goal.at.returns-in-Err-clause-damaged g c in
     let told : c.to_fault.result ≡ Damaged = same_error is in
     let fault : c.in-Err.error ≡ pages.Damaged = damaged_back c.in-Err.error (sym c.to_fault.ensures ∙ told) in
     c.in-Err.ensures.damaged (c.note_file.ensures.looks.only.honest.0 honest)
@@ -152,20 +152,13 @@ returns-then-not-branch-clause-looks g c =
     looks_blamed g.D.Device (c.note_file.result ≡ Err Device) _ _ _ _ _ (λ is. never_ok is)
     c.note_file.ensures.looks
 
-pub returns-in_err-at-clause-looks : goal.returns-in_err-at-clause-looks
-returns-in_err-at-clause-looks g c =
-    looks_blamed g.D.Device (c.note_file.result ≡ Err Device) _ _ _ _ _
-    (λ is. absurd (never_device c.key_for.result c.key_for.ensures.memory
-    (refused_by_call c.in_err-at.was c.from_residual-in_err-at.ensures.1 is)))
-    c.note_file.ensures.looks
-
 pub returns-in-Ok-clause-looks : goal.returns-in-Ok-clause-looks
 returns-in-Ok-clause-looks g c =
     looks_then g.D.Device (c.note_file.result ≡ Err Device) (c.seek_row.result ≡ Err pages.Device) _ _ _ _ _ _ _
     (λ is. never_ok is) c.note_file.ensures.looks c.seek_row.ensures.looks
 
-pub returns-clause-looks : goal.returns-clause-looks
-returns-clause-looks g c =
+pub returns-in-Err-clause-looks : goal.returns-in-Err-clause-looks
+returns-in-Err-clause-looks g c =
     looks_then g.D.Device (c.note_file.result ≡ Err Device) (c.seek_row.result ≡ Err pages.Device) _ _ _ _ _ _ _
     (λ is. let told : c.to_fault.result ≡ Device = same_error is in
     inr (c.in-Err.is ∙ ap Err (device_back c.in-Err.error (sym c.to_fault.ensures ∙ told))))
