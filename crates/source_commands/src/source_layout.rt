@@ -2,6 +2,8 @@
 
 ghost use Rattle.std.specs.Prelude.{◌≡◌, [], IfOk, IfErr, OnOk};
 ghost use Rattle.source_tree.specs.declared.program.Program.{Program};
+ghost use Rattle.source_tree.specs.Recursion.{HasOrder};
+ghost use Rattle.source_tree.specs.Rules.{program_rules};
 ghost use Rattle.run_unit.specs.Faults.{fault_of};
 ghost use Rattle.run_unit.specs.Stages.{IsFaultOf};
 ghost use Rattle.run_unit.specs.Trees.{IsReadFrom, IsTreeOf};
@@ -39,8 +41,20 @@ fn read_layout(alloc: Global, source: &[u8]) -> Result<Vec<u8>, CompileError>
         × (text.items ≡ text_of tree)) }
 {
     let tree = read_tree(alloc, source)?;
-    let checked = check(alloc, &tree)?;
-    Ok(layout_text(alloc, checked.declarations())?)
+    let text = layout_of_tree(alloc, &tree);
+    drop(tree);
+    text
+}
+
+/// The table of a tree that keeps the rules.
+fn layout_of_tree(alloc: Global, tree: &Program) -> Result<Vec<u8>, CompileError>
+    ensures { IfOk result (λ text. (program_rules tree.now ≡ []) × HasOrder tree.now
+        × (text.items ≡ text_of tree.now)) }
+{
+    let checked = check(alloc, tree)?;
+    let text = layout_text(alloc, checked.declarations());
+    drop(checked);
+    Ok(text?)
 }
 
 /// The tree that a source text spells.
