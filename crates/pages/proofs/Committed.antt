@@ -5,9 +5,11 @@ use Rattle.std.specs.Prelude.{Option, Some}
 use Rattle.std.proofs.lemmas.List.Elements.{Contains-append_right}
 use Rattle.station.specs.Disk.{Disk, Sector, idle_disk, IsCrashImage}
 use Rattle.station.specs.State.{State, Event}
+use Rattle.station.specs.History.{Through}
 use Rattle.station.specs.Blocks.{CrashLeaves, OldOrNew, Old, New, with_all}
 use Rattle.station.specs.declared.blocks.Block.{Block}
 use Rattle.station.proofs.Crash.{settled_image}
+use Rattle.station.proofs.Spans.{stays, weakens}
 use Rattle.station.proofs.TwoPhase.{all_same_outside, with_all_count}
 use Rattle.roots.specs.Root.{root_in}
 use Rattle.roots.specs.declared.root.RootSector.TheVariants.{Valid}
@@ -22,13 +24,18 @@ use Rattle.pages.proofs.Frame.{SameAt, pages_same, same_maps, newest_same, still
 use Rattle.pages.proofs.Staging.{keeps_used}
 
 -- a crash leaves the map of a volume at rest
-pub at_rest : (v : Volume) (after : Map) (s : State) → IsCommitted v s.disk
+at_rest : (v : Volume) (after : Map) (s : State) → IsCommitted v s.disk
     → CrashLeaves s.events (BeforeOrAfter (map_of s.disk.present v) after) s
 at_rest v after s rests = record {
   events = refl;
   images = λ image crash. inl (subst (λ (l : List Sector). IsImageOf l (map_of s.disk.present v)) (sym (settled_image
       s.disk.present image (subst (λ (d : Disk). IsCrashImage d image) rests.settled crash))) (v, rests.reads, refl));
 }
+
+pub stays_at_rest : (h : List State) (s : State) (v : Volume) (after : Map) → IsCommitted v s.disk
+    → Through h h s (CrashLeaves s.events (BeforeOrAfter (map_of s.disk.present v) after))
+stays_at_rest h s v after rests =
+    stays h s (CrashLeaves s.events (BeforeOrAfter (map_of s.disk.present v) after)) (at_rest v after s rests)
 
 module _ (v w : Volume) (base : List Sector) (blocks : List Block) (changes : List Change) (bytes : Sector)
     (reads : Reads base v) (plan : IsPlan v w blocks changes) (spells : SpellsRoot w.root bytes) where
@@ -111,6 +118,14 @@ module _ (v w : Volume) (base : List Sector) (blocks : List Block) (changes : Li
       (λ (m : ℕ).
       CrashLeaves seen (BeforeOrAfter (map_of base v) (next_map (map_of base v) changes m w.root.catalog)) s)
       own (amid_maps seen s amid))
+
+  -- at each moment of a call
+  pub amid_through : (mark page : ℕ) → w.root.mark ≡ mark → w.root.catalog ≡ page → (a b : List State) (s : State)
+      (seen : List Event) → Through a b s (CrashLeaves seen (OldOrNew base blocks root bytes))
+      → Through a b s (CrashLeaves seen (BeforeOrAfter (map_of base v) (next_map (map_of base v) changes mark page)))
+  amid_through mark page own is a b s seen = weakens a b s (CrashLeaves seen (OldOrNew base blocks root bytes))
+      (CrashLeaves seen (BeforeOrAfter (map_of base v) (next_map (map_of base v) changes mark page)))
+      (amid_maps_as mark page own is seen)
 
   pub now_is_as : (mark page : ℕ) → w.root.mark ≡ mark → w.root.catalog ≡ page → (d : Disk) → d ≡ idle_disk image
       → map_of d.present w ≡ next_map (map_of base v) changes mark page

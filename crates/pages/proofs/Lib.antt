@@ -29,3 +29,5 @@ pub mod Refused
 pub mod Crowded
 pub mod Filling
 pub mod Bounds
+pub mod Resting
+pub mod Passing

@@ -1,5 +1,5 @@
 -- What a refusal to open tells of an image.
-use Rattle.std.proofs.Common.{◌≡◌, ◌≢◌, inl, inr, ◌<◌, ◌*◌, ℕ, List, ◌++◌, length, get_or, refl, sym, ◌∙◌, ap, subst}
+use Rattle.std.proofs.Common.{◌≡◌, inl, inr, ◌<◌, ◌*◌, ℕ, List, ◌++◌, length, get_or, refl, sym, ◌∙◌, ap, subst}
 use Rattle.std.specs.Prelude.{Some, None, Result, Ok, Err, IfOk, IfErr}
 use Rattle.station.specs.Disk.{Sector}
 use Rattle.pages.specs.Layout.{VolumeRoot, root_of, newest, IsForeign}
@@ -49,16 +49,12 @@ module _ (image : List Sector) (r : VolumeRoot) (is : newest image ≡ Some r) w
         same reads.maps.entries in
         same_parts (length r.maps) v.table table v_count count (λ i lt. sym (v_entries i lt) ∙ entries i lt)
 
-    -- its maps and pages aren't
-    pub bad_table : (AreNames r.sectors (r.maps ++ table) → ⊥) → IsDamaged image
+    -- its maps and pages aren't, or page 0 has a sector
+    pub bad_table : (AreNames r.sectors (r.maps ++ table) → get_or table 0 0 ≡ 0 → ⊥) → IsDamaged image
     bad_table bad =
         damaged (λ v same reads. bad (subst (λ (t : List ℕ). AreNames r.sectors (r.maps ++ t)) (one_table v same reads)
-        (subst (λ (q : VolumeRoot). AreNames q.sectors (q.maps ++ v.table)) same (named image v reads))))
-
-    -- page 0 has a sector
-    pub bad_first : get_or table 0 0 ≢ 0 → IsDamaged image
-    bad_first bad = damaged
-        (λ v same reads. bad (sym (ap (λ (t : List ℕ). get_or t 0 0) (one_table v same reads)) ∙ reads.maps.unused))
+        (subst (λ (q : VolumeRoot). AreNames q.sectors (q.maps ++ v.table)) same (named image v reads)))
+        (sym (ap (λ (t : List ℕ). get_or t 0 0) (one_table v same reads)) ∙ reads.maps.unused))
 
 -- what holds a map is opened
 pub map_opens : {T : Type 0} (image : List Sector) (m : Map) (result : Result T PagesError)

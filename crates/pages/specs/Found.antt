@@ -1,6 +1,9 @@
--- A root that was read.
-use Rattle.std.specs.Prelude.{◌≡◌, ◌<◌, ◌≤◌, ◌^◌, ℕ, length}
+-- A root that was read, and the table that its maps hold.
+use Rattle.std.specs.Prelude.{◌≡◌, ◌<◌, ◌≤◌, ◌*◌, ◌^◌, ◌++◌, ℕ, Bool, List, length, slice_index}
+use Rattle.station.specs.Disk.{Sector}
 use Rattle.pages.specs.Layout.{VolumeRoot, map_count}
+use Rattle.pages.specs.Image.{map_at, map_part}
+use Rattle.pages.specs.Marked.{IsMarked}
 use Rattle.pages.specs.declared.root.FoundRoot.{FoundRoot}
 
 abbrev pub found_root : FoundRoot → VolumeRoot
@@ -15,3 +18,15 @@ pub record IsFoundWithin (count : ℕ) (r : FoundRoot) : Type 0 where
   pub most : r.sectors ≤ 921600
   pub there : r.sectors ≤ count
   pub maps : length r.maps.items ≡ map_count r.sectors
+
+-- the table of a root that was read, and the marks of the sectors that both name
+pub record IsTable (r : FoundRoot) (table : List ℕ) (used : List Bool) : Type 0 where
+  pub count : length table ≡ 1024 * length r.maps.items
+  pub marked : IsMarked (r.maps.items ++ table) used
+  pub all : length used ≡ r.sectors
+  pub first : slice_index table 0 ≡ 0
+
+-- the map sectors of an image hold the table
+abbrev pub HoldsMaps : List Sector → FoundRoot → List ℕ → Type 0
+HoldsMaps image r table = (i : ℕ) → i < length r.maps.items
+    → map_at image (slice_index r.maps.items i) ≡ map_part table i

@@ -4,16 +4,28 @@ use Rattle.station.specs.State.{state_after_sync}
 use Rattle.station.specs.History.{Through}
 use Rattle.station.specs.Opening.{IsOpening}
 use Rattle.station.specs.declared.device.Device.{Ghosts as Devices}
-use Rattle.pages.specs.Layout.{IsForeign}
+use Rattle.lru.specs.LruCache.{lru_cache}
+use Rattle.pages.specs.Layout.{IsForeign, version_of}
 use Rattle.pages.specs.Image.{Map, IsImageOf, IsDamaged}
 use Rattle.pages.specs.Errors.{RefusesImage}
-use Rattle.pages.specs.Pages.{changed_pages_of, filled_of, is_spent, sectors_of, cache_of, Agrees}
+use Rattle.pages.specs.Pages.{changed_pages_of, filled_of, is_spent, sectors_of, cache_of, mark_of}
+use Rattle.pages.specs.Pages.{Agrees}
 use Rattle.pages.specs.declared.error.PagesError.{PagesError}
 use Rattle.pages.specs.declared.page_map.PageMap.{PageMap}
+use Rattle.pages.specs.declared.volume.VolumeMap.{VolumeMap}
 
 -- not spent, with nothing changed, on a device of so many sectors
 abbrev pub IsJustOpened : ℕ → PageMap → Type 0
 IsJustOpened sectors p = (is_spent p ≡ false) × (sectors_of p ≤ sectors) × (changed_pages_of p ≡ [])
+
+-- the map of a volume in memory, with nothing changed, and with an empty cache for so many pages
+pub record IsMapOf (v : VolumeMap) (capacity : ℕ) (p : PageMap) : Type 0 where
+  pub volume : p.volume ≡ v
+  pub changes : p.changes.items ≡ []
+  pub catalog : p.catalog ≡ p.volume.catalog
+  pub mark : mark_of p ≡ version_of p.volume.mark
+  pub cache : p.cache ≡ lru_cache [] capacity
+  pub unspent : p.spent ≡ false
 
 -- so many of the pages that were changed have bytes
 abbrev pub HasFilled : ℕ → PageMap → Type 0

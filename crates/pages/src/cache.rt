@@ -7,7 +7,7 @@ ghost use Rattle.lru.specs.LruCache.{lru_cache, promoted, IsValid};
 ghost use Rattle.pages.specs.Image.{pages_in};
 ghost use Rattle.pages.specs.Cache.{IsCacheOf, Recalls, CachesPage, Loads, KeepsChanges, cache_without};
 
-use crate::change::Change;
+use crate::change::{Change, clear_places};
 use crate::error::PagesError;
 use crate::page_bytes::PageBytes;
 use crate::reading::{fill_page, read_page, sector_of};
@@ -15,6 +15,8 @@ use crate::spares::{keep_spare, take_spare};
 use lru::LruCache;
 use station::Device;
 use std::alloc::{AllocError, Global};
+use std::collections::HashMap;
+use std::mem;
 use std::num::NonZeroUsize;
 
 /// A cache for so many pages, without a page.
@@ -247,7 +249,7 @@ fn keep_change(cache: &mut LruCache<u32, PageBytes>, spares: &mut Vec<PageBytes>
 
 /// The pages that a commit wrote enter the cache, one after the other, so far as memory and its capacity allow. Their bytes stay in
 /// their places on the heap. Pages that are not to be cached stay out.
-pub(crate) fn keep_changes(
+fn keep_changes(
     cache: &mut LruCache<u32, PageBytes>,
     spares: &mut Vec<PageBytes>,
     changes: Vec<Change>,
@@ -257,6 +259,24 @@ pub(crate) fn keep_changes(
     for change in changes {
         keep_change(cache, spares, change);
     }
+}
+
+/// What a commit wrote is no longer a change, and enters the cache as `keep_changes` says. What a large commit took of memory is given
+/// back, except for the pages that come into the cache.
+pub(crate) fn settle_changes(
+    alloc: Global,
+    changes: &mut Vec<Change>,
+    places: &mut HashMap<u32, usize>,
+    cache: &mut LruCache<u32, PageBytes>,
+    spares: &mut Vec<PageBytes>,
+)
+    ensures changes { changes.new.items ≡ [] }
+    ensures places { places.new.entries ≡ [] }
+    ensures cache { KeepsChanges changes.old.items cache.old cache.new }
+{
+    let settled = mem::replace(changes, Vec::new(alloc));
+    clear_places(alloc, places);
+    keep_changes(cache, spares, settled);
 }
 
 /// A page leaves the cache, and what it had there becomes these bytes.

@@ -1,20 +1,22 @@
 //! The volume of a device is read, and made.
-ghost use Rattle.std.specs.Prelude.{◌≡◌, ◌⊎◌, ◌≤◌, ◌<◌, ◌↔◌, [], Err, length, IfOk, IfErr, OnOk, OnErr};
+ghost use Rattle.std.specs.Prelude.{◌≡◌, ◌⊎◌, ◌≤◌, ◌<◌, ◌↔◌, ◌++◌, ℕ, List, [], true, false, Err, Some, length, slice_index, IfOk, IfErr, OnOk, OnErr};
+ghost use Rattle.station.specs.Disk.{Sector};
 ghost use Rattle.station.specs.State.{state_after_sync};
 ghost use Rattle.station.specs.History.{Through};
 ghost use Rattle.station.specs.Calls.{OnlyReads};
 ghost use Rattle.station.specs.Failures.{Blames};
 ghost use Rattle.station.specs.Opening.{IsOpening};
-ghost use Rattle.pages.specs.Layout.{IsForeign};
+ghost use Rattle.pages.specs.Layout.{IsForeign, newest};
 ghost use Rattle.pages.specs.Image.{Reads, Map, IsImageOf, IsDamaged, IsCommitted};
 ghost use Rattle.pages.specs.Errors.{RefusesImage, IsOpenError, IsReadError, FailsWithError};
-ghost use Rattle.pages.specs.Marked.{IsMarked};
+ghost use Rattle.pages.specs.Marked.{IsMarked, AreNames};
+ghost use Rattle.pages.specs.Found.{found_root, IsFoundWithin, IsTable, HoldsMaps};
 ghost use Rattle.pages.specs.Volumes.{volume_of, IsSound};
 
 use crate::error::PagesError;
 use crate::marks::mark_names;
 use crate::reading::read_table;
-use crate::root::read_root;
+use crate::root::{FoundRoot, read_root};
 use crate::sector_use::SectorUse;
 use crate::table::SectorTable;
 use crate::volume::{VolumeMap, count_free};
@@ -34,21 +36,90 @@ pub(crate) fn read_volume<D: Device>(alloc: Global, device: &mut D) -> Result<Vo
     ensures cause { IsOpenError result }
 {
     let root = read_root(alloc, device)?;
+    let named = read_named(alloc, device, &root)?;
+    let volume = named_volume(alloc, root, named)?;
+    Ok(volume)
+}
+
+/// What the maps of a root name, beside the roots.
+#[derive(Drop)]
+struct Named {
+    /// The sector of each page.
+    table: Vec<u32>,
+    /// Whether a sector is a root or is named.
+    used: Vec<bool>,
+}
+
+/// The table of a root that was read, and the sectors that both name.
+fn read_named<D: Device>(
+    alloc: Global,
+    device: &mut D,
+    root: &FoundRoot,
+) -> Result<Named, PagesError>
+    requires { IsFoundWithin (D.sectors device.old) root.now }
+    ensures only { OnlyReads D.Device (result ≡ Err PagesError.Device) device.old device.new }
+    ensures table { IfOk result (λ named. IsTable root.now named.table.items named.used.items) }
+    ensures entries { D.is_honest device.old → IfOk result
+        (λ named. HoldsMaps (D.state device.old).disk.present root.now named.table.items) }
+    ensures refused { D.is_honest device.old
+        → newest (D.state device.old).disk.present ≡ Some (found_root root.now)
+        → IfErr result (λ error. RefusesImage (D.state device.old).disk.present error) }
+    ensures cause { IsOpenError result }
+{
+    let mut used = marked_maps(alloc, root)?;
+    let table = read_table(alloc, device, &root.maps)?;
+    if !mark_table(&mut used, &table) {
+        return Err(PagesError::Damaged);
+    }
+    Ok(Named { table, used })
+}
+
+/// The use of the sectors where the maps of a root are named.
+fn marked_maps(alloc: Global, root: &FoundRoot) -> Result<Vec<bool>, PagesError>
+    requires { 2 ≤ root.now.sectors }
+    ensures marked { IfOk result (λ used. IsMarked root.now.maps.items used.items) }
+    ensures count { IfOk result (λ used. length used.items ≡ root.now.sectors) }
+    ensures refused { (image : List Sector) → newest image ≡ Some (found_root root.now)
+        → IfErr result (λ error. RefusesImage image error) }
+    ensures cause { OnErr result
+        ((result ≡ Err PagesError.Damaged) ⊎ (result ≡ Err PagesError.Memory)) }
+{
     let mut used = fresh_use(alloc, root.sectors as usize)?;
     if !mark_names(&mut used, &root.maps) {
         return Err(PagesError::Damaged);
     }
-    let table = read_table(alloc, device, &root.maps)?;
-    if !mark_names(&mut used, &table) {
-        return Err(PagesError::Damaged);
+    Ok(used)
+}
+
+/// Marks each sector that a table names, as `mark_names` does, if page 0 has none.
+fn mark_table(used: &mut Vec<bool>, table: &[u32]) -> bool
+    requires { 0 < length table.now }
+    ensures count { length used.new.items ≡ length used.old.items }
+    ensures marked { result ≡ true → (before : List ℕ) → IsMarked before used.old.items
+        → IsMarked (before ++ table.now) used.new.items }
+    ensures first { result ≡ true → slice_index table.now 0 ≡ 0 }
+    ensures refused { result ≡ false → (before : List ℕ) → IsMarked before used.old.items
+        → AreNames (length used.old.items) (before ++ table.now)
+        → slice_index table.now 0 ≡ 0 → ⊥ }
+{
+    if !mark_names(used, table) {
+        return false;
     }
     let first = table[0];
-    if first != 0 {
-        return Err(PagesError::Damaged);
-    }
-    let free = count_free(&used);
-    let used = SectorUse::new(alloc, used)?;
-    let table = SectorTable::new(alloc, table, root.maps.len())?;
+    first == 0
+}
+
+/// The volume of a root, of the table that its maps hold, and of the sectors that both name.
+fn named_volume(alloc: Global, root: FoundRoot, named: Named) -> Result<VolumeMap, AllocError>
+    requires within { IsFoundWithin root.sectors root }
+    requires table { IsTable root named.table.items named.used.items }
+    ensures root { IfOk result (λ volume. (volume_of volume).root ≡ found_root root) }
+    ensures table { IfOk result (λ volume. volume.table ≡ named.table.items) }
+    ensures sound { IfOk result (λ volume. IsSound volume) }
+{
+    let free = count_free(&named.used);
+    let used = SectorUse::new(alloc, named.used)?;
+    let table = SectorTable::new(alloc, named.table, root.maps.len())?;
     Ok(VolumeMap {
         mark: mark_at(root.mark),
         generation: root.generation,

@@ -1,19 +1,19 @@
 //! The pages of a volume, as their user sees them: a finite map from page numbers to pages, beside the page of the catalog's root.
-ghost use Rattle.std.specs.Prelude.{◌≡◌, ◌⊎◌, ◌+◌, ◌^◌, is_some, IfSome, IsOkUnless, if◌then◌else◌, ◌<◌, ◌≤◌, Err, Some, None, true, false, replicate, List, length, IfOk, OnOk, OnErr};
+ghost use Rattle.std.specs.Prelude.{◌≡◌, ◌⊎◌, ◌+◌, ◌^◌, is_some, IfSome, IsOkUnless, if◌then◌else◌, ◌<◌, ◌≤◌, Err, Some, None, true, false, [], replicate, List, length, IfOk, OnOk, OnErr};
 ghost use Rattle.station.specs.Disk.{Sector};
 ghost use Rattle.pages.specs.Layout.{version_of};
 ghost use Rattle.pages.specs.Errors.{IsOpenError, IsReadError, FailsWithError};
 ghost use Rattle.pages.specs.Errors.{IsEditRefusal, IsAllocateRefusal, IsCommitRefusal};
 ghost use Rattle.pages.specs.Use.{free_count};
+ghost use Rattle.pages.specs.Volumes.{IsSound};
 ghost use Rattle.pages.specs.Ready.{IsReady, ready_props};
 
 use crate::cache::{
-    copy_page, fetch_page, forget_page, keep_changes, load_page, most_recent_page, new_cache,
-    promote_page, recall_page, seen_page, take_page,
+    copy_page, fetch_page, forget_page, load_page, most_recent_page, new_cache, promote_page,
+    recall_page, seen_page, settle_changes, take_page,
 };
 use crate::change::{
-    Change, clear_places, find_change, forget_run, is_kept, pass_runs, reserve_change, set_change,
-    unused_page,
+    Change, find_change, forget_run, is_kept, pass_runs, reserve_change, set_change, unused_page,
 };
 use crate::commit::commit_volume;
 use crate::error::PagesError;
@@ -24,9 +24,8 @@ use crate::volume::VolumeMap;
 use crate::volume_mark::VolumeMark;
 use lru::LruCache;
 use station::Device;
-use std::alloc::Global;
+use std::alloc::{AllocError, Global};
 use std::collections::HashMap;
-use std::mem;
 
 /// An opened volume. What is edited and not committed is part of the map and of no image.
 #[derive(Drop)]
@@ -52,7 +51,7 @@ pub struct PageMap {
 }
 
 impl PageMap {
-    ghost use Rattle.pages.specs.Pages.{committed_of, map_now, page_of, changed_pages_of, filled_of, FillsPage, catalog_of, mark_of, is_spent, sectors_of, page_count, IsPage, Agrees, SameCommitted, IsUnchanged, KeepsCommitted, cache_of};
+    ghost use Rattle.pages.specs.Pages.{committed_of, map_now, page_of, changed_pages_of, filled_of, FillsPage, catalog_of, mark_of, is_spent, sectors_of, page_count, IsPage, HasChanges, Agrees, SameCommitted, IsUnchanged, KeepsCommitted, cache_of};
     ghost use Rattle.std.specs.Map.{lookup};
     ghost use Rattle.std.specs.Prelude.{Ok, nat_eq, option_copied, Contains, IsSome};
     ghost use Rattle.lru.specs.LruCache.{lru_cache, promoted};
@@ -61,7 +60,7 @@ impl PageMap {
     ghost use Rattle.pages.specs.Commits.{map_on, IfDiskAgrees, IsAsCommitted, KeepsAgreement, LeavesOldOrNew, HoldsNewMap, SettlesChanges, RestsIfUnchanged, RefusesForRoom, IsSpentOnErr, CachesChanges};
     ghost use Rattle.pages.specs.Edits.{SameMap, SameChanges, SameFilled, SameMark, SameSectors, SameCache, SameCapacity, SameMapOnErr, SameChangesOnErr, SameFilledOnErr, SameCacheOnErr, ReplacesPage, PutsPage, AddsPage, AddsChange, ForgetsPage, FillsAtMost, LacksPage, ReportsSpent, ReportsFull, IfFull};
     ghost use Rattle.pages.specs.Reads.{IfChanged, StaysIfChanged, StaysIfCached, LeavesDeviceIfCached, LeavesDeviceIfNone, LoadsNothingIfAbsent, SameOnErr, ReadsPage, RecallsPage, IsPageReadRefusal};
-    ghost use Rattle.pages.specs.Opens.{IsJustOpened, HasFilled, HasCapacity, LeavesPossible, Syncs, SyncsAtMost, HoldsCommitted, RefusesDisk, IfHoldsMap, IfHoldsForeign, IfDamaged};
+    ghost use Rattle.pages.specs.Opens.{IsJustOpened, IsMapOf, HasFilled, HasCapacity, LeavesPossible, Syncs, SyncsAtMost, HoldsCommitted, RefusesDisk, IfHoldsMap, IfHoldsForeign, IfDamaged};
     ghost use Rattle.std.specs.Borrow.{sem};
     ghost use Rattle.pages.specs.Visits.{EndsVisited};
     ghost use Rattle.pages.specs.Devices.{KeepsHonesty, KeepsSectors, BlamesDevice, OnlyReadsDevice, OnlyWritesDevice, FitsDevice};
@@ -101,23 +100,8 @@ impl PageMap {
         ensures cause { IsOpenError result }
     {
         let volume = open_volume(alloc, device)?;
-        let catalog = volume.catalog;
-        let mark = volume.mark;
-        let cache = new_cache(alloc, capacity)?;
-        let passed = vec![in alloc; false; volume.maps.len()]?;
-        Ok(PageMap {
-            alloc,
-            volume,
-            changes: Vec::new(alloc),
-            cache,
-            places: HashMap::new(alloc),
-            next_page: 1,
-            passed,
-            spares: Vec::new(alloc),
-            catalog,
-            mark,
-            spent: false,
-        })
+        let pages = PageMap::of_volume(alloc, volume, capacity)?;
+        Ok(pages)
     }
 
     /// The page of the catalog's root, 0 for none.
@@ -558,6 +542,43 @@ impl PageMap {
         Ok(())
     }
 
+    /// The map of a volume, with nothing changed.
+    fn of_volume(alloc: Global, volume: VolumeMap, capacity: usize) -> Result<PageMap, AllocError>
+        requires sound { IsSound volume }
+        requires some { 0 < capacity }
+        ensures { IfOk result (IsMapOf volume capacity) }
+    {
+        let catalog = volume.catalog;
+        let mark = volume.mark;
+        let cache = new_cache(alloc, capacity)?;
+        let passed = vec![in alloc; false; volume.maps.len()]?;
+        Ok(PageMap {
+            alloc,
+            volume,
+            changes: Vec::new(alloc),
+            cache,
+            places: HashMap::new(alloc),
+            next_page: 1,
+            passed,
+            spares: Vec::new(alloc),
+            catalog,
+            mark,
+            spent: false,
+        })
+    }
+
+    /// Whether nothing was changed since the last commit: no page, not the page of the catalog's root, and not the mark.
+    fn is_at_rest(&self) -> bool
+        ensures rest { result ≡ true → (self.now.changes.items ≡ [])
+            × (self.now.catalog ≡ self.now.volume.catalog)
+            × (mark_of self.now ≡ version_of self.now.volume.mark) }
+        ensures changed { result ≡ false → HasChanges self.now }
+    {
+        self.changes.is_empty()
+            && self.catalog == self.volume.catalog
+            && self.mark == self.volume.mark
+    }
+
     /// A page number that isn't used.
     fn find_unused(&self) -> Result<u32, PagesError>
         ensures page { IfOk result (IsPage self.now) }
@@ -662,10 +683,7 @@ impl PageMap {
         if self.spent {
             return Err(PagesError::Spent);
         }
-        if self.changes.is_empty()
-            && self.catalog == self.volume.catalog
-            && self.mark == self.volume.mark
-        {
+        if self.is_at_rest() {
             return Ok(());
         }
         self.spent = true;
@@ -677,10 +695,13 @@ impl PageMap {
             self.mark,
             self.catalog,
         )?;
-        // What a large commit took of memory is given back, except for the pages that come into the cache.
-        let changes = mem::replace(&mut self.changes, Vec::new(self.alloc));
-        clear_places(self.alloc, &mut self.places);
-        keep_changes(&mut self.cache, &mut self.spares, changes);
+        settle_changes(
+            self.alloc,
+            &mut self.changes,
+            &mut self.places,
+            &mut self.cache,
+            &mut self.spares,
+        );
         self.spent = false;
         Ok(())
     }

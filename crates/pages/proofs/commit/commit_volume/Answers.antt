@@ -1,14 +1,13 @@
 use Rattle.std.proofs.Common.{◌<◌, ℕ, List, refl, sym, ◌∙◌, ap, subst, arith}
 use Rattle.station.specs.Blocks.{SectorsAre}
 use Rattle.station.specs.declared.blocks.Block.{Block}
-use Rattle.station.proofs.Spans.{stays, weakens}
 use Rattle.pages.specs.Layout.{version_of}
 use Rattle.pages.specs.Plan.{IsPlan}
 use Rattle.pages.specs.Changes.{next_map}
 use Rattle.pages.specs.Use.{use_after}
 use Rattle.pages.specs.Image.{map_of}
 use Rattle.pages.specs.Volumes.{volume_of}
-use Rattle.pages.proofs.Committed.{at_rest, amid_maps_as, now_committed, now_is_as}
+use Rattle.pages.proofs.Committed.{stays_at_rest, amid_through, now_committed, now_is_as}
 use Rattle.pages.proofs.Stages.{sound_marked}
 use Rattle.pages.proofs.commit.commit_volume.Goals as goal
 
@@ -23,9 +22,9 @@ two_phase_write-requires-clause-root g c = omega (arith, c.requires.sectors, c.r
 pub returns-in_err-draft-clause-moments : goal.returns-in_err-draft-clause-moments
 returns-in_err-draft-clause-moments g c = λ honest rests.
     let old = g.D.Device.state c.args.device.now in
-    stays (g.D.Device.history c.args.device.now) old _ (at_rest (volume_of c.args.volume.now)
+    stays_at_rest (g.D.Device.history c.args.device.now) old (volume_of c.args.volume.now)
     (next_map (map_of old.disk.present (volume_of c.args.volume.now)) c.args.changes.now
-    (version_of c.args.mark) c.args.catalog) old rests)
+    (version_of c.args.mark) c.args.catalog) rests
 
 pub returns-in_err-two_phase_write-clause-moments : goal.returns-in_err-two_phase_write-clause-moments
 returns-in_err-two_phase_write-clause-moments g c = λ honest rests.
@@ -34,11 +33,10 @@ returns-in_err-two_phase_write-clause-moments g c = λ honest rests.
     let w = volume_of c.next_volume.new.volume in
     let plan : IsPlan v w c.deref.result.now c.args.changes.now = subst
     (λ (b : List Block). IsPlan v w b c.args.changes.now) (sym c.deref.ensures.value) c.in_ok-draft.ensures.plan in
-    weakens (g.D.Device.history c.args.device.now) (g.D.Device.history c.two_phase_write.new.device)
-    (g.D.Device.state c.two_phase_write.new.device) _ _
-    (amid_maps_as v w old.disk.present c.deref.result.now c.args.changes.now c.root_bytes_of-bytes.result rests.reads
+    amid_through v w old.disk.present c.deref.result.now c.args.changes.now c.root_bytes_of-bytes.result rests.reads
     plan c.root_bytes_of-bytes.ensures (version_of c.args.mark) c.args.catalog c.in_ok-draft.ensures.next.mark
-    c.in_ok-draft.ensures.next.catalog old.events)
+    c.in_ok-draft.ensures.next.catalog (g.D.Device.history c.args.device.now)
+    (g.D.Device.history c.two_phase_write.new.device) (g.D.Device.state c.two_phase_write.new.device) old.events
     (c.two_phase_write.ensures.moments honest rests.settled)
 
 pub returns-clause-moments : goal.returns-clause-moments
@@ -48,11 +46,10 @@ returns-clause-moments g c = λ honest rests.
     let w = volume_of c.next_volume.new.volume in
     let plan : IsPlan v w c.deref.result.now c.args.changes.now = subst
     (λ (b : List Block). IsPlan v w b c.args.changes.now) (sym c.deref.ensures.value) c.in_ok-draft.ensures.plan in
-    weakens (g.D.Device.history c.args.device.now) (g.D.Device.history c.two_phase_write.new.device)
-    (g.D.Device.state c.two_phase_write.new.device) _ _
-    (amid_maps_as v w old.disk.present c.deref.result.now c.args.changes.now c.root_bytes_of-bytes.result rests.reads
+    amid_through v w old.disk.present c.deref.result.now c.args.changes.now c.root_bytes_of-bytes.result rests.reads
     plan c.root_bytes_of-bytes.ensures (version_of c.args.mark) c.args.catalog c.in_ok-draft.ensures.next.mark
-    c.in_ok-draft.ensures.next.catalog old.events)
+    c.in_ok-draft.ensures.next.catalog (g.D.Device.history c.args.device.now)
+    (g.D.Device.history c.two_phase_write.new.device) (g.D.Device.state c.two_phase_write.new.device) old.events
     (c.two_phase_write.ensures.moments honest rests.settled)
 
 pub returns-clause-committed : goal.returns-clause-committed

@@ -1,66 +1,57 @@
-use Rattle.std.proofs.Common.{◌≡◌, ◌<◌, ℕ, List, [], refl, ap, sym, subst, ◌∙◌, rules, Global}
-use Rattle.std.specs.Prelude.{Option}
+use Rattle.std.proofs.Common.{◌≡◌, ◌<◌, ℕ, List, refl, ap, sym, subst, ◌∙◌}
 use Rattle.std.specs.List.{All}
-use Rattle.std.specs.declared.vec.Vec.{Vec}
 use Rattle.std.proofs.lemmas.List.{length-map}
 use Rattle.station.specs.Disk.{Sector}
-use Rattle.station.proofs.Spans.{stays}
 use Rattle.pages.specs.Layout.{version_of}
 use Rattle.pages.specs.Image.{Map, IsCommitted, pages_in, page_at}
 use Rattle.pages.specs.Changes.{pages_after, changed_pages, next_map}
 use Rattle.pages.specs.Commits.{map_on, volume_on, LeavesEither}
-use Rattle.pages.specs.Cache.{KeepsChanges, Gathers, IsCacheOf}
+use Rattle.pages.specs.Cache.{Gathers, IsCacheOf}
 use Rattle.pages.specs.declared.change.Change.{Change}
 use Rattle.pages.proofs.Caches.{gathers, after_commit}
 use Rattle.pages.specs.Pages.{committed_of, map_now, next_generation, Agrees}
-use Rattle.pages.proofs.Committed.{at_rest}
+use Rattle.pages.proofs.Committed.{stays_at_rest}
+use Rattle.pages.proofs.Resting.{map_with}
 use Rattle.pages.proofs.page_map.PageMap.commit.Given.{Over}
 use Rattle.pages.proofs.page_map.PageMap.commit.Goals as goal
 
 pub returns-then-self-clause-moments : goal.returns-then-self-clause-moments
 returns-then-self-clause-moments g c = λ honest agrees.
     let old = g.D.Device.state c.args.device.now in
-    stays (g.D.Device.history c.args.device.now) old _ (at_rest (committed_of c.args.self.now)
-    (next_generation (map_now c.args.self.now old.disk.present)) old agrees.committed)
+    stays_at_rest (g.D.Device.history c.args.device.now) old (committed_of c.args.self.now)
+    (next_generation (map_now c.args.self.now old.disk.present)) agrees.committed
 
-pub returns-then-eq-clause-moments : goal.returns-then-eq-clause-moments
-returns-then-eq-clause-moments g c = λ honest agrees.
+pub returns-then-is_at_rest-clause-moments : goal.returns-then-is_at_rest-clause-moments
+returns-then-is_at_rest-clause-moments g c = λ honest agrees.
     let old = g.D.Device.state c.args.device.now in
-    stays (g.D.Device.history c.args.device.now) old _ (at_rest (committed_of c.args.self.now)
-    (next_generation (map_now c.args.self.now old.disk.present)) old agrees.committed)
-
-abbrev map_with : ℕ → ℕ → ℕ → List (Option Sector) → Map
-map_with mark generation catalog pages =
-    record { mark = mark; generation = generation; catalog = catalog; pages = pages }
+    stays_at_rest (g.D.Device.history c.args.device.now) old (committed_of c.args.self.now)
+    (next_generation (map_now c.args.self.now old.disk.present)) agrees.committed
 
 -- what was changed comes into the cache
 gathered : (g : Over) (c : goal.After-self-2-1 g) (image : List Sector)
     → Gathers (changed_pages c.args.self.now.changes.items) (pages_after (pages_in image c.args.self.now.volume.table)
-    c.args.self.now.changes.items) c.args.self.now.cache c.keep_changes.new.cache
+    c.args.self.now.changes.items) c.args.self.now.cache c.settle_changes.new.cache
 gathered g c image =
     let ready = c.args.self.now.ready c.if-self.false in
     let table = c.args.self.now.volume.table in
     let changes = c.args.self.now.changes.items in
-    let same : c.replace-changes.result.items ≡ changes =
-    ap (λ (v : Vec Change Global). v.items) c.replace-changes.ensures.value in
-    gathers (pages_in image table) changes c.args.self.now.cache c.keep_changes.new.cache ready.once
+    gathers (pages_in image table) changes c.args.self.now.cache c.settle_changes.new.cache ready.once
     (subst (λ (n : ℕ). All (λ (x : Change). (0 < x.page) × (x.page < n)) changes)
     (sym (length-map table (page_at image))) ready.pages)
-    (subst (λ (l : List Change). KeepsChanges l c.args.self.now.cache c.keep_changes.new.cache) same
-    c.keep_changes.ensures)
+    c.settle_changes.ensures.cache
 
 pub returns-clause-caches : goal.returns-clause-caches
 returns-clause-caches g c = record {
   gathers = λ image. gathered g c image;
   cache = tt;
-  capacity = c.keep_changes.ensures.capacity;
+  capacity = c.settle_changes.ensures.cache.capacity;
 }
 
 -- the cache agrees with the disk then
 cached : (g : Over) (c : goal.After-self-2-1 g) → g.D.Device.is_honest c.args.device.now
     → Agrees c.args.self.now (g.D.Device.state c.args.device.now).disk
     → IsCacheOf (pages_in (g.D.Device.state c.commit_volume.new.device).disk.present c.commit_volume.new.volume.table)
-    (changed_pages c.replace-changes.new.dest.items) c.keep_changes.new.cache.entries
+    (changed_pages c.settle_changes.new.changes.items) c.settle_changes.new.cache.entries
 cached g c honest agrees =
     let changes = c.args.self.now.changes.items in
     let present = (g.D.Device.state c.args.device.now).disk.present in
@@ -69,9 +60,8 @@ cached g c honest agrees =
     let next : after ≡ pages_after pages changes =
     ap (λ (m : Map). m.pages) (c.in_ok-commit_volume.ensures.map honest agrees.committed)
     ∙ ap (λ (l : List Change). pages_after pages l) c.deref.ensures.value in
-    let none : c.replace-changes.new.dest.items ≡ [] = search rules in
-    after_commit pages after changes c.replace-changes.new.dest.items c.args.self.now.cache
-    c.keep_changes.new.cache next none (gathered g c present) agrees.cache
+    after_commit pages after changes c.settle_changes.new.changes.items c.args.self.now.cache
+    c.settle_changes.new.cache next c.settle_changes.ensures.changes (gathered g c present) agrees.cache
 
 -- the map that the disk holds then is the next one
 mapped : (g : Over) (c : goal.After-self-2-1 g) → g.D.Device.is_honest c.args.device.now
@@ -87,12 +77,11 @@ mapped g c honest committed =
 pages_then : (g : Over) (c : goal.After-self-2-1 g) → g.D.Device.is_honest c.args.device.now
     → IsCommitted (committed_of c.args.self.now) (g.D.Device.state c.args.device.now).disk
     → pages_after (pages_in (g.D.Device.state c.commit_volume.new.device).disk.present
-    c.commit_volume.new.volume.table) c.replace-changes.new.dest.items
+    c.commit_volume.new.volume.table) c.settle_changes.new.changes.items
     ≡ (map_on g.D.Device c.args.self.now c.args.device.now).pages
 pages_then g c honest committed =
     let after = pages_in (g.D.Device.state c.commit_volume.new.device).disk.present c.commit_volume.new.volume.table in
-    let none : c.replace-changes.new.dest.items ≡ [] = search rules in
-    ap (pages_after after) none ∙ mapped g c honest committed
+    ap (pages_after after) c.settle_changes.ensures.changes ∙ mapped g c honest committed
 
 pub returns-in_err-commit_volume-clause-moments : goal.returns-in_err-commit_volume-clause-moments
 returns-in_err-commit_volume-clause-moments g c = λ honest agrees.
