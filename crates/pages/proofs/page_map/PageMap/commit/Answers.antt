@@ -1,17 +1,22 @@
 use Rattle.std.proofs.Common.{◌≡◌, ◌<◌, ℕ, List, refl, ap, sym, subst, ◌∙◌}
 use Rattle.std.specs.List.{All}
+use Rattle.std.proofs.lemmas.Bool.{false≢true}
 use Rattle.std.proofs.lemmas.List.{length-map}
 use Rattle.station.specs.Disk.{Sector}
 use Rattle.pages.specs.Layout.{version_of}
 use Rattle.pages.specs.Image.{Map, IsCommitted, pages_in, page_at}
 use Rattle.pages.specs.Changes.{pages_after, changed_pages, next_map}
-use Rattle.pages.specs.Commits.{map_on, volume_on, LeavesEither}
+use Rattle.pages.specs.Commits.{map_on, volume_on, LeavesEither, DoesNothing, IsRefusalForRoom}
+use Rattle.pages.specs.Edits.{IfFull}
+use Rattle.pages.specs.Needed.{LacksSectors, filled_count}
+use Rattle.pages.specs.Volumes.{volume_of}
 use Rattle.pages.specs.Cache.{Gathers, IsCacheOf}
 use Rattle.pages.specs.declared.change.Change.{Change}
 use Rattle.pages.proofs.Caches.{gathers, after_commit}
-use Rattle.pages.specs.Pages.{committed_of, map_now, next_generation, Agrees}
+use Rattle.pages.specs.Pages.{committed_of, map_now, next_generation, Agrees, IsFull}
 use Rattle.pages.proofs.Committed.{stays_at_rest}
-use Rattle.pages.proofs.Resting.{map_with}
+use Rattle.pages.proofs.Passing.{passed}
+use Rattle.pages.proofs.Resting.{map_with, as_committed}
 use Rattle.pages.proofs.page_map.PageMap.commit.Given.{Over}
 use Rattle.pages.proofs.page_map.PageMap.commit.Goals as goal
 
@@ -26,6 +31,56 @@ returns-then-is_at_rest-clause-moments g c = λ honest agrees.
     let old = g.D.Device.state c.args.device.now in
     stays_at_rest (g.D.Device.history c.args.device.now) old (committed_of c.args.self.now)
     (next_generation (map_now c.args.self.now old.disk.present)) agrees.committed
+
+pub returns-then-self-clause-rest : goal.returns-then-self-clause-rest
+returns-then-self-clause-rest g c = record {
+  rests = λ _ _. refl;
+  nothing = λ _ _ _ _. (refl, refl);
+  idle = λ unspent. absurd (false≢true (sym unspent ∙ c.if-self.true));
+}
+
+pub returns-then-is_at_rest-clause-rest : goal.returns-then-is_at_rest-clause-rest
+returns-then-is_at_rest-clause-rest g c =
+    record { rests = λ _ _. refl; nothing = λ _ _ _ _. (refl, refl); idle = λ _ _ _ _. refl }
+
+pub returns-in_err-commit_volume-clause-rest : goal.returns-in_err-commit_volume-clause-rest
+returns-in_err-commit_volume-clause-rest g c =
+    let changed = c.is_at_rest.ensures.changed c.if-is_at_rest.false in record {
+      rests = λ none _. absurd (none changed);
+      nothing = λ pages catalog mark. absurd (changed (pages, catalog, mark));
+      idle = λ _ pages catalog mark. absurd (changed (pages, catalog, mark));
+    }
+
+pub returns-clause-rest : goal.returns-clause-rest
+returns-clause-rest g c = let changed = c.is_at_rest.ensures.changed c.if-is_at_rest.false in record {
+  rests = λ none _. absurd (none changed);
+  nothing = λ pages catalog mark. absurd (changed (pages, catalog, mark));
+  idle = λ _ pages catalog mark. absurd (changed (pages, catalog, mark));
+}
+
+pub returns-then-is_at_rest-clause-settles : goal.returns-then-is_at_rest-clause-settles
+returns-then-is_at_rest-clause-settles g c = let rest = c.is_at_rest.ensures.rest c.if-is_at_rest.true in record {
+  committed = as_committed c.args.self.now rest.0 rest.1 rest.2;
+  changed_pages = ap changed_pages rest.0;
+  filled = ap filled_count rest.0;
+  unspent = c.if-self.false;
+}
+
+pub returns-in_err-commit_volume-clause-room : goal.returns-in_err-commit_volume-clause-room
+returns-in_err-commit_volume-clause-room g c =
+    let self = c.args.self.now in
+    let here = c.in_err-commit_volume.ensures in
+    let told = c.from_residual.ensures.1 in
+    let e = c.in_err-commit_volume.field-0.0 in
+    let lacks = λ (l : List Change). LacksSectors (volume_of self.volume) l in
+    record {
+      full = passed c.from_residual.result e told (λ r. IfFull r (IsFull self)) (λ is.
+          (c.is_at_rest.ensures.changed c.if-is_at_rest.false, subst lacks c.deref.ensures.value (here.short is)));
+      told = λ _ full. passed c.from_residual.result e told (λ r. IsRefusalForRoom r)
+          (here.told (subst lacks (sym c.deref.ensures.value) full.1));
+      unchanged = passed c.from_residual.result e told
+          (λ r. IfFull r (DoesNothing g.D.Device c.args.device.now c.commit_volume.new.device)) here.full;
+    }
 
 -- what was changed comes into the cache
 gathered : (g : Over) (c : goal.After-self-2-1 g) (image : List Sector)
