@@ -4,12 +4,14 @@ ghost use Rattle.std.specs.Prelude.{◌≡◌, ◌≤◌, length, take};
 use btree_pages::{Kind, MOST_ROW_BYTES, NodeView};
 use std::marker::Model;
 
-/// An entry, of its own: the row of its leaf in place, with room for the longest one.
+/// An entry, of its own: the row of its leaf in place, with room for the longest one. `place` is where its leaf had it, and a search for
+/// the entry after it looks there first.
 #[derive(Drop)]
 pub struct Entry {
     bytes: [u8; MOST_ROW_BYTES],
     length: usize,
     key_length: usize,
+    pub(crate) place: usize,
 }
 
 impl Model for Entry {
@@ -48,6 +50,7 @@ impl Entry {
             bytes: [0; MOST_ROW_BYTES],
             length: 0,
             key_length: 0,
+            place: 0,
         }
     }
 
@@ -63,6 +66,7 @@ impl Entry {
         put_front(&mut self.bytes, row);
         self.length = row.len();
         self.key_length = leaf.layout().key_length;
+        self.place = place;
     }
 
     /// The entry, if it was found.

@@ -12,7 +12,7 @@ ghost use Rattle.btree.specs.Places.{IsLeafPlace, SpellsLeaf, IsNextIn, IsNextOf
 
 use crate::entry::Entry;
 use crate::node::view_node;
-use crate::sought::{Sought, sought_place};
+use crate::sought::{Sought, place_after};
 use crate::tree::Tree;
 use btree_pages::{Kind, RowLayout};
 use pages::{PageMap, PagesError};
@@ -142,7 +142,7 @@ fn near_in(bytes: &[u8; 4096], layout: RowLayout, key: &[u8], entry: &mut Entry)
     if node.kind() == Kind::Inner {
         return false;
     }
-    let place = sought_place(&node, key, Sought::After);
+    let place = place_after(&node, key, entry.place);
     if !is_past_first(place, node.count()) {
         return false;
     }

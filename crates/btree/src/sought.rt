@@ -69,6 +69,20 @@ pub(crate) fn sought_place(node: &NodeView, key: &[u8], sought: Sought) -> usize
     }
 }
 
+/// From which place on a page the first entry is the one after a key. The row at `near` is looked at first.
+pub(crate) fn place_after(node: &NodeView, key: &[u8], near: usize) -> usize
+    ensures { Ascend (keys_of node.now.layout node.now.rows) →
+        sought_in Sought.After (entries_of_rows node.now.layout node.now.rows) key.now
+        ≡ first_entry (entries_of_rows node.now.layout (drop result node.now.rows)) }
+{
+    // How many rows there are is needed below.
+    let _count = node.count();
+    match node.find_near(key, near) {
+        Ok(place) => place + 1,
+        Err(place) => place,
+    }
+}
+
 /// What the page that these bytes spell answers. The entry is put into `entry`. `Damaged` means that they spell no page of a tree.
 fn look_in(
     bytes: &[u8; 4096],

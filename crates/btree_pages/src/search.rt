@@ -1,6 +1,7 @@
 //! The place of a key in a page.
-ghost use Rattle.std.specs.Prelude.{◌≡◌, ◌↔◌, ◌≤◌, IsTrue, ◌<◌, ◌+◌, [], length, take, drop, slice_index_or, IfOk, IfErr, MatchResult};
-ghost use Rattle.btree_pages.specs.Keys.{Ascend, AllAbove, AllBelow, key_of, keys_of};
+ghost use Rattle.std.specs.Prelude.{◌↔◌, ◌≤◌, IsTrue, length, IfOk, IfErr};
+ghost use Rattle.btree_pages.specs.Keys.{Ascend, keys_of};
+ghost use Rattle.btree_pages.specs.Searches.{HasKeyAt, SplitsRows};
 
 use crate::key_order::compare_keys;
 use crate::node_view::NodeView;
@@ -11,14 +12,9 @@ impl<'a> NodeView<'a> {
     /// The place of the row with this key, or the place where it would go in. A page whose keys don't ascend gives a place of it all
     /// the same.
     pub fn find(&self, key: &[u8]) -> Result<usize, usize>
-        ensures found { IfOk result (λ place. (place < length self.now.rows)
-            × (key_of self.now.layout (slice_index_or self.now.rows place []) ≡ key.now)) }
+        ensures found { IfOk result (HasKeyAt self.now key.now) }
         ensures missing { IfErr result (λ place. place ≤ length self.now.rows) }
-        ensures around { Ascend (keys_of self.now.layout self.now.rows) → MatchResult result
-            (λ place. AllBelow self.now.layout key.now (take place self.now.rows)
-            × AllAbove self.now.layout key.now (drop (place + 1) self.now.rows))
-            (λ place. AllBelow self.now.layout key.now (take place self.now.rows)
-            × AllAbove self.now.layout key.now (drop place self.now.rows)) }
+        ensures around { SplitsRows self.now key.now result }
     {
         let mut low = 0;
         let mut high = self.count();
@@ -31,6 +27,18 @@ impl<'a> NodeView<'a> {
             }
         }
         Err(low)
+    }
+
+    /// As `find`. The search is spared if the row at `place`, which may be any number, has the key.
+    pub fn find_near(&self, key: &[u8], place: usize) -> Result<usize, usize>
+        ensures found { IfOk result (HasKeyAt self.now key.now) }
+        ensures missing { IfErr result (λ place. place ≤ length self.now.rows) }
+        ensures around { SplitsRows self.now key.now result }
+    {
+        if place < self.count() && compare_keys(self.key(place), key).is_eq() {
+            return Ok(place);
+        }
+        self.find(key)
     }
 
     /// Whether each key is below the next one.
@@ -51,14 +59,9 @@ impl TreePage {
     /// The place of the row with this key, or the place where it would go in. A page whose keys don't ascend gives a place of it all
     /// the same.
     pub fn find(&self, key: &[u8]) -> Result<usize, usize>
-        ensures found { IfOk result (λ place. (place < length self.now.rows)
-            × (key_of self.now.layout (slice_index_or self.now.rows place []) ≡ key.now)) }
+        ensures found { IfOk result (HasKeyAt self.now key.now) }
         ensures missing { IfErr result (λ place. place ≤ length self.now.rows) }
-        ensures around { Ascend (keys_of self.now.layout self.now.rows) → MatchResult result
-            (λ place. AllBelow self.now.layout key.now (take place self.now.rows)
-            × AllAbove self.now.layout key.now (drop (place + 1) self.now.rows))
-            (λ place. AllBelow self.now.layout key.now (take place self.now.rows)
-            × AllAbove self.now.layout key.now (drop place self.now.rows)) }
+        ensures around { SplitsRows self.now key.now result }
     {
         self.view().find(key)
     }

@@ -24,6 +24,8 @@ pub struct HostStation<C, O: Write + Drop, E, D> {
     alloc: Global,
     console: C,
     out: BufWriter<O>,
+    /// Whether something was shown since `out` was flushed.
+    has_shown: bool,
     /// Where file statements are printed, if anywhere.
     trace: Option<E>,
     failures: u64,
@@ -52,13 +54,14 @@ where
             alloc,
             console,
             out: BufWriter::new(alloc, out)?,
+            has_shown: false,
             trace,
             failures: 0,
             volume,
         })
     }
 
-    /// Hands what was shown on to the writer, and flushes that.
+    /// Hands what was shown on to the writer, and flushes that, if something was shown since the last flush.
     pub fn flush(&mut self) -> Result<(), DeviceError>
         ensures failures { CountsFailure result self.old.failures self.new.failures }
         ensures volume { self.new.volume ≡ self.old.volume }
@@ -66,7 +69,11 @@ where
         ensures kept { let contents = writer_contents O.contents in
             Keeps (contents self.old.out) (contents self.new.out) }
     {
+        if !self.has_shown && self.out.buffer().is_empty() {
+            return Ok(());
+        }
         let done = self.out.flush();
+        self.has_shown = done.is_err();
         self.count_failure(done)
     }
 
@@ -178,6 +185,7 @@ where
         ensures appended { let contents = writer_contents O.contents in
             OnOk result (Appends (contents self.old.out) (contents self.new.out) bytes.now) }
     {
+        self.has_shown = true;
         let done = self.out.write_all(bytes);
         self.count_failure(done)
     }

@@ -9,14 +9,14 @@ returns-in-Err-clause-next c = λ rows read some up. absurd (c.in-Err.ensures.da
 
 pub returns-then-not-is_past_first-clause-next : goal.returns-then-not-is_past_first-clause-next
 returns-then-not-is_past_first-clause-next c =
-    let place = c.sought_place-place.result in
+    let place = c.place_after-place.result in
     none_in c.args.layout c.args.bytes.now c.args.key.now c.args.entry.now c.in-Ok.node place c.in-Ok.ensures.node
-    c.sought_place-place.ensures (λ some low. never_true c.if-not-is_past_first.true
+    c.place_after-place.ensures (λ some low. never_true c.if-not-is_past_first.true
     (c.is_past_first.ensures.1 (some, subst (λ n. place < n) (sym c.count.ensures.rows) low)))
 
 pub returns-clause-next : goal.returns-clause-next
 returns-clause-next c =
-    let place = c.sought_place-place.result in
+    let place = c.place_after-place.result in
     let within = c.is_past_first.ensures.0 c.if-not-is_past_first.false in
     next_in c.args.layout c.args.bytes.now c.args.key.now c.take_row.new.self c.in-Ok.node place c.in-Ok.ensures.node
-    c.sought_place-place.ensures within.0 (subst (λ n. place < n) c.count.ensures.rows within.1) c.take_row.ensures.is
+    c.place_after-place.ensures within.0 (subst (λ n. place < n) c.count.ensures.rows within.1) c.take_row.ensures.is
