@@ -41,7 +41,8 @@ FoundBy tree key sought found pages = (levels : List (List TreeNode)) → IsTree
     → found ≡ sought_in sought (entries_of tree.layout levels) key
 
 abbrev pub NoTreeUnder : RootedTree → Type 0 → List (Option Sector) → Type 0
-NoTreeUnder tree told pages = told → (levels : List (List TreeNode)) → IsTreeOrEmpty tree.layout pages tree.root levels → ⊥
+NoTreeUnder tree told pages =
+    told → (levels : List (List TreeNode)) → IsTreeOrEmpty tree.layout pages tree.root levels → ⊥
 
 -- In each tree under a root, the entry that a search found is in the leaf where it ended.
 abbrev pub LeavesIn : RootedTree → Result SearchEnd PagesError → List (Option Sector) → Type 0

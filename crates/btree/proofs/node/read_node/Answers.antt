@@ -37,7 +37,8 @@ returns-in-Some-clause-damaged g c = λ honest agrees is kind node same stands.
 
 pub returns-clause-unchanged : goal.returns-clause-unchanged
 returns-clause-unchanged g c =
-    unchanged_on c.args.pages.now c.visit.follows.lender-at-none c.node_loaded.new.pages c.visit.follows.holds-at-none.unchanged
+    unchanged_on c.args.pages.now c.visit.follows.lender-at-none c.node_loaded.new.pages
+    c.visit.follows.holds-at-none.unchanged
     c.node_loaded.ensures.reads.unchanged
 
 pub returns-clause-node : goal.returns-clause-node

@@ -10,7 +10,8 @@ use Rattle.btree.specs.Reading.{IsSearchRefusal}
 use Rattle.btree.specs.Rooted.{RootedTree}
 use Rattle.btree.proofs.Finding.{found_with}
 use Rattle.btree.proofs.Frames.{rooted_tree}
-use Rattle.btree.proofs.Passing.{passed, never_ok, never_err, ok_is, still_error, was_error, reads_where, read_is_search}
+use Rattle.btree.proofs.Passing.{passed, never_ok, never_err, ok_is, still_error, was_error, reads_where}
+use Rattle.btree.proofs.Passing.{read_is_search}
 use Rattle.btree.proofs.tree.Tree.find.Goals as goal
 
 pub returns-in_err-end-clause-damaged : goal.returns-in_err-end-clause-damaged

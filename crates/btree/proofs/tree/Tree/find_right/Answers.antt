@@ -18,7 +18,8 @@ returns-in_err-end-clause-damaged g c = λ honest agrees told levels tree passed
     let damaged = was_error c.from_residual.result c.search.result c.in_err-end.field-0.0 Damaged
     c.from_residual.ensures.1 c.in_err-end.was told in
     c.search.ensures.damaged honest agrees damaged levels
-    (tree_inside c.args.self.now _ _ (pages_on g.D.Device c.args.pages.now c.args.device.now) levels c.self.view_is tree)
+    (tree_inside c.args.self.now _ _ (pages_on g.D.Device c.args.pages.now c.args.device.now) levels c.self.view_is
+    tree)
 
 pub returns-clause-damaged : goal.returns-clause-damaged
 returns-clause-damaged g c = λ honest agrees told levels tree passed after around beside.
@@ -41,7 +42,8 @@ returns-then-end-clause-entry g c = λ honest agrees levels tree passed after ar
 
 pub returns-then-end-clause-leaf : goal.returns-then-end-clause-leaf
 returns-then-end-clause-leaf g c = λ honest agrees levels tree found. c.in_ok-end.ensures.leaf honest agrees levels
-    (tree_inside c.args.self.now _ _ (pages_on g.D.Device c.args.pages.now c.args.device.now) levels c.self.view_is tree)
+    (tree_inside c.args.self.now _ _ (pages_on g.D.Device c.args.pages.now c.args.device.now) levels c.self.view_is
+    tree)
 
 pub returns-in-None-clause-only : goal.returns-in-None-clause-only
 returns-in-None-clause-only g c =

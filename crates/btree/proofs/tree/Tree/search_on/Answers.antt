@@ -41,7 +41,8 @@ pub returns-clause-damaged : goal.returns-clause-damaged
 returns-clause-damaged g c = λ honest agrees is. never_ok is
 
 pub returns-clause-spent : goal.returns-clause-spent
-returns-clause-spent g c = (λ is. never_ok is, λ both. never_ok (sym c.in_ok-found.was ∙ c.find_on.ensures.spent.1 both))
+returns-clause-spent g c =
+    (λ is. never_ok is, λ both. never_ok (sym c.in_ok-found.was ∙ c.find_on.ensures.spent.1 both))
 
 pub returns-clause-lengths : goal.returns-clause-lengths
 returns-clause-lengths g c = subst (λ (o : Option Entry). IfSome o (HasLengths c.args.self.now.layout))

@@ -69,9 +69,11 @@ returns-then-branch-clause-entry g c =
     let way = c.in_ok-way.way in
     found_by g.D.Device _ c.args.pages.now c.follow.new.pages c.args.device.now c.follow.new.device c.args.self.now
     c.self.inside.layout c.self.inside.root c.args.key.now way.path.items way.page way.right c.args.sought
-    (if_found c.in_ok-entry_at.field-0 c.entry_at.new.entry) c.entry_at.new.entry c.self.view_is (root_there c.args.self.now _ _ c.self.view_is c.requires.root)
+    (if_found c.in_ok-entry_at.field-0 c.entry_at.new.entry) c.entry_at.new.entry c.self.view_is
+    (root_there c.args.self.now _ _ c.self.view_is c.requires.root)
     c.follow.ensures.unchanged
-    c.follow.ensures.only c.follow.ensures.agrees c.in_ok-way.ensures.way (ap (λ (b : Bool). if_found b c.entry_at.new.entry) c.if-branch.true) c.in_ok-entry_at.ensures.entry
+    c.follow.ensures.only c.follow.ensures.agrees c.in_ok-way.ensures.way
+    (ap (λ (b : Bool). if_found b c.entry_at.new.entry) c.if-branch.true) c.in_ok-entry_at.ensures.entry
 
 pub returns-clause-entry : goal.returns-clause-entry
 returns-clause-entry g c = λ honest agrees levels holds.
@@ -84,9 +86,9 @@ returns-clause-entry g c = λ honest agrees levels holds.
     c.args.sought (if_found c.in_ok-entry_at.field-0 c.entry_at.new.entry) (λ after. IfOk c.find_right.result (λ end.
     if_found end.found c.find_right.new.entry ≡ first_entry (entries_of_rows c.args.self.now.layout after)))
     _ _ c.self.view_is c.requires.sought c.follow.ensures.unchanged c.follow.ensures.only c.follow.ensures.agrees
-    c.entry_at.ensures.unchanged c.entry_at.ensures.only c.entry_at.ensures.agrees (ap (λ (b : Bool). if_found b c.entry_at.new.entry) c.if-branch.false)
-    c.in_ok-entry_at.ensures.entry c.find_right.ensures.entry honest agrees tree
-    (c.in_ok-way.ensures.way honest agrees levels tree) in
+    c.entry_at.ensures.unchanged c.entry_at.ensures.only c.entry_at.ensures.agrees
+    (ap (λ (b : Bool). if_found b c.entry_at.new.entry) c.if-branch.false) c.in_ok-entry_at.ensures.entry
+    c.find_right.ensures.entry honest agrees tree (c.in_ok-way.ensures.way honest agrees levels tree) in
     IfOk-weaker c.find_right.result _ _ (λ end is. is ∙ said.0.is) said.1
 
 pub returns-clause-damaged : goal.returns-clause-damaged
@@ -99,7 +101,8 @@ returns-clause-damaged g c = λ honest agrees told levels holds.
     c.follow.new.device c.entry_at.new.device _ c.args.self.now c.args.key.now levels way.path.items way.page way.right
     c.args.sought (if_found c.in_ok-entry_at.field-0 c.entry_at.new.entry) (λ after. ⊥)
     _ _ c.self.view_is c.requires.sought c.follow.ensures.unchanged c.follow.ensures.only c.follow.ensures.agrees
-    c.entry_at.ensures.unchanged c.entry_at.ensures.only c.entry_at.ensures.agrees (ap (λ (b : Bool). if_found b c.entry_at.new.entry) c.if-branch.false)
+    c.entry_at.ensures.unchanged c.entry_at.ensures.only c.entry_at.ensures.agrees
+    (ap (λ (b : Bool). if_found b c.entry_at.new.entry) c.if-branch.false)
     c.in_ok-entry_at.ensures.entry (λ h a. c.find_right.ensures.damaged h a told) honest agrees tree
     (c.in_ok-way.ensures.way honest agrees levels tree)).1
 
