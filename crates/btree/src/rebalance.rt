@@ -1,6 +1,7 @@
 //! A page that too few rows are left for is joined with a neighbour, or takes rows of it.
-ghost use Rattle.std.specs.Prelude.{◌≡◌, ◌≢◌, ◌≤◌, ◌<◌, ◌+◌, ◌++◌, Err, Some, [], length, map, take, drop, slice_index_or, IfSome, IfOk, IfErr, OnOk};
+ghost use Rattle.std.specs.Prelude.{◌≡◌, ◌≢◌, ◌≤◌, ◌<◌, ◌+◌, ◌++◌, Err, Some, [], List, length, map, set, take, drop, slice_index_or, IfSome, IfOk, IfErr, OnOk};
 ghost use Rattle.byteorder.specs.Endian.{big_bytes};
+ghost use Rattle.station.specs.Disk.{Sector};
 ghost use Rattle.pages.specs.Pages.{IsPage, SameCommitted, KeepsCommitted, IsUnchanged};
 ghost use Rattle.pages.specs.Devices.{FitsDevice};
 ghost use Rattle.btree_pages.specs.RowLayouts.{IsRowLayout, capacity};
@@ -10,7 +11,7 @@ ghost use Rattle.btree.specs.Fills.{IsEven};
 ghost use Rattle.btree.specs.Reading.{IsReadRefusal, NoneOfKind};
 ghost use Rattle.btree.specs.Nodes.{SameNode};
 ghost use Rattle.btree.specs.Propagates.{run_of};
-ghost use Rattle.btree.specs.Changes.{CanStand, HasKeys};
+ghost use Rattle.btree.specs.Changes.{pages_of_map, CanStand, HasKeys};
 ghost use Rattle.btree.specs.Outcomes.{FitsAbove, IsJoined, IsPair, RebalancesNeighbours};
 ghost use Rattle.btree.specs.Refusals.{IsPutRefusal, IsRestRefusal};
 ghost use Rattle.btree.specs.Calls.{OnPages, OnChange, OnlyReadsFor, KeepsAgreement};
@@ -191,9 +192,8 @@ fn redistribute(pages: &mut PageMap, left: Child, right: Child) -> Result<SplitR
     let _left_count = node.count();
     let _right_count = rest.count();
     let lower = node.bytes();
-    pages.edit(page, &lower)?;
     let upper = rest.bytes();
-    pages.edit(beside, &upper)?;
+    edit_two(pages, page, &lower, beside, &upper)?;
     Ok(SplitResult {
         page,
         left: node,
@@ -202,6 +202,30 @@ fn redistribute(pages: &mut PageMap, left: Child, right: Child) -> Result<SplitR
             node: rest,
         }),
     })
+}
+
+/// Two pages get other bytes.
+fn edit_two(
+    pages: &mut PageMap,
+    left: u32,
+    lower: &[u8; 4096],
+    right: u32,
+    upper: &[u8; 4096],
+) -> Result<(), PagesError>
+    requires left { IsPage pages.old left }
+    requires right { IsPage pages.old right }
+    ensures map { OnOk result ((image : List Sector) → pages_of_map pages.new image
+        ≡ set (set (pages_of_map pages.old image) left (Some lower.now)) right
+        (Some upper.now)) }
+    ensures changed_pages { OnOk result (FewChanged 2 pages.old pages.new) }
+    ensures filled { OnOk result (FewFilled 2 pages.old pages.new) }
+    ensures keeps { KeepsCommitted pages.old pages.new }
+    ensures spent { OnlyIfSpent pages.old result }
+    ensures cause { IfErr result IsPutRefusal }
+{
+    pages.edit(left, lower)?;
+    pages.edit(right, upper)?;
+    Ok(())
 }
 
 /// The two rows from a place on, which named two neighbours, name what became of them.

@@ -1,17 +1,13 @@
-use Rattle.std.proofs.Common.{◌≡◌, ◌+◌, ◌++◌, List, length, length-append, sym, ◌∙◌, ap, arith}
-use Rattle.btree.specs.Propagates.{node_with}
-use Rattle.btree.proofs.Sharing.{write_shared, spells_two, shared_evenly}
-use Rattle.std.specs.Prelude.{IfErr, Err}
-use Rattle.std.proofs.Common.{true, ℕ}
-use Rattle.pages.specs.Pages.{is_spent, changed_pages_of, filled_of}
-use Rattle.pages.specs.declared.error.PagesError.TheVariants.{Spent}
-use Rattle.btree.specs.Refusals.{IsPutRefusal}
-use Rattle.btree.proofs.Clearing.{keeps_on}
-use Rattle.btree.proofs.Passing.{passed, never_ok, still_error}
-use Rattle.btree.proofs.Passing.{edit_is_put}
-use Rattle.btree.proofs.Passing.{page_stays, changes_two, few_then}
+use Rattle.std.proofs.Common.{◌≡◌, ◌+◌, ◌++◌, true, ℕ, List, length, length-append, sym, ◌∙◌, ap, arith}
 use Rattle.std.proofs.lemmas.List.{append-nil}
-use Rattle.btree.proofs.JoinedPairs.{halved, both_written}
+use Rattle.std.specs.Prelude.{IfErr, Err}
+use Rattle.pages.specs.Pages.{is_spent}
+use Rattle.pages.specs.declared.error.PagesError.TheVariants.{Spent}
+use Rattle.btree.specs.Propagates.{node_with}
+use Rattle.btree.specs.Refusals.{IsPutRefusal}
+use Rattle.btree.proofs.JoinedPairs.{halved}
+use Rattle.btree.proofs.Passing.{passed, never_ok, still_error}
+use Rattle.btree.proofs.Sharing.{write_shared, spells_two, shared_evenly}
 use Rattle.btree.proofs.rebalance.redistribute.Goals as goal
 
 pub returns-clause-pages : goal.returns-clause-pages
@@ -22,7 +18,7 @@ returns-clause-pages c = λ image one two both.
     c.share_rows.ensures.left_even c.share_rows.ensures.right_even c.requires.many in
     write_shared c.args.left.node.layout c.args.left.node.kind _ _ c.args.left.page c.args.right.page
     c.bytes-lower.result c.bytes-upper.result one two lower.rows upper.rows
-    (both_written _ _ _ _ _ _ _ both (c.in_ok-edit.ensures.map image) (c.in_ok-edit-2.ensures.map image))
+    (record { is = c.in_ok-edit_two.ensures.map image; both = both })
     (spells_two _ _ lower c.bytes-lower.result c.share_rows.ensures.left.layout c.share_rows.ensures.left.kind
     c.count-left_count.ensures.node enough.0 c.bytes-lower.ensures.reads)
     (spells_two _ _ upper c.bytes-upper.result c.share_rows.ensures.right.layout c.share_rows.ensures.right.kind
@@ -40,57 +36,20 @@ returns-clause-even c =
     (omega (arith, count, c.requires.full, c.share_rows.ensures.left_even, c.share_rows.ensures.right_even))
     (omega (arith, count, c.requires.full, c.share_rows.ensures.left_even, c.share_rows.ensures.right_even))
 
-pub edit-requires-2 : goal.edit-requires-2
-edit-requires-2 c = record {
-  page = page_stays c.args.pages.now c.edit.new.self c.args.right.page c.edit.ensures.keeps.committed
-      c.requires.right_page;
-}
-
 pub returns-clause-rows : goal.returns-clause-rows
 returns-clause-rows c =
     ap (λ (l : List (List ℕ)). c.share_rows.new.left.rows ++ l) (append-nil c.share_rows.new.right.rows)
     ∙ c.share_rows.ensures.rows
 
-pub returns-in_err-edit-2-clause-keeps : goal.returns-in_err-edit-2-clause-keeps
-returns-in_err-edit-2-clause-keeps c =
-    keeps_on c.args.pages.now c.edit.new.self c.edit-2.new.self c.edit.ensures.keeps c.edit-2.ensures.keeps
-
-pub returns-clause-keeps : goal.returns-clause-keeps
-returns-clause-keeps c =
-    keeps_on c.args.pages.now c.edit.new.self c.edit-2.new.self c.edit.ensures.keeps c.edit-2.ensures.keeps
-
-pub returns-clause-changed_pages : goal.returns-clause-changed_pages
-returns-clause-changed_pages c =
-    changes_two (changed_pages_of c.args.pages.now) c.args.left.page (changed_pages_of c.edit.new.self)
-    c.args.right.page (changed_pages_of c.edit-2.new.self) c.in_ok-edit.ensures.changes_page
-    c.in_ok-edit-2.ensures.changes_page
-
-pub returns-clause-filled : goal.returns-clause-filled
-returns-clause-filled c = few_then (filled_of c.args.pages.now) (filled_of c.edit.new.self)
-    (filled_of c.edit-2.new.self) 1 1 c.edit.ensures.filled
-    c.edit-2.ensures.filled
-
-pub returns-in_err-edit-clause-spent : goal.returns-in_err-edit-clause-spent
-returns-in_err-edit-clause-spent c = passed c.from_residual.result c.in_err-edit.field-0.0 c.from_residual.ensures.1
-    (λ r. r ≡ Err Spent → is_spent c.args.pages.now ≡ true)
-    (λ is. c.in_err-edit.ensures.spent.0 (still_error is))
-
-pub returns-in_err-edit-2-clause-spent : goal.returns-in_err-edit-2-clause-spent
-returns-in_err-edit-2-clause-spent c =
-    passed c.from_residual-in_err-edit-2.result c.in_err-edit-2.field-0.0 c.from_residual-in_err-edit-2.ensures.1
-    (λ r. r ≡ Err Spent → is_spent c.args.pages.now ≡ true)
-    (λ is. sym c.edit.ensures.keeps.committed.spent ∙ c.in_err-edit-2.ensures.spent.0 (still_error is))
+pub returns-in_err-edit_two-clause-spent : goal.returns-in_err-edit_two-clause-spent
+returns-in_err-edit_two-clause-spent c =
+    passed c.from_residual.result c.in_err-edit_two.field-0.0 c.from_residual.ensures.1
+    (λ r. r ≡ Err Spent → is_spent c.args.pages.now ≡ true) (λ is. c.in_err-edit_two.ensures.spent (still_error is))
 
 pub returns-clause-spent : goal.returns-clause-spent
 returns-clause-spent c = λ is. never_ok is
 
-pub returns-in_err-edit-clause-cause : goal.returns-in_err-edit-clause-cause
-returns-in_err-edit-clause-cause c = passed c.from_residual.result c.in_err-edit.field-0.0 c.from_residual.ensures.1
-    (λ r. IfErr r IsPutRefusal)
-    (edit_is_put c.in_err-edit.field-0.0 c.in_err-edit.ensures.cause)
-
-pub returns-in_err-edit-2-clause-cause : goal.returns-in_err-edit-2-clause-cause
-returns-in_err-edit-2-clause-cause c =
-    passed c.from_residual-in_err-edit-2.result c.in_err-edit-2.field-0.0 c.from_residual-in_err-edit-2.ensures.1
-    (λ r. IfErr r IsPutRefusal)
-    (edit_is_put c.in_err-edit-2.field-0.0 c.in_err-edit-2.ensures.cause)
+pub returns-in_err-edit_two-clause-cause : goal.returns-in_err-edit_two-clause-cause
+returns-in_err-edit_two-clause-cause c =
+    passed c.from_residual.result c.in_err-edit_two.field-0.0 c.from_residual.ensures.1
+    (λ r. IfErr r IsPutRefusal) c.in_err-edit_two.ensures.cause
