@@ -1,7 +1,7 @@
 -- Two neighbours that a call joins, or that share their rows.
-use Rattle.std.proofs.Common.{◌≡◌, ◌≤◌, ◌+◌, ◌*◌, ◌++◌, ℕ, List, [], ◌∷◌, length, length-append, set, map, take}
+use Rattle.std.proofs.Common.{◌≡◌, ◌≤◌, ◌+◌, ◌*◌, ◌++◌, ℕ, List, [], ◌∷◌, length, length-append, map, take}
 use Rattle.std.proofs.Common.{drop, sym, ◌∙◌, ap, subst, arith}
-use Rattle.std.specs.Prelude.{nat_lt, slice_index_or, Option, Some, IfSome}
+use Rattle.std.specs.Prelude.{nat_lt, slice_index_or, IfSome}
 use Rattle.byteorder.specs.Endian.{big_bytes}
 use Rattle.station.specs.Disk.{Sector}
 use Rattle.pages.specs.declared.page_map.PageMap.{PageMap}
@@ -21,7 +21,6 @@ use Rattle.btree.specs.Changes.{pages_of_map}
 use Rattle.btree.specs.Outcomes.{AreTwo, ArePair, IsJoined, Joins}
 use Rattle.btree.specs.Puts.{PutsBack, PutsTogether}
 use Rattle.btree.proofs.Rebalancing.{Learns, joins_so}
-use Rattle.btree.proofs.Sharing.{Changed}
 
 -- What is ensured of two neighbours that are joined.
 pub record AreJoined (old mid : PageMap) (left right : Child) (joined : SplitResult) : Type 0 where
@@ -101,10 +100,3 @@ halved lower upper left right n same low high many =
     let count : length lower + length upper ≡ length left + length right =
     sym (length-append lower upper) ∙ ap length same ∙ length-append left right in
     (omega (arith, count, low, high, many), omega (arith, count, low, high, many))
-
--- The left one of two pages was written, and then the right one.
-pub both_written : (old mid new : List (Option Sector)) (left right : ℕ) (one two : Sector)
-    → AreTwo old left right → mid ≡ set old left (Some one) → new ≡ set mid right (Some two)
-    → Changed old new left right one (Some two)
-both_written old mid new left right one two both first second =
-    record { is = second ∙ ap (λ (l : List (Option Sector)). set l right (Some two)) first; both = both }

@@ -1,5 +1,5 @@
 //! A page that too few rows are left for is joined with a neighbour, or takes rows of it.
-ghost use Rattle.std.specs.Prelude.{◌≡◌, ◌≢◌, ◌≤◌, ◌<◌, ◌+◌, ◌++◌, Err, Some, [], List, length, map, set, take, drop, slice_index_or, IfSome, IfOk, IfErr, OnOk};
+ghost use Rattle.std.specs.Prelude.{◌≡◌, ◌≢◌, ◌≤◌, ◌<◌, ◌+◌, ◌++◌, Err, Some, None, [], List, length, map, set, take, drop, slice_index_or, IfSome, IfOk, IfErr, OnOk};
 ghost use Rattle.byteorder.specs.Endian.{big_bytes};
 ghost use Rattle.station.specs.Disk.{Sector};
 ghost use Rattle.pages.specs.Pages.{IsPage, SameCommitted, KeepsCommitted, IsUnchanged};
@@ -155,13 +155,34 @@ fn merge(pages: &mut PageMap, left: Child, right: Child) -> Result<SplitResult, 
     // What this tells is needed below: each row has its length.
     let _count = node.count();
     let spelled = node.bytes();
-    pages.edit(page, &spelled)?;
-    pages.release(right.page)?;
+    edit_and_release(pages, page, &spelled, right.page)?;
     Ok(SplitResult {
         page,
         left: node,
         right: None,
     })
+}
+
+/// A page gets other bytes, and another one is given up.
+fn edit_and_release(
+    pages: &mut PageMap,
+    left: u32,
+    bytes: &[u8; 4096],
+    right: u32,
+) -> Result<(), PagesError>
+    requires left { IsPage pages.old left }
+    requires right { IsPage pages.old right }
+    ensures map { OnOk result ((image : List Sector) → pages_of_map pages.new image
+        ≡ set (set (pages_of_map pages.old image) left (Some bytes.now)) right None) }
+    ensures changed_pages { OnOk result (FewChanged 2 pages.old pages.new) }
+    ensures filled { OnOk result (FewFilled 2 pages.old pages.new) }
+    ensures keeps { KeepsCommitted pages.old pages.new }
+    ensures spent { OnlyIfSpent pages.old result }
+    ensures cause { IfErr result IsPutRefusal }
+{
+    pages.edit(left, bytes)?;
+    pages.release(right)?;
+    Ok(())
 }
 
 /// They have too many rows for one page.
