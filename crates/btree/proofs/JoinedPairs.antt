@@ -1,13 +1,18 @@
 -- Two neighbours that a call joins, or that share their rows.
-use Rattle.std.proofs.Common.{◌≡◌, ◌≤◌, ◌+◌, ◌*◌, ◌++◌, ℕ, List, [], ◌∷◌, length, length-append, map, take}
-use Rattle.std.proofs.Common.{drop, sym, ◌∙◌, ap, subst, arith}
-use Rattle.std.specs.Prelude.{nat_lt, slice_index_or, IfSome}
+use Rattle.std.proofs.Common.{◌≡◌, ◌≤◌, ◌<◌, ◌+◌, ◌-◌, ◌*◌, ◌/◌, ◌++◌, ℕ, List, [], ◌∷◌, length, length-append, map}
+use Rattle.std.proofs.Common.{take}
+use Rattle.std.proofs.lemmas.List.{length-take-le, length-drop, take-append-drop}
+use Rattle.std.proofs.Common.{append_assoc, drop, sym, ◌∙◌, ap, subst, arith}
+use Rattle.std.specs.Prelude.{nat_lt, slice_index_or, IfSome, IfErr, Result, Ok, Err}
 use Rattle.byteorder.specs.Endian.{big_bytes}
 use Rattle.station.specs.Disk.{Sector}
+use Rattle.pages.specs.declared.error.PagesError.{PagesError}
+use Rattle.pages.specs.declared.error.PagesError.TheVariants.{Damaged}
 use Rattle.pages.specs.declared.page_map.PageMap.{PageMap}
 use Rattle.btree_pages.specs.declared.row_layout.RowLayout.{RowLayout}
 use Rattle.btree_pages.specs.declared.row_layout.Kind.TheVariants.{Inner}
 use Rattle.btree_pages.specs.Keys.{rest_of}
+use Rattle.btree_pages.specs.Edits.{with_rows}
 use Rattle.btree_pages.specs.Node.{Node}
 use Rattle.btree.specs.declared.removal_outcome.Child.{Child}
 use Rattle.btree.specs.declared.removal_outcome.RemovalOutcome.{RemovalOutcome}
@@ -20,6 +25,8 @@ use Rattle.btree.specs.Propagates.{node_with, run_of}
 use Rattle.btree.specs.Changes.{pages_of_map}
 use Rattle.btree.specs.Outcomes.{AreTwo, ArePair, IsJoined, Joins}
 use Rattle.btree.specs.Puts.{PutsBack, PutsTogether}
+use Rattle.btree.specs.Refusals.{IsPutRefusal, IsRestRefusal}
+use Rattle.btree.proofs.Passing.{never_ok, put_is_rest, put_not_damaged}
 use Rattle.btree.proofs.Rebalancing.{Learns, joins_so}
 
 -- What is ensured of two neighbours that are joined.
@@ -100,3 +107,41 @@ halved lower upper left right n same low high many =
     let count : length lower + length upper ≡ length left + length right =
     sym (length-append lower upper) ∙ ap length same ∙ length-append left right in
     (omega (arith, count, low, high, many), omega (arith, count, low, high, many))
+
+-- The lower rows of a node come after those of another one, and so nothing is lost,
+pub joined_cut : (place : ℕ) (other node low rest all : Node) → low ≡ with_rows node (take place node.rows)
+    → rest ≡ with_rows node (drop place node.rows) → all ≡ with_rows other (other.rows ++ low.rows)
+    → all.rows ++ rest.rows ≡ other.rows ++ node.rows
+joined_cut place other node low rest all low_is rest_is all_is =
+    ap (λ (n : Node). n.rows ++ rest.rows) all_is
+    ∙ ap (λ (n : Node). (other.rows ++ n.rows) ++ rest.rows) low_is
+    ∙ ap (λ (n : Node). (other.rows ++ take place node.rows) ++ n.rows) rest_is
+    ∙ append_assoc other.rows (take place node.rows) (drop place node.rows)
+    ∙ ap (λ rows. other.rows ++ rows) (take-append-drop place node.rows)
+
+-- and half of what it has more makes the two even.
+pub even_cut : (one two : ℕ) (other node low rest all : Node) → one ≡ length other.rows → two ≡ length node.rows
+    → one < two → low ≡ with_rows node (take ((two - one) / 2) node.rows)
+    → rest ≡ with_rows node (drop ((two - one) / 2) node.rows) → all ≡ with_rows other (other.rows ++ low.rows)
+    → (length all.rows ≤ length rest.rows + 1) × (length rest.rows ≤ length all.rows + 1)
+even_cut one two other node low rest all one_is two_is less low_is rest_is all_is =
+    let place = (two - one) / 2 in
+    let within : place ≤ length node.rows = omega (arith, two_is) in
+    let taken = length-take-le place node.rows within in
+    let all_count : length all.rows ≡ length other.rows + length (take place node.rows) =
+    ap (λ (n : Node). length n.rows) all_is ∙ length-append other.rows low.rows
+    ∙ ap (λ (n : Node). length other.rows + length n.rows) low_is in
+    let rest_count : length rest.rows ≡ length node.rows - place =
+    ap (λ (n : Node). length n.rows) rest_is ∙ length-drop place node.rows in (
+      omega (arith, one_is, two_is, less, taken, all_count, rest_count),
+      omega (arith, one_is, two_is, less, taken, all_count, rest_count),
+    )
+
+-- A call that puts pages back is refused as a call that rebalances is, and never as damaged.
+pub put_then_rest : {T : Type 0} (r : Result T PagesError) → IfErr r IsPutRefusal → IfErr r IsRestRefusal
+put_then_rest (Ok x) why = tt
+put_then_rest (Err e) why = put_is_rest e why
+
+pub put_undamaged : {T A : Type 0} (r : Result T PagesError) → IfErr r IsPutRefusal → r ≡ Err Damaged → A
+put_undamaged (Ok x) why is = never_ok is
+put_undamaged (Err e) why is = put_not_damaged e why is

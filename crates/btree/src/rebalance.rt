@@ -125,11 +125,9 @@ fn rebalance(pages: &mut PageMap, left: Child, right: Child) -> Result<SplitResu
     }
     let room = left.node.layout().capacity(left.node.kind());
     if left.node.count() + right.node.count() <= room {
-        let one = merge(pages, left, right)?;
-        return Ok(one);
+        return merge(pages, left, right);
     }
-    let two = redistribute(pages, left, right)?;
-    Ok(two)
+    redistribute(pages, left, right)
 }
 
 /// Their rows fit on one page.
