@@ -37,7 +37,7 @@ impl SearchKey {
         }
     }
 
-    /// It becomes a value, filled up to so many bytes.
+    /// Sets the key to a value, filled up with `byte` to `count` bytes.
     pub(crate) fn set_filled(&mut self, value: &[u8], count: usize, byte: u8)
         requires count { count ≤ 200 }
         requires fits { length value.now ≤ count }
@@ -48,7 +48,7 @@ impl SearchKey {
         self.length = count;
     }
 
-    /// It becomes a value, and a number in 8 bytes after it.
+    /// Sets the key to a value, and a number in 8 bytes after it.
     pub(crate) fn set_pair(&mut self, value: &[u8], number: u64)
         requires { length value.now ≤ 192 }
         ensures { self.new ≡ value.now ++ big_bytes 8 number }
@@ -59,7 +59,7 @@ impl SearchKey {
         self.length = length;
     }
 
-    /// It becomes the number of a row.
+    /// Sets the key to the number of a row.
     pub(crate) fn set_number(&mut self, number: u64)
         ensures { self.new ≡ big_bytes 4 number }
     {

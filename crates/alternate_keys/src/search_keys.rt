@@ -76,7 +76,7 @@ pub(crate) fn number_bytes(alloc: Global, number: u64) -> Result<Vec<u8>, StoreF
     Ok(out)
 }
 
-/// Puts the key from which a key's tree is looked into in place.
+/// Sets `at` to the key from which the tree of `key` is searched for a value and a number.
 pub(crate) fn put_key(
     at: &mut SearchKey,
     file: &FileSpec,
@@ -168,7 +168,7 @@ fn fill_byte(side: Side) -> u8
     }
 }
 
-/// Puts a place under an alternate key in place, in whole.
+/// Sets `at` to the key of a place under an alternate key whose value has its whole length.
 fn put_whole_key(at: &mut SearchKey, count: usize, side: Side, value: &[u8], number: u64)
     requires count { count ≤ 200 }
     requires fits { length value.now + 8 ≤ count }
