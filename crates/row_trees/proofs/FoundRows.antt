@@ -102,8 +102,8 @@ row_read pages rows planted key old new told entry is says some read =
     (sym (ap (option_map (unrolled_entry (form_of rows.record_bytes) pages)) some)
     ∙ got_seen pages rows planted key told is says) (refl, read.bytes_are)
 
-record_there : (n : ℕ) (pages : List (Option Sector)) (layout : RowLayout) (entry : Entry) (size : ℕ) → FitsForm n layout
-    → IsRecordLength n size → length entry.value ≡ layout.value_length
+record_there : (n : ℕ) (pages : List (Option Sector)) (layout : RowLayout) (entry : Entry) (size : ℕ)
+    → FitsForm n layout → IsRecordLength n size → length entry.value ≡ layout.value_length
     → size ≤ length (unrolled_entry (form_of n) pages entry).value
     → (n ≢ 0 → chain.Stands pages (pages_for n) (big_number 4 entry.value)) → HasRecord n pages entry size
 record_there zero pages layout entry size fits is long whole stands = whole

@@ -71,7 +71,8 @@ impl RowTree {
             (ReadsRow (entry_with planted.entries key.now) into.old into.new)) }
         ensures damaged { OnRowTree D.Device self.now pages.old device.old
             (λ planted. IsRecordLength self.now.record_bytes (length into.old)
-            → IfSome (entry_with planted.entries key.now) (λ row. length into.old ≤ length row.value)
+            → IfSome (entry_with planted.entries key.now)
+            (λ row. length into.old ≤ length row.value)
             → result ≡ Err PagesError.Damaged → ⊥) }
         ensures kept { OnErr result (into.new ≡ into.old) }
         ensures missing { result ≡ Ok false → into.new ≡ into.old }
