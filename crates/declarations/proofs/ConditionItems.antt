@@ -1,15 +1,28 @@
--- The item of a condition name.
-use Rattle.std.proofs.Common.{◌≡◌, ℕ, ◌<◌, List, None, Some, length, sym, ap, ◌∙◌, arith}
+-- Condition names that are looked up, and their items.
+use Rattle.std.proofs.Common.{◌≡◌, ℕ, ◌<◌, List, None, Some, length, subst, sym, ap, ◌∙◌, arith}
 use Rattle.std.specs.Prelude.{Option, map, slice_get}
 use Rattle.std.specs.Option.{option_map}
 use Rattle.std.proofs.lemmas.List.{length-map}
 use Rattle.std.proofs.lemmas.Option.{slice_get-map, slice_get_within}
+use Rattle.source_tree.specs.declared.reference.QualifiedName.{QualifiedName}
 use Rattle.source_tree.specs.Places.{LocatedItem}
 use Rattle.source_tree.specs.LookUp.{NamedCondition, all_conditions}
 use Rattle.layout.specs.declared.placed.PlacedItem.{PlacedItem}
 use Rattle.layout.specs.Placing.{placed_item}
+use Rattle.name_table.specs.declared.conditions.ConditionNames.{ConditionNames}
 use Rattle.name_table.specs.declared.conditions.DeclaredCondition.{DeclaredCondition}
-use Rattle.name_table.specs.Conditions.{found_at}
+use Rattle.name_table.specs.declared.look_up.LookUp.{LookUp}
+use Rattle.name_table.specs.Conditions.{AreConditions, IsConditionNamed, called_condition, found_at}
+use Rattle.name_table.specs.Positions.{look_up}
+use Rattle.name_table.specs.Table.{calls_in}
+
+-- what is found in the table is what the name names
+pub named_is : (items : List LocatedItem) (all : ConditionNames) (name : QualifiedName) (found : LookUp)
+    → AreConditions items all
+    → IsConditionNamed items name (look_up name (map called_condition (all_conditions items)))
+    → found ≡ look_up name (calls_in all.names) → IsConditionNamed items name found
+named_is items all name found are law said =
+    subst (IsConditionNamed items name) (sym (said ∙ ap (look_up name) are.calls)) law
 
 module _ (items : List LocatedItem) (declared : List DeclaredCondition)
     (found : map (found_at items) declared ≡ map Some (all_conditions items))

@@ -17,6 +17,7 @@ use Rattle.source_tree.specs.Records.{storage_areas}
 use Rattle.file_descriptions.specs.declared.file.ProgramFile.{ProgramFile}
 use Rattle.file_descriptions.specs.Files.{file_in}
 use Rattle.declarations.proofs.Firsts.{left_none, right_none}
+use Rattle.declarations.proofs.LookedUp.{several}
 
 -- where the rules of files are kept, each name is given to one SELECT
 pub once : (items : List LocatedItem) (program : Program) → program_file_rules items program ≡ []
@@ -91,18 +92,6 @@ module _ (items : List LocatedItem) (area : ℕ) where
 
 -- ---- what is told of none, and of several
 
-pub unnamed_none : (place : Place) (found : List tree.ProgramFile) → found ≡ []
-    → (rules : tree.ProgramFile → List RuleBreach)
-    → first (unique_name_rules place rules found) ≡ Some (record { rule = 40; place = place })
-unnamed_none place found e rules = ap (λ (l : List tree.ProgramFile). first (unique_name_rules place rules l)) e
-
-pub unnamed_two : (place : Place) (found : List tree.ProgramFile) (one other : tree.ProgramFile)
-    (more : List tree.ProgramFile) → found ≡ one ∷ other ∷ more
-    → (rules : tree.ProgramFile → List RuleBreach)
-    → first (unique_name_rules place rules found) ≡ Some (record { rule = 41; place = place })
-unnamed_two place found one other more e rules =
-    ap (λ (l : List tree.ProgramFile). first (unique_name_rules place rules l)) e
-
 pub none_first : (found : List tree.ProgramFile) → first found ≡ None → found ≡ []
 none_first [] e = refl
 none_first (one ∷ more) e = absurd cc
@@ -128,7 +117,7 @@ pub second_in_area : (items : List LocatedItem) (program : Program) (all files :
     → first (unique_name_rules place rules (tree.files_with (tree.files_of items program) area))
     ≡ Some (record { rule = 41; place = place })
 second_in_area items program all files area i place found known one e is sought some within here same =
-    unnamed_two place (tree.files_with (tree.files_of items program) area) (file_in items known.now) (file_in items one)
+    several place (tree.files_with (tree.files_of items program) area) (file_in items known.now) (file_in items one)
     (filter (λ (x : tree.ProgramFile). x.places.area == area) (map (file_in items) (drop (i + 1) files)))
     (of_program items program all files area _ e is (two_sought items area known one within here
     (subst (λ (o : Option (Bor ProgramFile)). AreSought items area files i o) some sought)

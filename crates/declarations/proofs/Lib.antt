@@ -9,6 +9,7 @@ pub mod Permitted
 pub mod Layers
 pub mod OperandAlone
 pub mod Looking
+pub mod LookedUp
 pub mod ConditionItems
 pub mod ItemEntries
 pub mod EntryNumbers

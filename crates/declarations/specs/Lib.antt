@@ -12,4 +12,5 @@ pub mod Seen
 pub mod Selecting
 pub mod Declaring
 pub mod Entries
+pub mod ProgramTables
 pub mod Chains

@@ -4,15 +4,15 @@ ghost use Rattle.declarations.specs.Data.{with_data};
 ghost use Rattle.declarations.specs.OneProof.{declared_props};
 ghost use Rattle.declarations.specs.Tables.{IsDeclared};
 
-use crate::declared_items::{DeclaredItems, item_number};
+use crate::declared_items::{DeclaredItems, item_number, placed_at};
 use crate::item_parts::item_seen;
-use crate::listed::{Procedure, listed_procedures};
-use crate::procedures::named_procedures;
+use crate::listed::Procedure;
+use crate::program_tables::ProgramTables;
 use entry_rules::{BrokenRule, CheckError};
 use file_descriptions::ProgramFiles;
 use items::Item;
 use layout::{Layout, PlacedItem};
-use name_table::{ConditionNames, NameTable, ProcedureNames, condition_names};
+use name_table::{ConditionNames, NameTable, ProcedureNames};
 use source_tree::{Entry, FileDescription, Program, QualifiedName, Reference, Select};
 use std::alloc::Global;
 
@@ -49,6 +49,7 @@ impl<'a> Declarations<'a> {
     ghost use Rattle.declarations.specs.FoundFiles.{IsNumberedItem};
     ghost use Rattle.declarations.specs.Named as spec;
     ghost use Rattle.declarations.specs.Named.{Declares, IsItemNamed, items_in};
+    ghost use Rattle.declarations.specs.ProgramTables.{AreTables};
     ghost use Rattle.declarations.specs.Seen.{IsItemShown};
 
     /// What is declared in a program that keeps the rules of its entries, of its files and of the names of its procedures. Otherwise
@@ -70,20 +71,34 @@ impl<'a> Declarations<'a> {
         ensures names { IsFirstFault result
             (procedure_name_rules items.entry.program.now.sections) }
     {
+        match ProgramTables::of(alloc, &items) {
+            Ok(tables) => Ok(Declarations::with_tables(items, tables)),
+            Err(error) => Err(error),
+        }
+    }
+
+    /// With these items and tables.
+    fn with_tables(items: DeclaredItems<'a>, tables: ProgramTables<'a>) -> Declarations<'a>
+        requires declared { AreDeclared items }
+        requires files { program_file_rules (items_of items) items.program.now ≡ [] }
+        requires tables { AreTables items.program.now tables }
+        ensures { Declares items.entry.program.now result }
+    {
         let DeclaredItems {
             program,
             names,
             layout,
         } = items;
-        let conditions = condition_names(alloc, &names, program)?;
-        let files = ProgramFiles::of(alloc, program, &names, &layout)?;
+        let ProgramTables {
+            conditions,
+            files,
+            procedure_list,
+            procedures,
+        } = tables;
         let selects = program.selects.as_slice();
         let descriptions = program.files.as_slice();
         let storage = program.storage.as_slice();
-        let sections = program.sections.as_slice();
-        let procedures = named_procedures(alloc, sections)?;
-        let procedure_list = listed_procedures(alloc, sections)?;
-        Ok(Declarations {
+        Declarations {
             selects,
             descriptions,
             storage,
@@ -93,7 +108,7 @@ impl<'a> Declarations<'a> {
             files,
             procedure_list,
             procedures,
-        })
+        }
     }
 
     /// The item that a name names: rule 40 where there is none, 41 where there are several.
@@ -102,7 +117,7 @@ impl<'a> Declarations<'a> {
             (items_named (items_in self.now) name.now) }
     {
         let number = item_number(&self.names, name)?;
-        Ok(&self.layout.items.as_slice()[number])
+        Ok(placed_at(&self.layout, number))
     }
 
     /// The item that a reference shows, which is its part if it has one: rule 40 where the name names nothing, 41 where it names several.
@@ -120,6 +135,6 @@ impl<'a> Declarations<'a> {
             result (items_named (items_in self.now) name.now) }
     {
         let number = item_number(&self.names, name)?;
-        Ok((number, &self.layout.items.as_slice()[number]))
+        Ok((number, placed_at(&self.layout, number)))
     }
 }

@@ -1,6 +1,6 @@
 //! The items of a program, by their names and where they stand.
 
-ghost use Rattle.std.specs.Prelude.{◌≡◌, List, [], IfOk, OnOk, map, sum};
+ghost use Rattle.std.specs.Prelude.{◌≡◌, ◌<◌, List, [], Some, IfOk, OnOk, length, map, slice_get, sum};
 ghost use Rattle.source_tree.specs.EntryRules.{entry_rules};
 ghost use Rattle.source_tree.specs.FileRules.{descriptions_rules, program_file_rules};
 ghost use Rattle.source_tree.specs.Levels.{forest_of};
@@ -75,7 +75,7 @@ impl<'a> DeclaredItems<'a> {
             (items_named (spec.items_of self.now) name.now) }
     {
         let number = item_number(&self.names, name)?;
-        Ok(&self.layout.items.as_slice()[number])
+        Ok(placed_at(&self.layout, number))
     }
 }
 
@@ -98,6 +98,14 @@ pub(crate) fn item_number(names: &NameTable<'_>, name: &QualifiedName) -> Result
             place,
         }),
     }
+}
+
+/// The item of that number.
+pub(crate) fn placed_at(layout: &Layout, number: usize) -> &PlacedItem
+    requires { number < length layout.now.items }
+    ensures { slice_get layout.now.items number ≡ Some result.now }
+{
+    &layout.items.as_slice()[number]
 }
 
 /// The rules of the names of files and of the entries of their records, after so many bytes of working storage. Answers the bytes of each

@@ -12,6 +12,7 @@ mod item_parts;
 mod keys;
 mod listed;
 mod procedures;
+mod program_tables;
 mod record_area;
 mod record_entries;
 mod resolved;

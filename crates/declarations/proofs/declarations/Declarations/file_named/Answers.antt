@@ -1,7 +1,8 @@
 use Rattle.declarations.specs.Named.{data_in, items_in}
 use Rattle.file_descriptions.specs.Files.{file_in}
 use Rattle.source_tree.specs.ProgramFiles.{files_named, files_of}
-use Rattle.declarations.proofs.FilesFound.{none_first, once, unnamed_none}
+use Rattle.declarations.proofs.FilesFound.{none_first, once}
+use Rattle.declarations.proofs.LookedUp.{unknown}
 use Rattle.declarations.proofs.declarations.Declarations.file_named.Goals as goal
 
 pub returns-in-Some : goal.returns-in-Some
@@ -18,4 +19,4 @@ returns-in-None c =
     let items = items_in all in
     let program = data_in all in
     let found = files_named (files_of items program) c.args.name.now in
-    unnamed_none c.args.name.now.place found (none_first found (c.in-None.ensures items program all.declared.files))
+    unknown c.args.name.now.place found (none_first found (c.in-None.ensures items program all.declared.files))

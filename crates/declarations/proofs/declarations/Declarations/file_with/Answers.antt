@@ -6,7 +6,8 @@ use Rattle.source_tree.specs.ProgramFiles as tree
 use Rattle.file_descriptions.specs.declared.file.ProgramFile.{ProgramFile}
 use Rattle.file_descriptions.specs.Files.{file_in}
 use Rattle.declarations.specs.Named.{data_in, items_in}
-use Rattle.declarations.proofs.FilesFound.{listed, unnamed_none, of_program, second_in_area}
+use Rattle.declarations.proofs.FilesFound.{listed, of_program, second_in_area}
+use Rattle.declarations.proofs.LookedUp.{unknown}
 use Rattle.declarations.proofs.declarations.Declarations.file_with.Goals as goal
 
 pub returns-in-None : goal.returns-in-None
@@ -14,7 +15,7 @@ returns-in-None c =
     let all = c.args.self.now in
     let items = items_in all in
     let files = c.deref-file-items.result.now in
-    unnamed_none c.args.place (tree.files_with (tree.files_of items (data_in all)) c.args.area)
+    unknown c.args.place (tree.files_with (tree.files_of items (data_in all)) c.args.area)
     (of_program items (data_in all) all.files.files.items files c.args.area _ all.declared.files.files
     c.deref-file-items.ensures.value
     (c.loop-file.invariant.same
