@@ -78,8 +78,17 @@ fn program(alloc: Global, tokens: &[Token]) -> Result<Program, ReadFault>
 fn formed(alloc: Global, tree: Program) -> Result<Program, ParseError>
     ensures { Gives (λ (tree : Program). tree) fault_of result (faults.result_of_tree tree) }
 {
+    let forms = has_forms(alloc, &tree);
+    let (tree, ()) = beside(tree, forms)?;
+    Ok(tree)
+}
+
+/// Each picture of the tree has a form.
+fn has_forms(alloc: Global, tree: &Program) -> Result<(), ParseError>
+    ensures { Gives (λ (u : Unit {0}). tree.now) fault_of result (faults.result_of_tree tree.now) }
+{
     match first_formless(alloc, tree.files.as_slice(), tree.storage.as_slice())? {
-        None => Ok(tree),
+        None => Ok(()),
         Some(place) => Err(ParseError::Refused(ParseFault {
             kind: FaultKind::PictureWithoutForm,
             place,
