@@ -1,213 +1,188 @@
-//! Decimals as words, and what the calls of `decimal18` give on them.
+//! What the calls of `decimal18` give on numbers.
 
 ghost use Rattle.std.specs.Prelude.{◌≤◌};
 
-use crate::words::{bytes, count, or_none, told, unreadable};
+use crate::answer::{Answer, NONE, whether};
+use crate::operands::{MOST_SCALE, Operands};
 use decimal18::{Dec, Rounding, Size, put_digits};
-use std::alloc::Global;
-use std::io;
+use std::alloc::{AllocError, Global};
+use std::cmp::Ordering;
 
-const TEN_TO_38: u128 = 100_000_000_000_000_000_000_000_000_000_000_000_000;
-
-/// The most digits and the most decimals of a receiver.
+/// The most digits of a receiver.
 const MOST_DIGITS: u8 = 38;
 
-const MOST_SCALE: u8 = 18;
-
 /// The longest text that is written.
-const MOST_LENGTH: usize = 100;
+const MOST_LENGTH: u8 = 100;
 
-/// A number as it is written: the digits are its coefficient, and those after the point its scale.
-pub fn decimal(alloc: Global, word: &str) -> io::Result<Dec> {
-    let (whole, decimals) = word.split_once('.').unwrap_or((word, ""));
-    let digits = format!(in alloc; "{whole}{decimals}")?;
-    match digits.as_str().parse::<i128>() {
-        Ok(coefficient)
-            if coefficient.unsigned_abs() < TEN_TO_38
-                && decimals.len() <= usize::from(MOST_SCALE) => {
-            Ok(Dec::new(coefficient, decimals.len() as u8))
-        }
-        _ => Err(unreadable()),
-    }
+/// A call on two numbers.
+#[derive(Clone, Copy)]
+pub enum OfTwo {
+    Sum,
+    Difference,
+    Product,
+    Quotient,
+    Order,
+    Equal,
 }
 
-/// The word of a number, with all its decimals.
-pub fn spelled(alloc: Global, number: Dec) -> io::Result<String> {
-    let digits = format!(in alloc; "{:019}", number.coefficient().unsigned_abs())?;
-    let point = digits.len().saturating_sub(usize::from(number.scale()));
-    let Some((front, decimals)) = digits.as_str().split_at_checked(point) else {
-        return Err(unreadable());
-    };
-    let sign = if_so(number.coefficient() < 0, "-");
-    let whole = whole_of(front);
-    let point = if_so(!decimals.is_empty(), ".");
-    Ok(format!(in alloc; "{sign}{whole}{point}{decimals}")?)
+/// A call on a number.
+#[derive(Clone, Copy)]
+pub enum OfOne {
+    Negated,
+    Absolute,
+    Integral,
+    Parts,
 }
 
-/// A text where something is so.
-fn if_so(is_so: bool, text: &'static str) -> &'static str {
-    if is_so { text } else { "" }
-}
-
-/// Digits without zeros in front.
-fn whole_of(digits: &str) -> &str {
-    match digits.trim_start_matches('0') {
-        "" => "0",
-        whole => whole,
-    }
-}
-
-/// The word of what a call answered.
-fn answered(alloc: Global, answer: Result<Dec, Size>) -> io::Result<String> {
+/// What a call answered.
+fn answered(answer: Result<Dec, Size>) -> Answer {
     match answer {
-        Ok(number) => spelled(alloc, number),
-        Err(_) => Ok(format!(in alloc; "size error")?),
+        Ok(number) => Answer::Number(number),
+        Err(_) => Answer::Word("size error"),
+    }
+}
+
+fn order_word(order: Ordering) -> &'static str {
+    match order {
+        Ordering::Less => "Less",
+        Ordering::Equal => "Equal",
+        Ordering::Greater => "Greater",
     }
 }
 
 /// `sum ONE OTHER`, and `difference`, `product`, `quotient`, `order`, `equal`.
-pub fn of_two(alloc: Global, words: &[String]) -> io::Result<String> {
-    let [operation, one, other, ..] = words else {
-        return Err(unreadable());
-    };
-    let (one, other) = (decimal(alloc, one)?, decimal(alloc, other)?);
-    match operation.as_str() {
-        "sum" => answered(alloc, one.add(other)),
-        "difference" => answered(alloc, one.sub(other)),
-        "product" => answered(alloc, one.mul(other)),
-        "quotient" => answered(alloc, one.div(other)),
-        "order" => Ok(format!(in alloc; "{:?}", one.cmp(&other))?),
-        _ => Ok(format!(in alloc; "{}", one == other)?),
+pub fn of_two(call: OfTwo, operands: &mut Operands<'_>) -> Answer {
+    let one = operands.decimal();
+    let other = operands.decimal();
+    match call {
+        OfTwo::Sum => answered(one.add(other)),
+        OfTwo::Difference => answered(one.sub(other)),
+        OfTwo::Product => answered(one.mul(other)),
+        OfTwo::Quotient => answered(one.div(other)),
+        OfTwo::Order => Answer::Word(order_word(one.cmp(&other))),
+        OfTwo::Equal => whether(one == other),
     }
 }
 
-/// `negated NUMBER`, and `absolute`, `integral`, `parts`; `truncated NUMBER DECIMALS`, and `digit NUMBER PLACE`, the digit with so
-/// many to its right.
-pub fn of_one(alloc: Global, words: &[String]) -> io::Result<String> {
-    let [operation, number, more @ ..] = words else {
-        return Err(unreadable());
-    };
-    let number = decimal(alloc, number)?;
-    match operation.as_str() {
-        "negated" => spelled(alloc, -number),
-        "absolute" => spelled(alloc, number.abs()),
-        "integral" => or_none(alloc, number.to_integer()),
-        "truncated" => spelled(alloc, number.truncated(first_count(more)?)),
-        "digit" => match first_count(more)? {
-            place if place <= MOST_DIGITS => or_none(alloc, Some(number.digit(place))),
-            _ => Err(unreadable()),
-        },
-        _ => {
-            let (is_negative, is_zero) = (number.is_negative(), number.is_zero());
-            let (magnitude, scale) = (number.magnitude(), number.scale());
-            Ok(format!(in alloc; "{is_negative} {is_zero} {magnitude} {scale}")?)
-        }
+/// `negated NUMBER`, and `absolute`, `integral`, `parts`.
+pub fn of_one(call: OfOne, operands: &mut Operands<'_>) -> Answer {
+    let number = operands.decimal();
+    match call {
+        OfOne::Negated => Answer::Number(-number),
+        OfOne::Absolute => Answer::Number(number.abs()),
+        OfOne::Integral => integral(number),
+        OfOne::Parts => Answer::Parts(number),
     }
 }
 
-fn first_count(words: &[String]) -> io::Result<u8> {
-    match words {
-        [word, ..] => count(word),
-        [] => Err(unreadable()),
+/// The integer that a number is, or none.
+fn integral(number: Dec) -> Answer {
+    match number.to_integer() {
+        Some(integer) => Answer::Integer(integer),
+        None => NONE,
     }
+}
+
+/// `truncated NUMBER DECIMALS`
+pub fn truncated(operands: &mut Operands<'_>) -> Answer {
+    let number = operands.decimal();
+    Answer::Number(number.truncated(operands.count(u8::MAX)))
+}
+
+/// `digit NUMBER PLACE`: the digit with so many to its right.
+pub fn digit(operands: &mut Operands<'_>) -> Answer {
+    let number = operands.decimal();
+    let digit = number.digit(operands.count(MOST_DIGITS));
+    Answer::Integer(i128::from(digit))
 }
 
 /// `fit NUMBER DIGITS DECIMALS rounded`, or `truncated`, and `cut`.
-pub fn received(alloc: Global, words: &[String]) -> io::Result<String> {
-    let [operation, number, digits, scale, rounding, ..] = words else {
-        return Err(unreadable());
+pub fn received(is_cut: bool, operands: &mut Operands<'_>) -> Answer {
+    let number = operands.decimal();
+    let digits = operands.count(MOST_DIGITS);
+    let most = if digits < MOST_SCALE {
+        digits
+    } else {
+        MOST_SCALE
     };
-    let number = decimal(alloc, number)?;
-    let (digits, scale): (u8, u8) = (count(digits)?, count(scale)?);
-    if digits > MOST_DIGITS || scale > MOST_SCALE || scale > digits {
-        return Err(unreadable());
-    }
-    let rounding = rounding_of(rounding);
-    match operation.as_str() {
-        "fit" => answered(alloc, number.fit(digits, scale, rounding)),
-        _ => spelled(alloc, number.cut(digits, scale, rounding)),
+    let scale = operands.count(most);
+    let rounding = rounding_of(operands.words.takes(b"rounded"));
+    if is_cut {
+        Answer::Number(number.cut(digits, scale, rounding))
+    } else {
+        answered(number.fit(digits, scale, rounding))
     }
 }
 
-fn rounding_of(word: &str) -> Rounding {
-    match word {
-        "rounded" => Rounding::Rounded,
-        _ => Rounding::Truncated,
+fn rounding_of(is_rounded: bool) -> Rounding {
+    if is_rounded {
+        Rounding::Rounded
+    } else {
+        Rounding::Truncated
     }
 }
 
-/// `integer NUMBER`, `with_parts SIGN MAGNITUDE DECIMALS`, and `with_digits SIGN "DIGITS" DECIMALS`.
-pub fn built(alloc: Global, words: &[String]) -> io::Result<String> {
-    match words {
-        [operation, number, ..] if operation.as_str() == "integer" => {
-            answered(alloc, Dec::integer(count(number)?))
-        }
-        [operation, sign, digits, scale, ..] => {
-            with_scale(
-                alloc,
-                operation,
-                sign.as_str() == "-",
-                digits,
-                count(scale)?,
-            )
-        }
-        _ => Err(unreadable()),
+/// `integer NUMBER`
+pub fn integer(operands: &mut Operands<'_>) -> Answer {
+    answered(Dec::integer(operands.integer()))
+}
+
+/// Whether the next word, the sign of a number that is built, is a minus.
+fn is_minus(operands: &mut Operands<'_>) -> bool {
+    matches!(operands.word(), [b'-'])
+}
+
+/// `with_parts SIGN MAGNITUDE DECIMALS`
+pub fn with_parts(operands: &mut Operands<'_>) -> Answer {
+    let is_negative = is_minus(operands);
+    let number = operands.decimal();
+    let scale = operands.count(MOST_SCALE);
+    if number.scale() > 0 {
+        return Answer::NoRow;
+    }
+    Answer::Number(Dec::from_parts(is_negative, number.magnitude(), scale))
+}
+
+/// `with_digits SIGN "DIGITS" DECIMALS`
+pub fn with_digits(operands: &mut Operands<'_>) -> Answer {
+    let is_negative = is_minus(operands);
+    let text = operands.word();
+    let scale = operands.count(MOST_SCALE);
+    match text {
+        [b'"', digits @ .., b'"'] => of_digits(is_negative, digits, scale),
+        _ => Answer::NoRow,
     }
 }
 
-/// The number of a sign, of a magnitude or digits, and of so many decimals.
-fn with_scale(
-    alloc: Global,
-    operation: &str,
-    is_negative: bool,
-    digits: &str,
-    scale: u8,
-) -> io::Result<String> {
-    if scale > MOST_SCALE {
-        return Err(unreadable());
-    }
-    if operation == "with_digits" {
-        return with_digits(alloc, is_negative, digits, scale);
-    }
-    match count::<u128>(digits)? {
-        magnitude if magnitude < TEN_TO_38 => {
-            spelled(alloc, Dec::from_parts(is_negative, magnitude, scale))
-        }
-        _ => Err(unreadable()),
-    }
-}
-
-fn with_digits(alloc: Global, is_negative: bool, digits: &str, scale: u8) -> io::Result<String>
+fn of_digits(is_negative: bool, digits: &[u8], scale: u8) -> Answer
     requires { scale ≤ 18 }
 {
-    let digits = bytes(alloc, digits)?;
     if digits.iter().all(|byte| byte.is_ascii_digit()) {
-        let number = Dec::from_digits(is_negative, digits.as_slice(), scale);
-        return answered(alloc, number);
+        return answered(Dec::from_digits(is_negative, digits, scale));
     }
-    Err(unreadable())
+    Answer::NoRow
 }
 
-/// `last_digits NUMBER LENGTH`, and the same of an integer of 64 bits.
-pub fn last_digits(alloc: Global, words: &[String]) -> io::Result<String> {
-    let [operation, number, length, ..] = words else {
-        return Err(unreadable());
-    };
-    let length = count::<usize>(length)?.min(MOST_LENGTH);
-    let mut text = vec![in alloc; b'.'; length]?;
-    put_last_digits(alloc, operation, number, &mut text)?;
-    told(alloc, text.as_slice())
+/// `last_digits NUMBER LENGTH`
+pub fn last_digits(alloc: Global, operands: &mut Operands<'_>) -> Result<Answer, AllocError> {
+    let number = operands.decimal();
+    let mut text = points(alloc, operands)?;
+    number.digits_into(&mut text);
+    Ok(Answer::Bytes(text))
 }
 
-fn put_last_digits(
+/// The same of an integer of 64 bits.
+pub fn last_digits_of_64_bits(
     alloc: Global,
-    operation: &str,
-    number: &str,
-    text: &mut [u8],
-) -> io::Result<()> {
-    match operation {
-        "last_digits" => decimal(alloc, number)?.digits_into(text),
-        _ => put_digits(count(number)?, text),
-    }
-    Ok(())
+    operands: &mut Operands<'_>,
+) -> Result<Answer, AllocError> {
+    let number = operands.magnitude();
+    let mut text = points(alloc, operands)?;
+    put_digits(number, &mut text);
+    Ok(Answer::Bytes(text))
+}
+
+/// As many points as the next word says.
+fn points(alloc: Global, operands: &mut Operands<'_>) -> Result<Vec<u8>, AllocError> {
+    vec![in alloc; b'.'; usize::from(operands.count(MOST_LENGTH))]
 }

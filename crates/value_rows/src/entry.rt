@@ -1,52 +1,99 @@
-//! Entries of numbers: `S9(3)V99`, `S9(3) LEADING SEPARATE`, `9(4) COMP`, `S9(5) PACKED-DECIMAL`.
+//! Entries of items: `X(5)`, and of numbers `S9(3)V99`, `S9(3) LEADING SEPARATE`, `9(4) COMP`, `S9(5) PACKED-DECIMAL`.
 
-ghost use Rattle.std.specs.Prelude.{IfOk};
+ghost use Rattle.std.specs.Prelude.{IfOk, IfSome};
 ghost use Rattle.items.specs.Numbers.{IsNumeric};
 
-use crate::words::unreadable;
+use crate::operands::Operands;
 use items::{Numeric, OperationalSign, Usage};
-use picture::{Category, Picture};
-use std::alloc::Global;
-use std::io;
+use picture::{Category, Picture, PictureError, PictureFault};
+use row_scripts::look_up;
+use std::alloc::{AllocError, Global};
+
+/// The picture, if it is one.
+pub fn if_any(answer: Result<Picture, PictureError>) -> Result<Option<Picture>, AllocError> {
+    match answer {
+        Ok(picture) => Ok(Some(picture)),
+        Err(PictureError::Memory) => Err(AllocError),
+        Err(PictureError::Refused(PictureFault::NoForm)) => Ok(None),
+    }
+}
+
+/// The picture of a text, if it has one.
+pub fn read_picture(alloc: Global, text: &[u8]) -> Result<Option<Picture>, AllocError> {
+    if_any(Picture::read(alloc, text))
+}
 
 /// The item of a picture, and of the words of its usage or its sign after it.
-pub fn numeric(alloc: Global, picture: &str, after: &[String]) -> io::Result<Numeric>
+pub fn numeric(alloc: Global, operands: &mut Operands<'_>) -> Result<Numeric, AllocError>
     ensures { IfOk result IsNumeric }
 {
-    let Ok(picture) = Picture::read(alloc, picture.as_bytes()) else {
-        return Err(unreadable());
-    };
-    let category = picture.category();
-    let (digits, scale) = (picture.digits(), picture.scale());
-    let is_signed = picture.is_signed();
+    let picture = read_picture(alloc, operands.word())?;
+    let item = numeric_of(&picture, operands);
     drop(picture);
-    if category != Category::Numeric || digits < 1 {
-        return Err(unreadable());
+    if item.is_none() {
+        operands.refuse();
     }
-    Ok(Numeric {
-        digits,
-        scale,
-        usage: usage(after, is_signed),
-    })
+    Ok(item.unwrap_or(DIGIT))
 }
 
-/// The usage, or the sign and whether it is separate.
-fn usage(words: &[String], signed: bool) -> Usage {
-    let Some(word) = words.first() else {
-        return Usage::Display(sign(signed, "", false));
-    };
-    match word.as_str() {
-        "COMP" => Usage::Binary { signed },
-        "PACKED-DECIMAL" => Usage::Packed { signed },
-        place => Usage::Display(sign(signed, place, words.len() > 1)),
+/// The item of a picture, if it is numeric.
+pub fn numeric_of(picture: &Option<Picture>, operands: &mut Operands<'_>) -> Option<Numeric>
+    ensures { IfSome result IsNumeric }
+{
+    match picture {
+        Some(picture) if picture.category() == Category::Numeric && picture.digits() >= 1 => {
+            Some(Numeric {
+                digits: picture.digits(),
+                scale: picture.scale(),
+                usage: usage(operands, picture.is_signed()),
+            })
+        }
+        _ => None,
     }
 }
 
-fn sign(is_signed: bool, place: &str, is_separate: bool) -> OperationalSign {
+/// The item of a picture of one digit.
+const DIGIT: Numeric = Numeric {
+    digits: 1,
+    scale: 0,
+    usage: Usage::Display(OperationalSign::Unsigned),
+};
+
+/// The word after a picture: the usage, or the place of the sign.
+#[derive(Clone, Copy)]
+enum Form {
+    Binary,
+    Packed,
+    Leading,
+    Trailing,
+}
+
+const FORMS: [(&[u8], Form); 4] = [
+    (b"COMP", Form::Binary),
+    (b"PACKED-DECIMAL", Form::Packed),
+    (b"LEADING", Form::Leading),
+    (b"TRAILING", Form::Trailing),
+];
+
+/// The usage, or the place of the sign and whether it is separate.
+fn usage(operands: &mut Operands<'_>, signed: bool) -> Usage {
+    let form = operands.words.word().and_then(form_of);
+    match form {
+        Some(Form::Binary) => Usage::Binary { signed },
+        Some(Form::Packed) => Usage::Packed { signed },
+        _ => Usage::Display(sign(signed, form, !operands.words.is_done())),
+    }
+}
+
+fn form_of(word: &[u8]) -> Option<Form> {
+    look_up(&FORMS, word)
+}
+
+fn sign(is_signed: bool, place: Option<Form>, is_separate: bool) -> OperationalSign {
     match (place, is_separate) {
-        ("LEADING", true) => OperationalSign::LeadingSeparate,
-        ("TRAILING", true) => OperationalSign::TrailingSeparate,
-        ("LEADING", false) => OperationalSign::Leading,
+        (Some(Form::Leading), true) => OperationalSign::LeadingSeparate,
+        (Some(Form::Trailing), true) => OperationalSign::TrailingSeparate,
+        (Some(Form::Leading), false) => OperationalSign::Leading,
         _ if is_signed => OperationalSign::Trailing,
         _ => OperationalSign::Unsigned,
     }

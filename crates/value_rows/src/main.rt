@@ -1,14 +1,15 @@
 //! Reads tables of values, computes each row by the crates that it is about, and compares what it gives with what it says.
 #![tactic(auto)]
 
+mod answer;
 mod decimals;
 mod entry;
 mod moves;
 mod numbers;
+mod operands;
 mod operations;
 mod pictures;
 mod table;
-mod words;
 
 use std::process::ExitCode;
 use std::{env, fs, io};

@@ -1,50 +1,70 @@
 //! Which moves are permitted, and what items hold after a move of a number and at the start.
 
-use crate::decimals::decimal;
-use crate::entry::numeric;
-use crate::words::{or_none, told, unreadable};
+use crate::answer::{Answer, whether};
+use crate::entry::{numeric, numeric_of, read_picture};
+use crate::operands::Operands;
 use edited_move::{Receiving, Sending, is_permitted, is_short, move_number};
 use items::{Figurative, Item, Kind, Taken, initialize};
 use picture::{Category, Picture};
-use std::alloc::Global;
-use std::io;
+use row_scripts::look_up;
+use std::alloc::{AllocError, Global};
 
 /// The greatest length of an item in bytes.
-const MOST_LENGTH: u128 = 65_535;
+const MOST_LENGTH: u32 = 65_535;
+
+const GROUP: Item = Item {
+    kind: Kind::Group,
+    length: 2,
+};
+
+/// The senders that are no items.
+const SENDERS: [(&[u8], Taken); 4] = [
+    (b"ZERO", Taken::Figurative(Figurative::Zero)),
+    (b"SPACE", Taken::Figurative(Figurative::Space)),
+    (b"QUOTE", Taken::Figurative(Figurative::Quote)),
+    (b"ALL", Taken::All),
+];
 
 /// `permitted SENDER RECEIVER`: entries without usage, or a figurative constant or ALL for the sender.
-pub fn permitted(alloc: Global, words: &[String]) -> io::Result<String> {
-    let [_, sender, receiver, ..] = words else {
-        return Err(unreadable());
-    };
-    let receiver = item(alloc, receiver)?;
-    let sender = taken(alloc, sender)?;
-    let is_permitted = is_permitted(Sending::of(sender), Receiving::of(receiver.kind));
-    or_none(alloc, Some(is_permitted && is_short(receiver, sender)))
+pub fn permitted(alloc: Global, operands: &mut Operands<'_>) -> Result<Answer, AllocError> {
+    let sender = taken(alloc, operands.word())?;
+    let receiver = item(alloc, operands.word())?;
+    Ok(match (sender, receiver) {
+        (Some(sender), Some(receiver)) => whether(is_move(sender, receiver)),
+        _ => Answer::NoRow,
+    })
+}
+
+fn is_move(sender: Taken, receiver: Item) -> bool {
+    is_permitted(Sending::of(sender), Receiving::of(receiver.kind)) && is_short(receiver, sender)
 }
 
 /// A figurative constant, ALL, or the item of an entry.
-fn taken(alloc: Global, sender: &str) -> io::Result<Taken> {
-    match sender {
-        "ZERO" => Ok(Taken::Figurative(Figurative::Zero)),
-        "SPACE" => Ok(Taken::Figurative(Figurative::Space)),
-        "QUOTE" => Ok(Taken::Figurative(Figurative::Quote)),
-        "ALL" => Ok(Taken::All),
-        _ => Ok(Taken::Item(item(alloc, sender)?)),
+fn taken(alloc: Global, sender: &[u8]) -> Result<Option<Taken>, AllocError> {
+    let taken = look_up(&SENDERS, sender);
+    if taken.is_some() {
+        return Ok(taken);
+    }
+    match item(alloc, sender)? {
+        Some(item) => Ok(Some(Taken::Item(item))),
+        None => Ok(None),
     }
 }
 
 /// The item of an entry, or a group of two bytes.
-fn item(alloc: Global, text: &str) -> io::Result<Item> {
-    if text == "GROUP" {
-        return Ok(Item {
-            kind: Kind::Group,
-            length: 2,
-        });
+fn item(alloc: Global, text: &[u8]) -> Result<Option<Item>, AllocError> {
+    if text == b"GROUP".as_slice() {
+        return Ok(Some(GROUP));
     }
-    let Ok(picture) = Picture::read(alloc, text.as_bytes()) else {
-        return Err(unreadable());
-    };
+    let picture = read_picture(alloc, text)?;
+    let item = item_of(&picture);
+    drop(picture);
+    Ok(item)
+}
+
+/// The item of a picture without usage.
+fn item_of(found: &Option<Picture>) -> Option<Item> {
+    let Some(picture) = found else { return None };
     let kind = match picture.category() {
         Category::Alphabetic => Kind::Alphabetic { justified: false },
         Category::Alphanumeric => Kind::Alphanumeric { justified: false },
@@ -52,37 +72,28 @@ fn item(alloc: Global, text: &str) -> io::Result<Item> {
         Category::NumericEdited => Kind::NumericEdited {
             blank_when_zero: false,
         },
-        Category::Numeric => Kind::Numeric(numeric(alloc, text, &[])?),
+        Category::Numeric => Kind::Numeric(numeric_of(found, &mut Operands::of(b""))?),
     };
-    let length = picture.size().min(MOST_LENGTH) as u32;
-    Ok(Item { kind, length })
+    let length = picture.size().min(u128::from(MOST_LENGTH)) as u32;
+    Some(Item { kind, length })
 }
 
 /// `moved NUMBER ENTRY`: the bytes of a numeric item.
-pub fn moved(alloc: Global, words: &[String]) -> io::Result<String> {
-    let [_, number, picture, usage @ ..] = words else {
-        return Err(unreadable());
-    };
-    let item = numeric(alloc, picture, usage)?;
-    let number = decimal(alloc, number)?;
+pub fn moved(alloc: Global, operands: &mut Operands<'_>) -> Result<Answer, AllocError> {
+    let number = operands.decimal();
+    let item = numeric(alloc, operands)?;
     let mut bytes = vec![in alloc; 0u8; item.length()]?;
     move_number(number, item, &mut bytes);
-    told(alloc, bytes.as_slice())
+    Ok(Answer::Bytes(bytes))
 }
 
 /// `initial PICTURE`: what an item that isn't numeric holds without VALUE.
-pub fn initial(alloc: Global, words: &[String]) -> io::Result<String> {
-    let [_, picture, ..] = words else {
-        return Err(unreadable());
-    };
-    let item = item(alloc, picture)?;
-    let mut bytes = vec![in alloc; b'.'; item.length as usize]?;
-    match item.kind {
-        Kind::Numeric(_) => Err(unreadable()),
-        _ if bytes.is_empty() || item.length > MOST_LENGTH as u32 => Err(unreadable()),
-        _ => {
-            initialize(item, &mut bytes);
-            told(alloc, bytes.as_slice())
-        }
+pub fn initial(alloc: Global, operands: &mut Operands<'_>) -> Result<Answer, AllocError> {
+    let item = item(alloc, operands.word())?.unwrap_or(GROUP);
+    if matches!(item.kind, Kind::Numeric(_)) || item.length < 1 || item.length > MOST_LENGTH {
+        return Ok(Answer::NoRow);
     }
+    let mut bytes = vec![in alloc; b'.'; item.length as usize]?;
+    initialize(item, &mut bytes);
+    Ok(Answer::Bytes(bytes))
 }

@@ -1,42 +1,94 @@
 //! Which operation a row is about.
 
-use crate::words::unreadable;
+use crate::answer::Answer;
+use crate::decimals::{OfOne, OfTwo};
+use crate::operands::Operands;
+use crate::pictures::Asked;
 use crate::{decimals, moves, numbers, pictures};
-use std::alloc::Global;
-use std::io;
+use row_scripts::look_up;
+use std::alloc::{AllocError, Global};
 
-/// What the operation gives on its arguments, in words.
-pub fn given(alloc: Global, words: &[String]) -> io::Result<String> {
-    let [operation, ..] = words else {
-        return Err(unreadable());
-    };
-    match group_of(operation) {
-        Some(Group::OfTwo) => decimals::of_two(alloc, words),
-        Some(Group::OfOne) => decimals::of_one(alloc, words),
-        Some(Group::Received) => decimals::received(alloc, words),
-        Some(Group::Built) => decimals::built(alloc, words),
-        Some(Group::LastDigits) => decimals::last_digits(alloc, words),
-        Some(Group::Bytes) => numbers::bytes_of(alloc, words),
-        Some(Group::BytesAtEachScale) => numbers::bytes_at_each_scale(alloc, words),
-        Some(Group::Number) => numbers::number_in(alloc, words),
-        Some(Group::BytesAt) => numbers::bytes_at(alloc, words),
-        Some(Group::Permitted) => moves::permitted(alloc, words),
-        Some(Group::Moved) => moves::moved(alloc, words),
-        Some(Group::Initial) => moves::initial(alloc, words),
-        Some(Group::Picture) => pictures::told_of(alloc, words),
-        Some(Group::Runs) => pictures::of_runs(alloc, words),
-        None => Err(unreadable()),
+/// What a row gives.
+pub fn given(alloc: Global, row: &[u8]) -> Result<Answer, AllocError> {
+    let mut operands = Operands::of(row);
+    let answer = computed(alloc, &mut operands);
+    if operands.is_wrong() {
+        drop(answer);
+        return Ok(Answer::NoRow);
+    }
+    answer
+}
+
+fn computed(alloc: Global, operands: &mut Operands<'_>) -> Result<Answer, AllocError> {
+    match look_up(&OPERATIONS, operands.word()) {
+        Some(Operation::OnNumbers(operation)) => Ok(on_numbers(operation, operands)),
+        Some(Operation::OnBytes(operation)) => on_bytes(alloc, operation, operands),
+        Some(Operation::Picture(asked)) => pictures::told_of(alloc, asked, operands),
+        Some(Operation::Runs) => pictures::of_runs(alloc, operands),
+        None => Ok(Answer::NoRow),
     }
 }
 
-/// Operations that one function computes.
+fn on_numbers(operation: OnNumbers, operands: &mut Operands<'_>) -> Answer {
+    match operation {
+        OnNumbers::OfTwo(call) => decimals::of_two(call, operands),
+        OnNumbers::OfOne(call) => decimals::of_one(call, operands),
+        OnNumbers::Truncated => decimals::truncated(operands),
+        OnNumbers::Digit => decimals::digit(operands),
+        OnNumbers::Fit => decimals::received(false, operands),
+        OnNumbers::Cut => decimals::received(true, operands),
+        OnNumbers::Integer => decimals::integer(operands),
+        OnNumbers::WithParts => decimals::with_parts(operands),
+        OnNumbers::WithDigits => decimals::with_digits(operands),
+    }
+}
+
+fn on_bytes(
+    alloc: Global,
+    operation: OnBytes,
+    operands: &mut Operands<'_>,
+) -> Result<Answer, AllocError> {
+    match operation {
+        OnBytes::LastDigits => decimals::last_digits(alloc, operands),
+        OnBytes::LastDigitsOf64Bits => decimals::last_digits_of_64_bits(alloc, operands),
+        OnBytes::Bytes => numbers::bytes_of(alloc, operands),
+        OnBytes::BytesAtEachScale => numbers::bytes_at_each_scale(alloc, operands),
+        OnBytes::Number => numbers::number_in(alloc, operands),
+        OnBytes::BytesAt => numbers::bytes_at(alloc, operands),
+        OnBytes::Permitted => moves::permitted(alloc, operands),
+        OnBytes::Moved => moves::moved(alloc, operands),
+        OnBytes::Initial => moves::initial(alloc, operands),
+    }
+}
+
+/// An operation.
 #[derive(Clone, Copy)]
-enum Group {
-    OfTwo,
-    OfOne,
-    Received,
-    Built,
+enum Operation {
+    OnNumbers(OnNumbers),
+    OnBytes(OnBytes),
+    Picture(Asked),
+    Runs,
+}
+
+/// An operation on numbers that gives one.
+#[derive(Clone, Copy)]
+enum OnNumbers {
+    OfTwo(OfTwo),
+    OfOne(OfOne),
+    Truncated,
+    Digit,
+    Fit,
+    Cut,
+    Integer,
+    WithParts,
+    WithDigits,
+}
+
+/// An operation that gives bytes or reads them, or reads an entry.
+#[derive(Clone, Copy)]
+enum OnBytes {
     LastDigits,
+    LastDigitsOf64Bits,
     Bytes,
     BytesAtEachScale,
     Number,
@@ -44,49 +96,71 @@ enum Group {
     Permitted,
     Moved,
     Initial,
-    Picture,
-    Runs,
 }
 
-const GROUPS: [(&str, Group); 31] = [
-    ("sum", Group::OfTwo),
-    ("difference", Group::OfTwo),
-    ("product", Group::OfTwo),
-    ("quotient", Group::OfTwo),
-    ("order", Group::OfTwo),
-    ("equal", Group::OfTwo),
-    ("negated", Group::OfOne),
-    ("absolute", Group::OfOne),
-    ("parts", Group::OfOne),
-    ("integral", Group::OfOne),
-    ("truncated", Group::OfOne),
-    ("digit", Group::OfOne),
-    ("fit", Group::Received),
-    ("cut", Group::Received),
-    ("integer", Group::Built),
-    ("with_parts", Group::Built),
-    ("with_digits", Group::Built),
-    ("last_digits", Group::LastDigits),
-    ("last_digits_of_64_bits", Group::LastDigits),
-    ("bytes", Group::Bytes),
-    ("bytes_at_each_scale", Group::BytesAtEachScale),
-    ("number", Group::Number),
-    ("bytes_at", Group::BytesAt),
-    ("permitted", Group::Permitted),
-    ("moved", Group::Moved),
-    ("initial", Group::Initial),
-    ("picture", Group::Picture),
-    ("places", Group::Picture),
-    ("region", Group::Picture),
-    ("spelling", Group::Picture),
-    ("runs", Group::Runs),
+const OPERATIONS: [(&[u8], Operation); 31] = [
+    (b"sum", Operation::OnNumbers(OnNumbers::OfTwo(OfTwo::Sum))),
+    (
+        b"difference",
+        Operation::OnNumbers(OnNumbers::OfTwo(OfTwo::Difference)),
+    ),
+    (
+        b"product",
+        Operation::OnNumbers(OnNumbers::OfTwo(OfTwo::Product)),
+    ),
+    (
+        b"quotient",
+        Operation::OnNumbers(OnNumbers::OfTwo(OfTwo::Quotient)),
+    ),
+    (
+        b"order",
+        Operation::OnNumbers(OnNumbers::OfTwo(OfTwo::Order)),
+    ),
+    (
+        b"equal",
+        Operation::OnNumbers(OnNumbers::OfTwo(OfTwo::Equal)),
+    ),
+    (
+        b"negated",
+        Operation::OnNumbers(OnNumbers::OfOne(OfOne::Negated)),
+    ),
+    (
+        b"absolute",
+        Operation::OnNumbers(OnNumbers::OfOne(OfOne::Absolute)),
+    ),
+    (
+        b"parts",
+        Operation::OnNumbers(OnNumbers::OfOne(OfOne::Parts)),
+    ),
+    (
+        b"integral",
+        Operation::OnNumbers(OnNumbers::OfOne(OfOne::Integral)),
+    ),
+    (b"truncated", Operation::OnNumbers(OnNumbers::Truncated)),
+    (b"digit", Operation::OnNumbers(OnNumbers::Digit)),
+    (b"fit", Operation::OnNumbers(OnNumbers::Fit)),
+    (b"cut", Operation::OnNumbers(OnNumbers::Cut)),
+    (b"integer", Operation::OnNumbers(OnNumbers::Integer)),
+    (b"with_parts", Operation::OnNumbers(OnNumbers::WithParts)),
+    (b"with_digits", Operation::OnNumbers(OnNumbers::WithDigits)),
+    (b"last_digits", Operation::OnBytes(OnBytes::LastDigits)),
+    (
+        b"last_digits_of_64_bits",
+        Operation::OnBytes(OnBytes::LastDigitsOf64Bits),
+    ),
+    (b"bytes", Operation::OnBytes(OnBytes::Bytes)),
+    (
+        b"bytes_at_each_scale",
+        Operation::OnBytes(OnBytes::BytesAtEachScale),
+    ),
+    (b"number", Operation::OnBytes(OnBytes::Number)),
+    (b"bytes_at", Operation::OnBytes(OnBytes::BytesAt)),
+    (b"permitted", Operation::OnBytes(OnBytes::Permitted)),
+    (b"moved", Operation::OnBytes(OnBytes::Moved)),
+    (b"initial", Operation::OnBytes(OnBytes::Initial)),
+    (b"picture", Operation::Picture(Asked::Summary)),
+    (b"places", Operation::Picture(Asked::Places)),
+    (b"region", Operation::Picture(Asked::Region)),
+    (b"spelling", Operation::Picture(Asked::Spelling)),
+    (b"runs", Operation::Runs),
 ];
-
-fn group_of(word: &str) -> Option<Group> {
-    for (operation, group) in GROUPS.iter() {
-        if *operation == word {
-            return Some(*group);
-        }
-    }
-    None
-}
