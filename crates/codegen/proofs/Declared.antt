@@ -1,5 +1,7 @@
 -- Code of what a program declares, in the words of the program.
-use Rattle.std.proofs.Common.{◌≡◌, List, [], ap, sym, ◌∙◌}
+use Rattle.std.proofs.Common.{◌≡◌, List, [], ap, sym, subst, ◌∙◌}
+use Rattle.std.specs.Prelude.{Result, IfOk}
+use Rattle.std.proofs.lemmas.Result.{IfOk-weaker}
 use Rattle.source_tree.specs.declared.entry.Entry.{Entry}
 use Rattle.source_tree.specs.declared.program.Program.{Program}
 use Rattle.source_tree.specs.declared.program.Section.{Section}
@@ -44,20 +46,22 @@ module _ (program : Program) (all : Declarations) (h : Declares program all) whe
       (same_scope program all h)
 
   -- the code of the sections after that, and the end
-  pub code_by : (given : Program) (sections : List Section) (storage behind whole : Code) → given ≡ program
-      → sections ≡ given.sections
-      → storage ≡ storage_with (program_areas given) (items_in all) all.selects.now (files_in all)
-      → behind ≡ append storage (in_order (section_fragment (scope_in all)) sections storage)
-      → whole ≡ append behind end_fragment → whole ≡ code_of program
-  code_by given sections storage behind whole same within is next last =
-      let stored : storage ≡ storage_code program =
-      is ∙ ap (λ (p : Program). storage_with (program_areas p) (items_in all) all.selects.now (files_in all)) same
-      ∙ stored_by in
+  pub code_by : (sections : List Section) (storage whole : Code) → sections ≡ program.sections
+      → storage ≡ storage_with (program_areas program) (items_in all) all.selects.now (files_in all)
+      → whole ≡ append (append storage (in_order (section_fragment (scope_in all)) sections storage)) end_fragment
+      → whole ≡ code_of program
+  code_by sections storage whole within is last =
       last
       ∙ ap (λ (code : Code). append code end_fragment)
-      (next
-      ∙ ap (λ (l : List Section). append storage (in_order (section_fragment (scope_in all)) l storage))
-      (within ∙ ap (λ (p : Program). p.sections) same)
+      (ap (λ (l : List Section). append storage (in_order (section_fragment (scope_in all)) l storage)) within
       ∙ ap (λ (found : Scope). append storage (in_order (section_fragment found) program.sections storage))
       (same_scope program all h)
-      ∙ ap (λ (code : Code). append code (in_order (section_fragment (scope program)) program.sections code)) stored)
+      ∙ ap (λ (code : Code). append code (in_order (section_fragment (scope program)) program.sections code))
+      (is ∙ stored_by))
+
+-- What code of a program is, if some was made.
+pub made_so : {E : Type 0} (result : Result Code E) (given program : Program) → given ≡ program
+    → IfOk result (λ code. code ≡ code_of given) → (P : Code → Type 0) → P (code_of program) → IfOk result P
+made_so result given program same is P holds =
+    IfOk-weaker result (λ code. code ≡ code_of given) P
+    (λ code e. subst P (sym (e ∙ ap code_of same)) holds) is

@@ -136,7 +136,7 @@ pub(crate) fn emit_statements(
     Ok(())
 }
 
-/// Sections, in order.
+/// Sections, in order, and the end of the last paragraph.
 pub(crate) fn emit_sections(
     emitter: &Emitter<'_>,
     code: &mut Code,
@@ -145,13 +145,14 @@ pub(crate) fn emit_sections(
     requires entries { entry_rules emitter.now.declarations.now.storage.now ≡ [] }
     requires rules { rules.sections_rules (scope_in emitter.now.declarations.now) all_permitted
         all.now ≡ [] }
-    ensures { OnOk result (code.new ≡ append code.old
-        (in_order (section_fragment (scope_in emitter.now.declarations.now)) all.now code.old)) }
+    ensures { OnOk result (code.new ≡ append (append code.old (in_order
+        (section_fragment (scope_in emitter.now.declarations.now)) all.now code.old))
+        end_fragment) }
 {
     for one in all {
         emit_section(emitter, code, one)?;
     }
-    Ok(())
+    emit_end(code)
 }
 
 fn emit_stop_run(code: &mut Code, line: u32) -> Result<(), AllocError>

@@ -1,20 +1,23 @@
 //! The code of a program.
 
-ghost use Rattle.std.specs.Prelude.{◌≡◌, length, IfOk};
+ghost use Rattle.std.specs.Prelude.{◌≡◌, [], length, IfOk};
 ghost use Rattle.source_tree.specs.Given.{RunInput};
 ghost use Rattle.source_tree.specs.Setting.{scope};
 ghost use Rattle.source_tree.specs.ProgramFiles as described;
 ghost use Rattle.source_tree.specs.Meaning.{Run, meaning};
+ghost use Rattle.source_tree.specs.Rules.{program_rules};
 ghost use Rattle.file_image.specs.Files.{entries_of};
 ghost use Rattle.code_image.specs.Demands.{IsVerified};
 ghost use Rattle.code_image.specs.Table.{Runs};
+ghost use Rattle.declarations.specs.Named.{Declares};
 ghost use Rattle.codegen.specs.Layout.{code_of};
 
-use crate::emit::{emit_end, emit_sections};
+use crate::emit::emit_sections;
 use crate::storage::storage_code;
 use code_image::Code;
 use condition_codegen::Emitter;
-use declarations::Checked;
+use declarations::{Checked, Declarations};
+use source_tree::Program;
 use std::alloc::{AllocError, Global};
 
 /// The code of a program that keeps the rules. It is refused for want of memory alone.
@@ -34,14 +37,24 @@ pub fn generate(alloc: Global, checked: &Checked<'_>) -> Result<Code, AllocError
     // A machine can run it.
     ensures verified { IfOk result (λ code. IsVerified code) }
 {
-    let program = checked.program();
-    let declarations = checked.declarations();
+    program_code(alloc, checked.program(), checked.declarations())
+}
+
+/// The code of the program that declares this.
+fn program_code(
+    alloc: Global,
+    program: &Program,
+    declarations: &Declarations<'_>,
+) -> Result<Code, AllocError>
+    requires program { Declares program.now declarations.now }
+    requires rules { program_rules program.now ≡ [] }
+    ensures { IfOk result (λ code. code ≡ code_of program.now) }
+{
     let mut code = storage_code(alloc, program, declarations)?;
     let emitter = Emitter {
         alloc,
         declarations,
     };
     emit_sections(&emitter, &mut code, program.sections.as_slice())?;
-    emit_end(&mut code)?;
     Ok(code)
 }

@@ -1,8 +1,11 @@
 use Rattle.std.proofs.Common.{ap, ◌∙◌}
 use Rattle.declarations.specs.Named.{scope_in}
 use Rattle.source_tree.specs.Rules.{all_permitted, section_rules}
-use Rattle.codegen.specs.Layout.{section_fragment}
+use Rattle.code_image.specs.declared.code.Code.{Code}
+use Rattle.codegen.specs.Layout.{end_fragment, section_fragment}
+use Rattle.condition_codegen.specs.Fragments.{append}
 use Rattle.condition_codegen.proofs.Fragments.{is_done}
+use Rattle.condition_codegen.proofs.Sequences.{is_so}
 use Rattle.condition_codegen.proofs.Kept.{one_kept}
 use Rattle.codegen.proofs.ByCase.{next_piece}
 use Rattle.codegen.proofs.emit.emit_sections.Goals as goal
@@ -21,5 +24,7 @@ loop-one-preserved c =
 
 pub returns : goal.returns
 returns c =
-    is_done (section_fragment (scope_in c.args.emitter.now.declarations.now)) c.args.all.now c.loop-one.one-index
-    c.loop-one.code _ c.loop-one-test.false c.loop-one.invariant
+    is_so c.emit_end.result c.emit_end.new.code (append c.loop-one.code end_fragment) _ c.emit_end.ensures
+    (ap (λ (code : Code). append code end_fragment)
+    (is_done (section_fragment (scope_in c.args.emitter.now.declarations.now)) c.args.all.now c.loop-one.one-index
+    c.loop-one.code _ c.loop-one-test.false c.loop-one.invariant))
