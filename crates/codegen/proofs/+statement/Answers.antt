@@ -1189,14 +1189,12 @@ file_statement::emit_on_file-emit_meeting-requires t c =
     let known = file_in scope.items c.args.file.now in
     let into = into_fragment scope.items c.args.into.now known in
     let success = success_fragment scope inside c.args.phrases.now in
-    let begun = c.emit_branch.new.code in
-    let done = c.emit_success.new.code in
     let way = ends_within (sequence into success)
-    (failure_fragment scope inside known.places.status c.args.phrases.now) c.emit_test.new.code begun done
-    c.emit_jump.new.code c.emit_failure.new.code c.in_ok-branch.branch c.in_ok-other.other c.in_ok-branch.ensures.code
-    c.in_ok-branch.ensures.address (then_piece into success begun c.emit_into.new.code done c.in_ok-emit_into.ensures
-    c.in_ok-emit_success.ensures) c.in_ok-other.ensures.code c.in_ok-other.ensures.other
-    c.in_ok-emit_failure.ensures in
+    (failure_fragment scope inside known.places.status c.args.phrases.now) c.emit_test.new.code c.emit_branch.new.code
+    c.emit_success.new.code c.emit_jump.new.code c.emit_failure.new.code c.in_ok-branch.branch c.in_ok-other.other
+    c.in_ok-branch.ensures.code c.in_ok-branch.ensures.address (then_piece into success c.emit_branch.new.code
+    c.emit_into.new.code c.emit_success.new.code c.in_ok-emit_into.ensures c.in_ok-emit_success.ensures)
+    c.in_ok-other.ensures.code c.in_ok-other.ensures.other c.in_ok-emit_failure.ensures in
     record { branch = way.branch; jump = way.jump; other = way.other }
 
 pub file_statement::emit_on_file-returns : goal.file_statement::emit_on_file-returns
