@@ -21,7 +21,7 @@ use Rattle.volume_format.specs.Forest.{TreeLevels}
 use Rattle.row_trees.specs.Calls.{OnRowTree}
 use Rattle.row_trees.specs.Reading.{IsRecordLength, HasRecord, ReadsRecord, ReadsRow}
 use Rattle.row_trees.specs.RowTree.{ChainedTree, IsRowTree, FitsForm}
-use Rattle.row_trees.proofs.Calling.{pages_told, same_on}
+use Rattle.row_trees.proofs.Calling.{pages_told, same_on, told_before}
 use Rattle.row_trees.proofs.Among.{stored_in, stands_alone, seen_alone}
 use Rattle.row_trees.proofs.Forms.{pair, unrolled_long, unrolled_short}
 use Rattle.row_trees.proofs.Long.{found_chain}
@@ -139,6 +139,26 @@ module _ {D : Type 0} (d : Devices D) where
       subst claim (same_on d p q a looks.unchanged)
       (pages_told d A q a b claim honest looks.only (looks.agrees honest agrees) never) damaged
       (subst (λ (k : ℕ). S k first) (sym many) (subst (S rows.record_bytes) (sym first_is) stands))
+
+  pub record_whole : (size : ℕ) {A : Type 0} {p q : PageMap} {a b : D} {view self : ChainedTree} {key : List ℕ}
+      {told : Option Entry} {entry : Entry} {refused : Type 0} → LooksAt d A p a q b → view ≡ self
+      → OnTree d view.tree.layout view.tree.root p a (λ levels. told ≡ entry_with (stored_in view levels) key)
+      → told ≡ Some entry → FitsForm view.record_bytes view.tree.layout → HasLengths view.tree.layout entry
+      → OnPages d q b (λ before. refused → HasRecord self.record_bytes before entry size → ⊥) → refused
+      → OnRowTree d self p a (λ planted. IsRecordLength self.record_bytes size
+      → IfSome (entry_with planted.entries key) (λ row. size ≤ length row.value) → ⊥)
+  record_whole size {A} {p} {q} {a} {b} {view} {self} {key} {told} {entry} {refused} looks same says some fits
+      lengths never damaged =
+      let claim : ℕ → List (Option Sector) → Type 0 = λ n before. refused → HasRecord n before entry size → ⊥ in
+      subst (λ (t : ChainedTree). OnPages d q b (claim t.record_bytes) → OnRowTree d t p a
+      (λ planted. IsRecordLength t.record_bytes size
+      → IfSome (entry_with planted.entries key) (λ row. size ≤ length row.value) → ⊥)) same
+      (λ never honest agrees planted is size_is whole.
+      told_before d A p q a b (claim view.record_bytes) honest agrees looks.only looks.unchanged looks.agrees never
+      damaged
+      (record_found (pages_on d p a) view planted key told entry size is (says honest agrees) some fits size_is lengths
+      whole))
+      never
 
   read_on : (A : Type 0) (p q : PageMap) (a b : D) (bytes : List ℕ) (first : ℕ) → LooksAt d A p a q b
       → OnPages d q b (λ before. IsRecordOf before first bytes) → d.is_honest a → Agrees p (d.state a).disk

@@ -1,16 +1,16 @@
 use Rattle.std.proofs.Common.{◌≡◌, Bool, inr, true, false, Err, length, refl, sym, ap, subst, ◌∙◌}
 use Rattle.std.specs.Prelude.{Ok, OnErr}
 use Rattle.pages.specs.Pages.{is_spent}
-use Rattle.pages.specs.declared.error.PagesError.TheVariants.{Damaged, Device, Spent}
+use Rattle.pages.specs.declared.error.PagesError.TheVariants.{Device, Spent}
 use Rattle.btree.specs.Calls.{pages_on}
 use Rattle.btree.specs.Places.{if_found}
 use Rattle.btree.proofs.Passing.{passed, never_ok, never_err, true_not_false, still_error}
 use Rattle.volume_format.proofs.Looks.{looks_blamed, looks_then, looks_past}
-use Rattle.row_trees.specs.Reading.{HasRecord, IsRecordLength, ReadsRecord}
+use Rattle.row_trees.specs.Reading.{IsRecordLength, ReadsRecord}
 use Rattle.row_trees.specs.RowTree.{ChainedTree, IsRowTree}
 use Rattle.row_trees.proofs.Among.{stands_alone}
 use Rattle.row_trees.proofs.Calling.{looks_by, refused_by_call, told_before}
-use Rattle.row_trees.proofs.FoundRows.{none_read, row_read, record_found}
+use Rattle.row_trees.proofs.FoundRows.{none_read, row_read, record_whole}
 use Rattle.row_trees.proofs.row_tree.RowTree.read_row.Goals as goal
 
 pub returns-in_err-find-clause-looks : goal.returns-in_err-find-clause-looks
@@ -51,23 +51,12 @@ returns-in_err-read_record-clause-looks g c =
 
 pub returns-in_err-read_record-clause-damaged : goal.returns-in_err-read_record-clause-damaged
 returns-in_err-read_record-clause-damaged g c = λ honest agrees planted is size whole told.
-    let pages = pages_on g.D.Device c.args.pages.now c.args.device.now in
-    let view : ChainedTree = record { tree = c.self.inside.tree; record_bytes = c.self.inside.record_bytes } in
-    let fits : IsRecordLength view.record_bytes (length c.args.into.now) = subst
-    (λ (t : ChainedTree). IsRecordLength t.record_bytes (length c.args.into.now)) (sym c.self.view_is) size in
-    let has = record_found pages view planted c.args.key.now (if_found c.in_ok-find.field-0 c.find.new.entry)
-    c.find.new.entry (length c.args.into.now)
-    (subst (λ (t : ChainedTree). IsRowTree pages t planted) (sym c.self.view_is) is)
-    (c.in_ok-find.ensures.entry honest agrees)
-    (ap (λ (b : Bool). if_found b c.find.new.entry) c.if-not-branch.false) c.self.invariant fits
-    (c.in_ok-find.ensures.lengths (ap Ok c.if-not-branch.false)) whole in
-    told_before g.D.Device _ c.args.pages.now c.find.new.pages c.args.device.now c.find.new.device
-    (λ p. c.read_record.result ≡ Err Damaged
-    → HasRecord c.args.self.now.record_bytes p c.find.new.entry (length c.args.into.now) → ⊥) honest agrees
-    c.find.ensures.only c.find.ensures.unchanged c.find.ensures.agrees c.read_record.ensures.damaged
-    (refused_by_call c.in_err-read_record.was c.from_residual-in_err-read_record.ensures.1 told)
-    (subst (λ (t : ChainedTree). HasRecord t.record_bytes pages c.find.new.entry (length c.args.into.now))
-    c.self.view_is has)
+    record_whole g.D.Device (length c.args.into.now)
+    (looks_by g.D.Device _ _ _ _ _ c.find.ensures.only c.find.ensures.unchanged c.find.ensures.agrees) c.self.view_is
+    c.in_ok-find.ensures.entry (ap (λ (b : Bool). if_found b c.find.new.entry) c.if-not-branch.false) c.self.invariant
+    (c.in_ok-find.ensures.lengths (ap Ok c.if-not-branch.false)) c.read_record.ensures.damaged
+    (refused_by_call c.in_err-read_record.was c.from_residual-in_err-read_record.ensures.1 told) honest agrees planted
+    is size whole
 
 pub returns-clause-looks : goal.returns-clause-looks
 returns-clause-looks g c =

@@ -9,13 +9,13 @@ use Rattle.btree.specs.Changes.{pages_of_map}
 use Rattle.btree.specs.Entries.{entry_with, with_value}
 use Rattle.btree.specs.Refusals.{IsChangeRefusal}
 use Rattle.btree.proofs.Passing.{passed, never_ok, still_error, few_weaker, few_equal, search_is_change}
-use Rattle.btree.proofs.Passing.{damaged_not_device}
+use Rattle.btree.proofs.Passing.{damaged_not_device, damaged_not_spent, never_err, true_not_false}
 use Rattle.row_trees.specs.Calls.{EditsPages}
 use Rattle.row_trees.specs.RowTree.{ChainedTree, IsRowTreeAmong}
 use Rattle.row_trees.proofs.Among.{chained, viewed, same_chained, stands_among}
 use Rattle.row_trees.proofs.Calling.{looks_by, looks_edits, edits_by, edits_where, edits_last, refused_by_call}
 use Rattle.row_trees.proofs.Forms.{pair, rest_is}
-use Rattle.row_trees.proofs.Passing.{few_laid, few_added}
+use Rattle.row_trees.proofs.Passing.{few_laid, few_added, never_answered}
 use Rattle.row_trees.proofs.RewrittenRows.{RewritesFound, rewrite_never, written_never, written_there}
 use Rattle.row_trees.proofs.RewrittenRows.{unwritten_on, replaced_on}
 use Rattle.row_trees.proofs.Short.{replaced_short, none_seen}
@@ -292,3 +292,130 @@ returns-clause-changed_pages g c =
 pub returns-clause-tree : goal.returns-clause-tree
 returns-clause-tree g c =
     same_chained _ _ c.self.inside.record_bytes _ c.replace-2.ensures.tree c.self.view_is
+
+-- What a refusal or another answer rules out.
+pub returns-in_err-entry-clause-replaced : goal.returns-in_err-entry-clause-replaced
+returns-in_err-entry-clause-replaced g c =
+    λ honest agrees left right entries is ok.
+    never_answered c.from_residual.result c.in_err-entry.field-0.0 c.from_residual.ensures.1 ok
+
+pub returns-in_err-entry-clause-missing : goal.returns-in_err-entry-clause-missing
+returns-in_err-entry-clause-missing g c =
+    λ honest agrees left right entries is ok.
+    never_answered c.from_residual.result c.in_err-entry.field-0.0 c.from_residual.ensures.1 ok
+
+pub returns-in_err-entry-clause-same : goal.returns-in_err-entry-clause-same
+returns-in_err-entry-clause-same g c =
+    λ ok.
+    never_answered c.from_residual.result c.in_err-entry.field-0.0 c.from_residual.ensures.1 ok
+
+pub returns-in_err-rewrite-clause-replaced : goal.returns-in_err-rewrite-clause-replaced
+returns-in_err-rewrite-clause-replaced g c =
+    λ honest agrees left right entries is ok.
+    never_answered c.from_residual-in_err-rewrite.result c.in_err-rewrite.field-0.0
+    c.from_residual-in_err-rewrite.ensures.1 ok
+
+pub returns-in_err-rewrite-clause-missing : goal.returns-in_err-rewrite-clause-missing
+returns-in_err-rewrite-clause-missing g c =
+    λ honest agrees left right entries is ok.
+    never_answered c.from_residual-in_err-rewrite.result c.in_err-rewrite.field-0.0
+    c.from_residual-in_err-rewrite.ensures.1 ok
+
+pub returns-in_err-rewrite-clause-same : goal.returns-in_err-rewrite-clause-same
+returns-in_err-rewrite-clause-same g c =
+    λ ok.
+    never_answered c.from_residual-in_err-rewrite.result c.in_err-rewrite.field-0.0
+    c.from_residual-in_err-rewrite.ensures.1 ok
+
+pub returns-in_err-replaced-clause-replaced : goal.returns-in_err-replaced-clause-replaced
+returns-in_err-replaced-clause-replaced g c =
+    λ honest agrees left right entries is ok.
+    never_answered c.from_residual-in_err-replaced.result c.in_err-replaced.field-0.0
+    c.from_residual-in_err-replaced.ensures.1 ok
+
+pub returns-in_err-replaced-clause-missing : goal.returns-in_err-replaced-clause-missing
+returns-in_err-replaced-clause-missing g c =
+    λ honest agrees left right entries is ok.
+    never_answered c.from_residual-in_err-replaced.result c.in_err-replaced.field-0.0
+    c.from_residual-in_err-replaced.ensures.1 ok
+
+pub returns-in_err-replaced-clause-same : goal.returns-in_err-replaced-clause-same
+returns-in_err-replaced-clause-same g c =
+    λ ok.
+    never_answered c.from_residual-in_err-replaced.result c.in_err-replaced.field-0.0
+    c.from_residual-in_err-replaced.ensures.1 ok
+
+pub returns-in_err-entry-clause-spent : goal.returns-in_err-entry-clause-spent
+returns-in_err-entry-clause-spent g c =
+    λ is.
+    (c.get.ensures.spent.0 (refused_by_call c.in_err-entry.was c.from_residual.ensures.1 is)).0
+
+pub returns-in_err-rewrite-clause-cause : goal.returns-in_err-rewrite-clause-cause
+returns-in_err-rewrite-clause-cause g c =
+    passed c.from_residual-in_err-rewrite.result c.in_err-rewrite.field-0.0 c.from_residual-in_err-rewrite.ensures.1
+    (λ r. IfErr r IsChangeRefusal) c.in_err-rewrite.ensures.cause
+
+pub returns-in_err-replaced-clause-cause : goal.returns-in_err-replaced-clause-cause
+returns-in_err-replaced-clause-cause g c =
+    passed c.from_residual-in_err-replaced.result c.in_err-replaced.field-0.0 c.from_residual-in_err-replaced.ensures.1
+    (λ r. IfErr r IsChangeRefusal) c.in_err-replaced.ensures.cause
+
+pub returns-in-None-clause-replaced : goal.returns-in-None-clause-replaced
+returns-in-None-clause-replaced g c = λ honest agrees left right entries is ok. true_not_false (sym ok)
+
+pub returns-in-None-clause-same : goal.returns-in-None-clause-same
+returns-in-None-clause-same g c = λ no. c.get.ensures.unchanged
+
+pub returns-in-None-clause-damaged : goal.returns-in-None-clause-damaged
+returns-in-None-clause-damaged g c = λ honest agrees left right entries is told. never_ok told
+
+pub returns-in-None-clause-spent : goal.returns-in-None-clause-spent
+returns-in-None-clause-spent g c = λ is. never_ok is
+
+pub returns-then-is_same-clause-missing : goal.returns-then-is_same-clause-missing
+returns-then-is_same-clause-missing g c = λ honest agrees left right entries is no. true_not_false no
+
+pub returns-then-is_same-clause-same : goal.returns-then-is_same-clause-same
+returns-then-is_same-clause-same g c = λ no. true_not_false no
+
+pub returns-then-is_same-clause-damaged : goal.returns-then-is_same-clause-damaged
+returns-then-is_same-clause-damaged g c = λ honest agrees left right entries is told. never_ok told
+
+pub returns-then-is_same-clause-spent : goal.returns-then-is_same-clause-spent
+returns-then-is_same-clause-spent g c = λ is. never_ok is
+
+pub returns-clause-missing : goal.returns-clause-missing
+returns-clause-missing g c = λ honest agrees left right entries is no. true_not_false no
+
+pub returns-clause-same : goal.returns-clause-same
+returns-clause-same g c = λ no. true_not_false no
+
+pub returns-clause-damaged : goal.returns-clause-damaged
+returns-clause-damaged g c = λ honest agrees left right entries is told. never_ok told
+
+pub returns-clause-spent : goal.returns-clause-spent
+returns-clause-spent g c = λ is. never_ok is
+
+pub returns-then-not-replaced-clause-replaced : goal.returns-then-not-replaced-clause-replaced
+returns-then-not-replaced-clause-replaced g c = λ honest agrees left right entries is ok. never_err ok
+
+pub returns-then-not-replaced-clause-missing : goal.returns-then-not-replaced-clause-missing
+returns-then-not-replaced-clause-missing g c = λ honest agrees left right entries is no. never_err no
+
+pub returns-then-not-replaced-clause-same : goal.returns-then-not-replaced-clause-same
+returns-then-not-replaced-clause-same g c = λ no. never_err no
+
+pub returns-then-not-replaced-clause-spent : goal.returns-then-not-replaced-clause-spent
+returns-then-not-replaced-clause-spent g c = λ is. damaged_not_spent is
+
+pub returns-then-self-eq0-clause-edits : goal.returns-then-self-eq0-clause-edits
+returns-then-self-eq0-clause-edits g c = c.replace.ensures.edits
+
+pub returns-then-self-eq0-clause-same : goal.returns-then-self-eq0-clause-same
+returns-then-self-eq0-clause-same g c = c.replace.ensures.same
+
+pub returns-then-self-eq0-clause-spent : goal.returns-then-self-eq0-clause-spent
+returns-then-self-eq0-clause-spent g c = λ is. (c.replace.ensures.spent.0 is).0
+
+pub returns-then-self-eq0-clause-cause : goal.returns-then-self-eq0-clause-cause
+returns-then-self-eq0-clause-cause g c = c.replace.ensures.cause
