@@ -53,6 +53,8 @@ pub mod Making
 pub mod HeldTrees
 pub mod Moving
 pub mod MovingRows
+pub mod TreeChanges
+pub mod FileMaking
 pub mod ListedFile
 pub mod RowCounts
 pub mod Migrating

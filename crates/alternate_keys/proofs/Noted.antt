@@ -63,6 +63,14 @@ noted_anew m old new name listing name_is place_is are = record {
   place = subst (λ (p : LeafPlace). IsLeafPlace p m.pages) (sym place_is) are.place;
 }
 
+-- no file is noted, and the leaf stays
+pub noted_nothing : (m : Map) (old new : NotedSearch) → new.name ≡ [] → new.place ≡ old.place → AreNotesOf old m
+    → AreNotesOf new m
+noted_nothing m old new none place_is are = record {
+  listing = λ some files holds. absurd (some none);
+  place = subst (λ (p : LeafPlace). IsLeafPlace p m.pages) (sym place_is) are.place;
+}
+
 -- a leaf is noted, and the file stays
 pub leaf_noted : (m : Map) (old new : NotedSearch) → new.name ≡ old.name → new.listing ≡ old.listing
     → IsLeafPlace new.place m.pages → AreNotesOf old m → AreNotesOf new m

@@ -15,7 +15,7 @@ ghost use Rattle.file_bytes.specs.Description.{padded_name};
 ghost use Rattle.volume_format.specs.Catalog.{listing_bytes, catalog_value};
 ghost use Rattle.volume_format.specs.Grows.{IsTreeAmong};
 ghost use Rattle.volume_format.specs.Volume.{MapHolds, trees_of, catalog_entry};
-ghost use Rattle.alternate_keys.specs.Created.{OnFiles, Prepares};
+ghost use Rattle.alternate_keys.specs.Created.{OnFiles, Prepares, PreparesFile};
 ghost use Rattle.alternate_keys.specs.Faults.{IsWriteFault, IsCreateFault};
 ghost use Rattle.alternate_keys.specs.Listed.{catalog_at};
 ghost use Rattle.alternate_keys.specs.Stands.{Represents, LacksSpace};
@@ -150,24 +150,7 @@ fn prepare_file<D: Device>(
 ) -> Result<(), StoreFault>
     requires unspent { is_spent pages.old ≡ false }
     requires sectors { sectors_of pages.old ≤ D.sectors device.old }
-    ensures prepares { Prepares D.Device (result ≡ Err StoreFault.Device) pages.old device.old
-        pages.new device.new }
-    ensures will { (mark_of pages.old ≡ 0 → is_long (spec_of file.now) ≡ false)
-        → OnFiles D.Device pages.old device.old (λ files holds. OnOk result
-        (MapHolds (next_generation (map_now pages.new (D.state device.old).disk.present))
-        (with_file file.now.name.items (empty_file (spec_of file.now)) files))) }
-    ensures full { OnFiles D.Device pages.old device.old
-        (λ files holds. changed_pages_of pages.old ≡ [] → OnOk result (IsFull pages.new →
-        LacksSpace (committed_of pages.old) true file.now.name.items
-        (with_file file.now.name.items (empty_file (spec_of file.now)) files))) }
-    ensures room { OnFiles D.Device pages.old device.old
-        (λ files holds. changed_pages_of pages.old ≡ [] → result ≡ Err StoreFault.Full →
-        LacksSpace (committed_of pages.old) true file.now.name.items
-        (with_file file.now.name.items (empty_file (spec_of file.now)) files)) }
-    ensures damaged { OnFiles D.Device pages.old device.old
-        (λ files holds. result ≡ Err StoreFault.Damaged → ⊥) }
-    ensures spent { result ≡ Err StoreFault.Spent → is_spent pages.old ≡ true }
-    ensures cause { IfErr result IsWriteFault }
+    ensures { PreparesFile D.Device file.now pages.old device.old pages.new device.new result }
 {
     // How many page numbers there are, and how many sectors a commit needs.
     map_bounds();

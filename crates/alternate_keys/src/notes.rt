@@ -1,14 +1,9 @@
 //! What a store notes of its last search.
-ghost use Rattle.std.specs.Prelude.{◌≡◌, ◌≤◌, true, length, Err, IfOk, IfErr, OnOk, OnErr, []};
+ghost use Rattle.std.specs.Prelude.{◌≡◌, ◌≤◌, true, length, OnOk, OnErr, []};
 ghost use Rattle.pages.specs.Image.{Map};
-ghost use Rattle.pages.specs.Pages.{map_now, is_spent, sectors_of};
-ghost use Rattle.btree.specs.Calls.{IfAgrees};
+ghost use Rattle.pages.specs.Pages.{sectors_of};
 ghost use Rattle.records.specs.Spec.{is_name};
-ghost use Rattle.records.specs.Files.{Files, file_at};
-ghost use Rattle.volume_format.specs.Calls.{LooksAt};
-ghost use Rattle.volume_format.specs.Volume.{MapHolds};
-ghost use Rattle.alternate_keys.specs.Faults.{IsReadFault};
-ghost use Rattle.alternate_keys.specs.Notes.{AreNotesOf, IsListingOf, OnNotes, noted_search};
+ghost use Rattle.alternate_keys.specs.Notes.{AreNotesOf, NotesFile, noted_search};
 
 use crate::listing::find_listing;
 use btree::{Entry, LeafPlace};
@@ -65,20 +60,8 @@ impl SearchNotes {
     ) -> Result<bool, StoreFault>
         requires sectors { sectors_of pages.old ≤ D.sectors device.old }
         requires name { is_name name.now ≡ true }
-        ensures looks { LooksAt D.Device (result ≡ Err StoreFault.Device) pages.old device.old
-            pages.new device.new }
-
-        // If what was noted is true of the pages, so is the answer, and so is what is noted then.
-        ensures listed { OnNotes D.Device (noted_search self.old) pages.old device.old
-            (λ m. (files : Files) → MapHolds m files → IfOk result (λ is_there.
-            IsListingOf m (file_at name.now files) is_there self.new.listing)) }
-        ensures notes { OnNotes D.Device (noted_search self.old) pages.old device.old
-            (AreNotesOf (noted_search self.new)) }
-        ensures damaged { IfAgrees D.Device pages.old device.old ((files : Files)
-            → MapHolds (map_now pages.old (D.state device.old).disk.present) files
-            → result ≡ Err StoreFault.Damaged → ⊥) }
-        ensures spent { result ≡ Err StoreFault.Spent → is_spent pages.old ≡ true }
-        ensures cause { IfErr result IsReadFault }
+        ensures { NotesFile D.Device (noted_search self.old) pages.old device.old name.now
+            (noted_search self.new) pages.new device.new result }
     {
         if self.name[..] == name[..] {
             return Ok(true);
@@ -97,20 +80,8 @@ impl SearchNotes {
     ) -> Result<bool, StoreFault>
         requires sectors { sectors_of pages.old ≤ D.sectors device.old }
         requires name { is_name name.now ≡ true }
-        ensures looks { LooksAt D.Device (result ≡ Err StoreFault.Device) pages.old device.old
-            pages.new device.new }
-
-        // If what was noted is true of the pages, so is the answer, and so is what is noted then.
-        ensures listed { OnNotes D.Device (noted_search self.old) pages.old device.old
-            (λ m. (files : Files) → MapHolds m files → IfOk result (λ is_there.
-            IsListingOf m (file_at name.now files) is_there self.new.listing)) }
-        ensures notes { OnNotes D.Device (noted_search self.old) pages.old device.old
-            (AreNotesOf (noted_search self.new)) }
-        ensures damaged { IfAgrees D.Device pages.old device.old ((files : Files)
-            → MapHolds (map_now pages.old (D.state device.old).disk.present) files
-            → result ≡ Err StoreFault.Damaged → ⊥) }
-        ensures spent { result ≡ Err StoreFault.Spent → is_spent pages.old ≡ true }
-        ensures cause { IfErr result IsReadFault }
+        ensures { NotesFile D.Device (noted_search self.old) pages.old device.old name.now
+            (noted_search self.new) pages.new device.new result }
     {
         match find_listing(self.alloc, pages, device, name)? {
             Some(entry) => {

@@ -1,14 +1,10 @@
 //! A row comes to the trees of its file, gets another record there, or leaves them. The catalog doesn't say so yet.
-ghost use Rattle.std.specs.Prelude.{◌≡◌, ◌≤◌, ◌+◌, true, false, Err, length, IfOk, IfErr};
-ghost use Rattle.pages.specs.Pages.{is_spent, sectors_of, IsUnchanged};
-ghost use Rattle.btree.specs.Calls.{pages_on};
+ghost use Rattle.std.specs.Prelude.{◌≡◌, ◌≤◌, length};
+ghost use Rattle.pages.specs.Pages.{sectors_of};
 ghost use Rattle.records.specs.Changes.{insertion, replacement, removal};
-ghost use Rattle.records.specs.Stores.{spec_of, key_length, pair_of, IsNewNumber, is_change};
-ghost use Rattle.row_trees.specs.Calls.{EditsPages};
-ghost use Rattle.alternate_keys.specs.Faults.{IsWriteFault};
-ghost use Rattle.alternate_keys.specs.Moved.{named_after, changed_by, IsAsked};
-ghost use Rattle.alternate_keys.specs.Placed.{OnTrees, HasFileTrees};
-ghost use Rattle.alternate_keys.specs.RowChanges.{ChangesFewTreePages, LacksTreePages};
+ghost use Rattle.records.specs.Stores.{spec_of, key_length, pair_of, IsNewNumber};
+ghost use Rattle.alternate_keys.specs.Moved.{changed_by, IsAsked};
+ghost use Rattle.alternate_keys.specs.RowChanges.{ChangesTrees};
 
 use crate::commit::is_done;
 use crate::file_tree::row_tree;
@@ -50,31 +46,9 @@ pub(crate) fn change_trees<D: Device>(
     requires sectors { sectors_of pages.old ≤ D.sectors device.old }
     requires listing { length listing.now ≡ 83 }
     requires asked { IsAsked change.verb (spec_of file.now) change.number change.bytes.now }
-    ensures edits { EditsPages D.Device (result ≡ Err StoreFault.Device) pages.old device.old
-        pages.new device.new }
-    ensures outcome { OnTrees D.Device (spec_of file.now) pages.old device.old listing.now (λ named
-        generation left right. IfOk result (λ turn. turn.outcome ≡ (changed_by change.entry.verb
-        file.now.organization change.entry.number change.entry.bytes.now named.file).outcome)) }
-    ensures placed { OnTrees D.Device (spec_of file.now) pages.old device.old listing.now
-        (λ named generation left right. IfOk result (λ turn. is_change turn.outcome ≡ true
-        → HasFileTrees (named_after named (changed_by change.entry.verb file.now.organization
-        change.entry.number change.entry.bytes.now named.file)) (generation + 1)
-        (pages_on D.Device pages.new device.old) left right turn.listing.items)) }
-    ensures few { ChangesFewTreePages D.Device file.now pages.old device.old listing.now pages.new
-        result }
-    ensures room { LacksTreePages D.Device file.now pages.old device.old listing.now result }
-    ensures full { is_spent pages.old ≡ false → OnTrees D.Device (spec_of file.now) pages.old
-        device.old listing.now (λ named generation left right. result ≡ Err StoreFault.Full
-        → is_change (changed_by change.entry.verb file.now.organization change.entry.number
-        change.entry.bytes.now named.file).outcome ≡ true) }
-    ensures damaged { OnTrees D.Device (spec_of file.now) pages.old device.old listing.now
-        (λ named generation left right. result ≡ Err StoreFault.Damaged → ⊥) }
-    ensures same { IfOk result (λ turn. is_change turn.outcome ≡ false
-        → IsUnchanged pages.old pages.new) }
-    ensures long { IfOk result (λ turn. is_change turn.outcome ≡ true
-        → length turn.listing.items ≡ 83) }
-    ensures spent { result ≡ Err StoreFault.Spent → is_spent pages.old ≡ true }
-    ensures cause { IfErr result IsWriteFault }
+    ensures { ChangesTrees D.Device (λ held. changed_by change.entry.verb file.now.organization
+        change.entry.number change.entry.bytes.now held)
+        file.now pages.old device.old listing.now pages.new device.new result }
 {
     let number = change.number;
     let bytes = change.bytes;
@@ -99,29 +73,8 @@ fn insert_trees<D: Device>(
     requires listing { length listing.now ≡ 83 }
     requires number { IsNewNumber file.now.organization number }
     requires bytes { length bytes.now ≡ file.now.record_length }
-    ensures edits { EditsPages D.Device (result ≡ Err StoreFault.Device) pages.old device.old
-        pages.new device.new }
-    ensures outcome { OnTrees D.Device
-        (spec_of file.now) pages.old device.old listing.now (λ named generation left right.
-        IfOk result (λ turn. turn.outcome ≡ (insertion number bytes.now named.file).outcome)) }
-    ensures placed { OnTrees D.Device (spec_of file.now) pages.old device.old listing.now
-        (λ named generation left right. IfOk result (λ turn. is_change turn.outcome ≡ true →
-        HasFileTrees (named_after named (insertion number bytes.now named.file)) (generation + 1)
-        (pages_on D.Device pages.new device.old) left right turn.listing.items)) }
-    ensures few { ChangesFewTreePages D.Device file.now pages.old device.old listing.now pages.new
-        result }
-    ensures room { LacksTreePages D.Device file.now pages.old device.old listing.now result }
-    ensures full { is_spent pages.old ≡ false → OnTrees D.Device (spec_of file.now) pages.old
-        device.old listing.now (λ named generation left right. result ≡ Err StoreFault.Full →
-        is_change (insertion number bytes.now named.file).outcome ≡ true) }
-    ensures damaged { OnTrees D.Device (spec_of file.now) pages.old device.old listing.now
-        (λ named generation left right. result ≡ Err StoreFault.Damaged → ⊥) }
-    ensures same { IfOk result (λ turn. is_change turn.outcome ≡ false
-        → IsUnchanged pages.old pages.new) }
-    ensures long { IfOk result (λ turn. is_change turn.outcome ≡ true
-        → length turn.listing.items ≡ 83) }
-    ensures spent { result ≡ Err StoreFault.Spent → is_spent pages.old ≡ true }
-    ensures cause { IfErr result IsWriteFault }
+    ensures { ChangesTrees D.Device (λ held. insertion number bytes.now held)
+        file.now pages.old device.old listing.now pages.new device.new result }
 {
     let outcome = look_at_new_row(alloc, pages, device, file, listing, number, bytes)?;
     if !is_done(outcome) {
@@ -166,29 +119,8 @@ fn replace_trees<D: Device>(
     requires sectors { sectors_of pages.old ≤ D.sectors device.old }
     requires listing { length listing.now ≡ 83 }
     requires bytes { length bytes.now ≡ file.now.record_length }
-    ensures edits { EditsPages D.Device (result ≡ Err StoreFault.Device) pages.old device.old
-        pages.new device.new }
-    ensures outcome { OnTrees D.Device
-        (spec_of file.now) pages.old device.old listing.now (λ named generation left right.
-        IfOk result (λ turn. turn.outcome ≡ (replacement number bytes.now named.file).outcome)) }
-    ensures placed { OnTrees D.Device (spec_of file.now) pages.old device.old listing.now
-        (λ named generation left right. IfOk result (λ turn. is_change turn.outcome ≡ true →
-        HasFileTrees (named_after named (replacement number bytes.now named.file)) (generation + 1)
-        (pages_on D.Device pages.new device.old) left right turn.listing.items)) }
-    ensures few { ChangesFewTreePages D.Device file.now pages.old device.old listing.now pages.new
-        result }
-    ensures room { LacksTreePages D.Device file.now pages.old device.old listing.now result }
-    ensures full { OnTrees D.Device (spec_of file.now) pages.old device.old listing.now
-        (λ named generation left right. result ≡ Err StoreFault.Full →
-        is_change (replacement number bytes.now named.file).outcome ≡ true) }
-    ensures damaged { OnTrees D.Device (spec_of file.now) pages.old device.old listing.now
-        (λ named generation left right. result ≡ Err StoreFault.Damaged → ⊥) }
-    ensures same { IfOk result (λ turn. is_change turn.outcome ≡ false
-        → IsUnchanged pages.old pages.new) }
-    ensures long { IfOk result (λ turn. is_change turn.outcome ≡ true
-        → length turn.listing.items ≡ 83) }
-    ensures spent { result ≡ Err StoreFault.Spent → is_spent pages.old ≡ true }
-    ensures cause { IfErr result IsWriteFault }
+    ensures { ChangesTrees D.Device (λ held. replacement number bytes.now held)
+        file.now pages.old device.old listing.now pages.new device.new result }
 {
     let verb = RowVerb::Replace;
     let mut prime = row_tree(alloc, file, listing);
@@ -240,31 +172,9 @@ fn remove_trees<D: Device>(
     requires sectors { sectors_of pages.old ≤ D.sectors device.old }
     requires listing { length listing.now ≡ 83 }
     requires key { length key.now ≡ key_length (spec_of file.now) KeyOfReference.Prime }
-    ensures edits { EditsPages D.Device (result ≡ Err StoreFault.Device) pages.old device.old
-        pages.new device.new }
-    ensures outcome { OnTrees D.Device (spec_of file.now) pages.old
-        device.old listing.now (λ named generation left right. IfOk result (λ turn. turn.outcome
-        ≡ (removal (pair_of file.now.organization key.now number) named.file).outcome)) }
-    ensures placed { OnTrees D.Device (spec_of file.now) pages.old device.old listing.now
-        (λ named generation left right. IfOk result (λ turn. is_change turn.outcome ≡ true →
-        HasFileTrees (named_after named
-        (removal (pair_of file.now.organization key.now number) named.file)) (generation + 1)
-        (pages_on D.Device pages.new device.old) left right turn.listing.items)) }
-    ensures few { ChangesFewTreePages D.Device file.now pages.old device.old listing.now pages.new
-        result }
-    ensures room { LacksTreePages D.Device file.now pages.old device.old listing.now result }
-    ensures full { OnTrees D.Device (spec_of file.now) pages.old device.old listing.now
-        (λ named generation left right. result ≡ Err StoreFault.Full →
-        is_change (removal (pair_of file.now.organization key.now number) named.file).outcome
-        ≡ true) }
-    ensures damaged { OnTrees D.Device (spec_of file.now) pages.old device.old listing.now
-        (λ named generation left right. result ≡ Err StoreFault.Damaged → ⊥) }
-    ensures same { IfOk result (λ turn. is_change turn.outcome ≡ false
-        → IsUnchanged pages.old pages.new) }
-    ensures long { IfOk result (λ turn. is_change turn.outcome ≡ true
-        → length turn.listing.items ≡ 83) }
-    ensures spent { result ≡ Err StoreFault.Spent → is_spent pages.old ≡ true }
-    ensures cause { IfErr result IsWriteFault }
+    ensures { ChangesTrees D.Device (λ held. removal
+        (pair_of file.now.organization key.now number) held)
+        file.now pages.old device.old listing.now pages.new device.new result }
 {
     let mut prime = row_tree(alloc, file, listing);
     let row = match find_row(alloc, &prime, pages, device, file, number, key)? {

@@ -1,4 +1,4 @@
-use Rattle.std.proofs.Common.{◌≡◌, length, sym, ap, ◌∙◌}
+use Rattle.std.proofs.Common.{length, sym, ap, ◌∙◌}
 use Rattle.std.specs.Prelude.{take}
 use Rattle.records.specs.Rows.{same_bytes}
 use Rattle.alternate_keys.specs.Seen.{begins_with_value}

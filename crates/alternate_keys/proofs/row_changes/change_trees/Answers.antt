@@ -1,79 +1,26 @@
-use Rattle.std.proofs.Common.{◌≡◌, ◌+◌, true, List, sym, subst}
-use Rattle.std.specs.Prelude.{Option, IfOk}
-use Rattle.station.specs.Disk.{Sector}
-use Rattle.pages.specs.Pages.{map_now}
-use Rattle.records.specs.Stores.{is_change}
+use Rattle.std.proofs.Common.{sym, subst}
 use Rattle.alternate_keys.specs.declared.row_verb.RowVerb.{RowVerb}
-use Rattle.alternate_keys.specs.Moved.{named_after, changed_by}
-use Rattle.alternate_keys.specs.Placed.{HasFileTrees}
+use Rattle.alternate_keys.specs.Moved.{changed_by}
+use Rattle.alternate_keys.specs.RowChanges.{ChangesTrees}
 use Rattle.alternate_keys.proofs.row_changes.change_trees.Goals as goal
 
-pub returns-in-Insert-clause-outcome : goal.returns-in-Insert-clause-outcome
-returns-in-Insert-clause-outcome g c = λ honest agrees named generation left right has.
-    subst (λ (v : RowVerb). IfOk c.insert_trees.result (λ turn. turn.outcome ≡ (changed_by v
-    c.args.file.now.organization c.args.change.number c.args.change.bytes.now named.file).outcome)) (sym c.in-Insert.is)
-    (c.insert_trees.ensures.outcome honest agrees named generation left right has)
+pub returns-in-Insert : goal.returns-in-Insert
+returns-in-Insert g c =
+    subst (λ (v : RowVerb). ChangesTrees g.D.Device (λ held. changed_by v c.args.file.now.organization
+    c.args.change.number c.args.change.bytes.now held) c.args.file.now c.args.pages.now c.args.device.now
+    c.args.listing.now c.insert_trees.new.pages c.insert_trees.new.device c.insert_trees.result) (sym c.in-Insert.is)
+    c.insert_trees.ensures
 
-pub returns-in-Insert-clause-placed : goal.returns-in-Insert-clause-placed
-returns-in-Insert-clause-placed g c = λ honest agrees named generation left right has.
-    let after : List (Option Sector) =
-    (map_now c.insert_trees.new.pages (g.D.Device.state c.args.device.now).disk.present).pages in
-    subst (λ (v : RowVerb). IfOk c.insert_trees.result (λ turn. is_change turn.outcome ≡ true → HasFileTrees
-    (named_after named
-    (changed_by v c.args.file.now.organization c.args.change.number c.args.change.bytes.now named.file))
-    (generation + 1) after left right turn.listing.items))
-    (sym c.in-Insert.is) (c.insert_trees.ensures.placed honest agrees named generation left right has)
+pub returns-in-Replace : goal.returns-in-Replace
+returns-in-Replace g c =
+    subst (λ (v : RowVerb). ChangesTrees g.D.Device (λ held. changed_by v c.args.file.now.organization
+    c.args.change.number c.args.change.bytes.now held) c.args.file.now c.args.pages.now c.args.device.now
+    c.args.listing.now c.replace_trees.new.pages c.replace_trees.new.device c.replace_trees.result)
+    (sym c.in-Replace.is) c.replace_trees.ensures
 
-pub returns-in-Replace-clause-outcome : goal.returns-in-Replace-clause-outcome
-returns-in-Replace-clause-outcome g c = λ honest agrees named generation left right has.
-    subst (λ (v : RowVerb). IfOk c.replace_trees.result (λ turn. turn.outcome ≡ (changed_by v
-    c.args.file.now.organization c.args.change.number c.args.change.bytes.now named.file).outcome))
-    (sym c.in-Replace.is)
-    (c.replace_trees.ensures.outcome honest agrees named generation left right has)
-
-pub returns-in-Replace-clause-placed : goal.returns-in-Replace-clause-placed
-returns-in-Replace-clause-placed g c = λ honest agrees named generation left right has.
-    let after : List (Option Sector) =
-    (map_now c.replace_trees.new.pages (g.D.Device.state c.args.device.now).disk.present).pages in
-    subst (λ (v : RowVerb). IfOk c.replace_trees.result (λ turn. is_change turn.outcome ≡ true → HasFileTrees
-    (named_after named
-    (changed_by v c.args.file.now.organization c.args.change.number c.args.change.bytes.now named.file))
-    (generation + 1) after left right turn.listing.items))
-    (sym c.in-Replace.is) (c.replace_trees.ensures.placed honest agrees named generation left right has)
-
-pub returns-in-Remove-clause-outcome : goal.returns-in-Remove-clause-outcome
-returns-in-Remove-clause-outcome g c = λ honest agrees named generation left right has.
-    subst (λ (v : RowVerb). IfOk c.remove_trees.result (λ turn. turn.outcome ≡ (changed_by v
-    c.args.file.now.organization c.args.change.number c.args.change.bytes.now named.file).outcome)) (sym c.in-Remove.is)
-    (c.remove_trees.ensures.outcome honest agrees named generation left right has)
-
-pub returns-in-Remove-clause-placed : goal.returns-in-Remove-clause-placed
-returns-in-Remove-clause-placed g c = λ honest agrees named generation left right has.
-    let after : List (Option Sector) =
-    (map_now c.remove_trees.new.pages (g.D.Device.state c.args.device.now).disk.present).pages in
-    subst (λ (v : RowVerb). IfOk c.remove_trees.result (λ turn. is_change turn.outcome ≡ true → HasFileTrees
-    (named_after named
-    (changed_by v c.args.file.now.organization c.args.change.number c.args.change.bytes.now named.file))
-    (generation + 1) after left right turn.listing.items))
-    (sym c.in-Remove.is) (c.remove_trees.ensures.placed honest agrees named generation left right has)
-
-pub returns-in-Insert-clause-full : goal.returns-in-Insert-clause-full
-returns-in-Insert-clause-full g c = λ unspent honest agrees named generation left right has refused.
-    subst
-    (λ (v : RowVerb). is_change (changed_by v c.args.file.now.organization c.args.change.number c.args.change.bytes.now
-    named.file).outcome ≡ true) (sym c.in-Insert.is)
-    (c.insert_trees.ensures.full unspent honest agrees named generation left right has refused)
-
-pub returns-in-Replace-clause-full : goal.returns-in-Replace-clause-full
-returns-in-Replace-clause-full g c = λ unspent honest agrees named generation left right has refused.
-    subst
-    (λ (v : RowVerb). is_change (changed_by v c.args.file.now.organization c.args.change.number c.args.change.bytes.now
-    named.file).outcome ≡ true) (sym c.in-Replace.is)
-    (c.replace_trees.ensures.full honest agrees named generation left right has refused)
-
-pub returns-in-Remove-clause-full : goal.returns-in-Remove-clause-full
-returns-in-Remove-clause-full g c = λ unspent honest agrees named generation left right has refused.
-    subst
-    (λ (v : RowVerb). is_change (changed_by v c.args.file.now.organization c.args.change.number c.args.change.bytes.now
-    named.file).outcome ≡ true) (sym c.in-Remove.is)
-    (c.remove_trees.ensures.full honest agrees named generation left right has refused)
+pub returns-in-Remove : goal.returns-in-Remove
+returns-in-Remove g c =
+    subst (λ (v : RowVerb). ChangesTrees g.D.Device (λ held. changed_by v c.args.file.now.organization
+    c.args.change.number c.args.change.bytes.now held) c.args.file.now c.args.pages.now c.args.device.now
+    c.args.listing.now c.remove_trees.new.pages c.remove_trees.new.device c.remove_trees.result) (sym c.in-Remove.is)
+    c.remove_trees.ensures

@@ -1,6 +1,6 @@
-use Rattle.std.proofs.Common.{◌≡◌, Err, ℕ, List, length, sym, ap, ◌∙◌, arith, refl}
+use Rattle.std.proofs.Common.{◌≡◌, Err, ℕ, List, length, sym, ap, ◌∙◌, arith}
 use Rattle.btree.proofs.Frames.{unchanged_on}
-use Rattle.records.specs.declared.fault.StoreFault.TheVariants.{Device, Damaged}
+use Rattle.records.specs.declared.fault.StoreFault.TheVariants.{Device}
 use Rattle.records.specs.Rows.{named_pair}
 use Rattle.records.specs.Changes.{FileChange, replacement}
 use Rattle.records.specs.Files.{NamedFile}
@@ -11,20 +11,18 @@ use Rattle.row_trees.specs.Calls.{EditsPages}
 use Rattle.alternate_keys.specs.Moved.{named_after}
 use Rattle.alternate_keys.specs.Placed.{OnTrees}
 use Rattle.alternate_keys.proofs.Calling.{looks_edits, edits_blamed, edits_last, sectors_still}
-use Rattle.alternate_keys.proofs.Faults.{never_device, never_full, refused_by_call, never_full_memory, never_spent}
+use Rattle.alternate_keys.proofs.Faults.{never_device, never_spent, never_damaged, never_full_memory, memory_writes}
 use Rattle.alternate_keys.proofs.FileTrees.{arrival_few, arrival_is, prime_stands, prime_rows, all_pairs}
 use Rattle.alternate_keys.proofs.FoundRow.{none_at, entry_there, value_long}
 use Rattle.alternate_keys.proofs.RowForms.{value_whole}
 use Rattle.alternate_keys.proofs.HeldTrees.{HoldsRow, still_holds, holds_row}
-use Rattle.alternate_keys.proofs.Moving.{IsMoving, room_then, few_then, placed_then}
+use Rattle.alternate_keys.proofs.Moving.{IsMoving}
 use Rattle.alternate_keys.proofs.MovingRows.{replaced_moves}
 use Rattle.alternate_keys.proofs.Numbered.{named_by}
 use Rattle.alternate_keys.proofs.ReplaceRow.{Replaces, named_missing, look_bars, look_replaces}
-use Rattle.alternate_keys.proofs.Passing.{damaged_not_spent, memory_is_write, never_ok, passed, read_is_write}
 use Rattle.alternate_keys.proofs.Passing.{spent_before}
-use Rattle.std.specs.Prelude.{IfErr}
-use Rattle.alternate_keys.specs.Faults.{IsWriteFault}
-use Rattle.alternate_keys.proofs.Passing.{damaged_not_device}
+use Rattle.alternate_keys.proofs.TreeChanges.{trees_refused, trees_refused_early, trees_damaged, trees_unchanged}
+use Rattle.alternate_keys.proofs.TreeChanges.{trees_unmoved, trees_moved}
 use Rattle.alternate_keys.proofs.row_changes.replace_trees.Given.{Over}
 use Rattle.alternate_keys.proofs.row_changes.replace_trees.Goals as goal
 use Rattle.alternate_keys.proofs.row_changes.replace_trees.Goals.{After-find_row, In-Some, After-find_duplicate_key}
@@ -90,97 +88,6 @@ moves g c honest found done =
     c.row_tree-prime.ensures.form c.root-root.ensures
     c.in_ok-replace_row.ensures.replaced
 
-pub returns-in_err-row-clause-damaged : goal.returns-in_err-row-clause-damaged
-returns-in_err-row-clause-damaged g c = λ honest agrees named generation left right has refused.
-    c.find_row.ensures.damaged honest agrees named.file.rows
-    (prime_rows _ _ _ _ _ _ _ has c.row_tree-prime.result c.row_tree-prime.ensures.layout
-    c.row_tree-prime.ensures.root c.row_tree-prime.ensures.form)
-    (refused_by_call c.in_err-row.was c.from_residual.ensures.1 refused)
-
-pub returns-in-None-clause-outcome : goal.returns-in-None-clause-outcome
-returns-in-None-clause-outcome g c = λ honest agrees named generation left right has.
-    let told = c.in_ok-row.ensures.found honest agrees named.file.rows (prime_rows _ _ _ _ _ _ _ has
-    c.row_tree-prime.result c.row_tree-prime.ensures.layout c.row_tree-prime.ensures.root
-    c.row_tree-prime.ensures.form) in
-    c.none.ensures ∙ sym (ap (λ (ch : FileChange). ch.outcome) (named_missing c.args.number c.args.bytes.now
-    named.file has.spec_is (pair_is g (goal.at.returns-in-None-clause-outcome g c).After-find_row)
-    (none_at _ _ _ _ _ _ _ has _ c.in_ok-row.field-0 told c.in-None.is)))
-
-pub returns-in_err-outcome-clause-damaged : goal.returns-in_err-outcome-clause-damaged
-returns-in_err-outcome-clause-damaged g c = λ honest agrees named generation left right has refused.
-    let at = goal.at.returns-in_err-outcome-clause-damaged g c in
-    let found = row_found g at.In-Some (pair_is g at.After-find_row) honest agrees named generation left right has in
-    c.find_duplicate_key.ensures.damaged found.trees.honest found.trees.agrees named.file.rows
-    (all_pairs _ _ _ _ _ _ _ found.trees.has)
-    (refused_by_call c.in_err-outcome.was c.from_residual-in_err-outcome.ensures.1 refused)
-
-pub returns-then-not-is_done-clause-outcome : goal.returns-then-not-is_done-clause-outcome
-returns-then-not-is_done-clause-outcome g c = λ honest agrees named generation left right has.
-    let at = goal.at.returns-then-not-is_done-clause-outcome g c in
-    let found = row_found g at.In-Some (pair_is g at.After-find_row) honest agrees named generation left right has in
-    let told = c.in_ok-outcome.ensures.told found.trees.honest found.trees.agrees named.file.rows
-    (all_pairs _ _ _ _ _ _ _ found.trees.has) in
-    c.none-then-not-is_done.ensures ∙ look_bars _ _ _ _ _ _ _ found.trees.has c.args.number c.args.bytes.now
-    c.in-Some.row found.row c.value-old.result.now c.value-old.ensures c.in_ok-outcome.outcome told
-    (sym c.is_done.ensures ∙ c.if-not-is_done.true)
-
-pub returns-then-arrival-clause-damaged : goal.returns-then-arrival-clause-damaged
-returns-then-arrival-clause-damaged g c = λ honest agrees named generation left right has refused.
-    let few = arrival_few _ _ _ _ _ _ _ has in
-    let same = arrival_is _ _ _ _ _ _ _ has in
-    let own = c.next_arrival-arrival.ensures in
-    let most = c.if-arrival.true in
-    omega (arith, few, same, own, most)
-
-pub returns-in_err-replace_row-clause-damaged : goal.returns-in_err-replace_row-clause-damaged
-returns-in_err-replace_row-clause-damaged g c = λ honest agrees named generation left right has refused.
-    let at = goal.at.returns-in_err-replace_row-clause-damaged g c in
-    let found = row_found g at.In-Some (pair_is g at.After-find_row) honest agrees named generation left right has in
-    let looked = still_holds g.D.Device found.trees c.find_duplicate_key.ensures.looks in
-    c.replace_row.ensures.damaged looked.honest looked.agrees left _ _
-    (prime_stands _ _ _ _ _ _ _ looked.has c.row_tree-prime.result c.row_tree-prime.ensures.layout
-    c.row_tree-prime.ensures.root c.row_tree-prime.ensures.form) (entry_there found.row c.key.result.now c.key.ensures)
-    (refused_by_call c.in_err-replace_row.was c.from_residual-in_err-replace_row.ensures.1 refused)
-
-pub returns-in_err-listing-clause-room : goal.returns-in_err-listing-clause-room
-returns-in_err-listing-clause-room g c = λ honest agrees named generation left right has full.
-    let at = goal.at.returns-in_err-listing-clause-room g c in
-    let found = row_found g at.In-Some (pair_is g at.After-find_row) honest agrees named generation left right has in
-    let moving = moves g at.After-move_row honest found (replaces g at.Else-not-is_done found) in
-    room_then g.D.Device (length c.args.file.now.alternates.items) moving (c.move_row.ensures.room moving.honest
-    moving.agrees named _ generation left right moving.changed
-    (refused_by_call c.in_err-listing.was c.from_residual-in_err-listing.ensures.1 full))
-
-pub returns-in_err-listing-clause-damaged : goal.returns-in_err-listing-clause-damaged
-returns-in_err-listing-clause-damaged g c = λ honest agrees named generation left right has refused.
-    let at = goal.at.returns-in_err-listing-clause-damaged g c in
-    let found = row_found g at.In-Some (pair_is g at.After-find_row) honest agrees named generation left right has in
-    let moving = moves g at.After-move_row honest found (replaces g at.Else-not-is_done found) in
-    c.move_row.ensures.damaged moving.honest moving.agrees named _ generation left right moving.changed moving.may
-    (refused_by_call c.in_err-listing.was c.from_residual-in_err-listing.ensures.1 refused)
-
-pub returns-clause-outcome : goal.returns-clause-outcome
-returns-clause-outcome g c = λ honest agrees named generation left right has.
-    let at = goal.at.returns-clause-outcome g c in
-    let found = row_found g at.In-Some (pair_is g at.After-find_row) honest agrees named generation left right has in
-    sym (ap (λ (ch : FileChange). ch.outcome) (replaces g at.Else-not-is_done found))
-
-pub returns-clause-placed : goal.returns-clause-placed
-returns-clause-placed g c = λ honest agrees named generation left right has change.
-    let at = goal.at.returns-clause-placed g c in
-    let found = row_found g at.In-Some (pair_is g at.After-find_row) honest agrees named generation left right has in
-    let moving = moves g at.After-move_row honest found (replaces g at.Else-not-is_done found) in
-    placed_then g.D.Device moving c.move_row.new.pages c.in_ok-listing.listing.items (c.in_ok-listing.ensures.placed
-    moving.honest moving.agrees named _ generation left right moving.changed)
-
-pub returns-clause-few : goal.returns-clause-few
-returns-clause-few g c = λ honest agrees named generation left right has.
-    let at = goal.at.returns-clause-few g c in
-    let found = row_found g at.In-Some (pair_is g at.After-find_row) honest agrees named generation left right has in
-    let moving = moves g at.After-move_row honest found (replaces g at.Else-not-is_done found) in
-    few_then g.D.Device (length c.args.file.now.alternates.items) moving c.move_row.new.pages
-    (c.in_ok-listing.ensures.few moving.honest moving.agrees named _ generation left right moving.changed)
-
 pub find_duplicate_key-requires-clause-values : goal.find_duplicate_key-requires-clause-values
 find_duplicate_key-requires-clause-values g c = (
   value_long (spec_of c.args.file.now) c.row_tree-prime.result c.in_ok-row.field-0 c.in-Some.row
@@ -216,142 +123,10 @@ looked g c =
     edits_last g.D.Device _ _ _ _ _ _ _ _ _ (λ is. is) (looks_edits g.D.Device _ _ _ _ _ c.find_row.ensures.looks)
     (looks_edits g.D.Device _ _ _ _ _ c.find_duplicate_key.ensures.looks)
 
-put : (g : Over) (c : After-replace_row g) → EditsPages g.D.Device (c.find_duplicate_key.result ≡ Err Device)
-    c.args.pages.now c.args.device.now c.find_duplicate_key.new.pages c.find_duplicate_key.new.device →
-    EditsPages g.D.Device (c.replace_row.result ≡ Err Device) c.args.pages.now c.args.device.now
-    c.replace_row.new.pages c.replace_row.new.device
-put g c before = edits_last g.D.Device _ _ _ _ _ _ _ _ _ (λ is. is) before c.replace_row.ensures.edits
-
-pub returns-in_err-row-clause-edits : goal.returns-in_err-row-clause-edits
-returns-in_err-row-clause-edits g c =
-    edits_blamed g.D.Device _ _ _ _ _ _ (λ is. refused_by_call c.in_err-row.was c.from_residual.ensures.1 is)
-    (looks_edits g.D.Device _ _ _ _ _ c.find_row.ensures.looks)
-
-pub returns-in-None-clause-edits : goal.returns-in-None-clause-edits
-returns-in-None-clause-edits g c =
-    edits_blamed g.D.Device _ _ _ _ _ _ (λ is. never_ok is) (looks_edits g.D.Device _ _ _ _ _ c.find_row.ensures.looks)
-
-pub returns-in_err-outcome-clause-edits : goal.returns-in_err-outcome-clause-edits
-returns-in_err-outcome-clause-edits g c =
-    edits_blamed g.D.Device _ _ _ _ _ _
-    (λ is. refused_by_call c.in_err-outcome.was c.from_residual-in_err-outcome.ensures.1 is)
-    (looked g (goal.at.returns-in_err-outcome-clause-edits g c).After-find_duplicate_key)
-
-pub returns-then-not-is_done-clause-edits : goal.returns-then-not-is_done-clause-edits
-returns-then-not-is_done-clause-edits g c =
-    edits_blamed g.D.Device _ _ _ _ _ _ (λ is. never_ok is)
-    (looked g (goal.at.returns-then-not-is_done-clause-edits g c).After-find_duplicate_key)
-
-pub returns-then-arrival-clause-edits : goal.returns-then-arrival-clause-edits
-returns-then-arrival-clause-edits g c =
-    edits_blamed g.D.Device _ _ _ _ _ _ (λ is. damaged_not_device is)
-    (looked g (goal.at.returns-then-arrival-clause-edits g c).After-find_duplicate_key)
-
-pub returns-in_err-value-clause-edits : goal.returns-in_err-value-clause-edits
-returns-in_err-value-clause-edits g c =
-    edits_blamed g.D.Device _ _ _ _ _ _ (λ is. absurd (never_device c.value_after.result c.value_after.ensures.memory
-    (refused_by_call c.in_err-value.was c.from_residual-in_err-value.ensures.1 is)))
-    (looked g (goal.at.returns-in_err-value-clause-edits g c).After-find_duplicate_key)
-
-pub returns-in_err-replace_row-clause-edits : goal.returns-in_err-replace_row-clause-edits
-returns-in_err-replace_row-clause-edits g c =
-    let at = goal.at.returns-in_err-replace_row-clause-edits g c in
-    edits_blamed g.D.Device _ _ _ _ _ _
-    (λ is. refused_by_call c.in_err-replace_row.was c.from_residual-in_err-replace_row.ensures.1 is)
-    (put g at.After-replace_row (looked g at.After-find_duplicate_key))
-
-pub returns-in_err-listing-clause-edits : goal.returns-in_err-listing-clause-edits
-returns-in_err-listing-clause-edits g c =
-    let at = goal.at.returns-in_err-listing-clause-edits g c in
-    edits_last g.D.Device _ _ _ _ _ _ _ _ _
-    (λ is. refused_by_call c.in_err-listing.was c.from_residual-in_err-listing.ensures.1 is)
-    (put g at.After-replace_row (looked g at.After-find_duplicate_key)) c.move_row.ensures.edits
-
-pub returns-clause-edits : goal.returns-clause-edits
-returns-clause-edits g c =
-    let at = goal.at.returns-clause-edits g c in
-    edits_last g.D.Device _ _ _ _ _ _ _ _ _ (λ is. never_ok is)
-    (put g at.After-replace_row (looked g at.After-find_duplicate_key)) c.move_row.ensures.edits
-
-pub returns-then-not-is_done-clause-same : goal.returns-then-not-is_done-clause-same
-returns-then-not-is_done-clause-same g c =
-    λ none. unchanged_on c.args.pages.now c.find_row.new.pages c.find_duplicate_key.new.pages
-    c.find_row.ensures.looks.unchanged c.find_duplicate_key.ensures.looks.unchanged
-
-pub returns-in_err-replace_row-clause-full : goal.returns-in_err-replace_row-clause-full
-returns-in_err-replace_row-clause-full g c = λ honest agrees named generation left right has full.
-    let at = goal.at.returns-in_err-replace_row-clause-full g c in
-    let found = row_found g at.In-Some (pair_is g at.After-find_row) honest agrees named generation left right has in
-    ap (λ (ch : FileChange). is_change ch.outcome) (replaces g at.Else-not-is_done found)
-    ∙ sym c.is_done.ensures ∙ c.if-not-is_done.false
-
-pub returns-in_err-listing-clause-full : goal.returns-in_err-listing-clause-full
-returns-in_err-listing-clause-full g c = λ honest agrees named generation left right has full.
-    let at = goal.at.returns-in_err-listing-clause-full g c in
-    let found = row_found g at.In-Some (pair_is g at.After-find_row) honest agrees named generation left right has in
-    ap (λ (ch : FileChange). is_change ch.outcome) (replaces g at.Else-not-is_done found)
-    ∙ sym c.is_done.ensures ∙ c.if-not-is_done.false
-
-pub returns-in_err-row-clause-full : goal.returns-in_err-row-clause-full
-returns-in_err-row-clause-full g c = λ honest agrees named generation left right has full.
-    absurd (never_full c.find_row.result c.find_row.ensures.cause
-    (refused_by_call c.in_err-row.was c.from_residual.ensures.1 full))
-
-pub returns-in_err-outcome-clause-full : goal.returns-in_err-outcome-clause-full
-returns-in_err-outcome-clause-full g c = λ honest agrees named generation left right has full.
-    absurd (never_full c.find_duplicate_key.result c.find_duplicate_key.ensures.cause
-    (refused_by_call c.in_err-outcome.was c.from_residual-in_err-outcome.ensures.1 full))
-
-pub returns-in_err-row-clause-spent : goal.returns-in_err-row-clause-spent
-returns-in_err-row-clause-spent g c =
-    λ is. c.find_row.ensures.spent (refused_by_call c.in_err-row.was c.from_residual.ensures.1 is)
-
-pub returns-in_err-row-clause-cause : goal.returns-in_err-row-clause-cause
-returns-in_err-row-clause-cause g c =
-    passed c.from_residual.result c.in_err-row.field-0.0 c.from_residual.ensures.1 (λ r. IfErr r IsWriteFault)
-    (read_is_write c.in_err-row.field-0.0 c.in_err-row.ensures.cause)
-
-pub returns-in_err-row-clause-room : goal.returns-in_err-row-clause-room
-returns-in_err-row-clause-room g c =
-    λ honest agrees named generation left right has is. absurd (never_full c.find_row.result c.find_row.ensures.cause
-    (refused_by_call c.in_err-row.was c.from_residual.ensures.1 is))
-
 pub find_duplicate_key-requires-clause-sectors : goal.find_duplicate_key-requires-clause-sectors
 find_duplicate_key-requires-clause-sectors g c =
     sectors_still g.D.Device _ c.args.pages.now c.find_row.new.pages c.args.device.now c.find_row.new.device
     c.find_row.ensures.looks.only c.find_row.ensures.looks.unchanged.committed c.requires.sectors
-
-pub returns-in_err-outcome-clause-spent : goal.returns-in_err-outcome-clause-spent
-returns-in_err-outcome-clause-spent g c =
-    λ is. spent_before c.args.pages.now c.find_row.new.pages c.find_row.ensures.looks.unchanged.committed
-    (c.find_duplicate_key.ensures.spent (refused_by_call c.in_err-outcome.was c.from_residual-in_err-outcome.ensures.1
-    is))
-
-pub returns-in_err-outcome-clause-cause : goal.returns-in_err-outcome-clause-cause
-returns-in_err-outcome-clause-cause g c =
-    passed c.from_residual-in_err-outcome.result c.in_err-outcome.field-0.0 c.from_residual-in_err-outcome.ensures.1
-    (λ r. IfErr r IsWriteFault) (read_is_write c.in_err-outcome.field-0.0 c.in_err-outcome.ensures.cause)
-
-pub returns-in_err-outcome-clause-room : goal.returns-in_err-outcome-clause-room
-returns-in_err-outcome-clause-room g c =
-    λ honest agrees named generation left right has is. absurd (never_full c.find_duplicate_key.result
-    c.find_duplicate_key.ensures.cause (refused_by_call c.in_err-outcome.was c.from_residual-in_err-outcome.ensures.1
-    is))
-
-pub returns-in_err-value-clause-spent : goal.returns-in_err-value-clause-spent
-returns-in_err-value-clause-spent g c =
-    λ is. absurd (never_spent c.value_after.result c.value_after.ensures.memory (refused_by_call c.in_err-value.was
-    c.from_residual-in_err-value.ensures.1 is))
-
-pub returns-in_err-value-clause-cause : goal.returns-in_err-value-clause-cause
-returns-in_err-value-clause-cause g c =
-    passed c.from_residual-in_err-value.result c.in_err-value.field-0.0 c.from_residual-in_err-value.ensures.1 (λ r.
-    IfErr r IsWriteFault) (memory_is_write c.in_err-value.field-0.0 c.in_err-value.ensures.memory)
-
-pub returns-in_err-value-clause-room : goal.returns-in_err-value-clause-room
-returns-in_err-value-clause-room g c =
-    λ honest agrees named generation left right has is. absurd (never_full_memory c.value_after.result
-    c.value_after.ensures.memory (refused_by_call c.in_err-value.was c.from_residual-in_err-value.ensures.1 is))
 
 pub replace_row-requires-clause-sectors : goal.replace_row-requires-clause-sectors
 replace_row-requires-clause-sectors g c =
@@ -360,25 +135,6 @@ replace_row-requires-clause-sectors g c =
     c.find_duplicate_key.ensures.looks.unchanged.committed (sectors_still g.D.Device _ c.args.pages.now
     c.find_row.new.pages c.args.device.now c.find_row.new.device c.find_row.ensures.looks.only
     c.find_row.ensures.looks.unchanged.committed c.requires.sectors)
-
-pub returns-in_err-replace_row-clause-spent : goal.returns-in_err-replace_row-clause-spent
-returns-in_err-replace_row-clause-spent g c =
-    λ is. spent_before c.args.pages.now c.find_row.new.pages c.find_row.ensures.looks.unchanged.committed
-    (spent_before c.find_row.new.pages c.find_duplicate_key.new.pages
-    c.find_duplicate_key.ensures.looks.unchanged.committed (c.replace_row.ensures.spent (refused_by_call
-    c.in_err-replace_row.was c.from_residual-in_err-replace_row.ensures.1 is)))
-
-pub returns-in_err-replace_row-clause-cause : goal.returns-in_err-replace_row-clause-cause
-returns-in_err-replace_row-clause-cause g c =
-    passed c.from_residual-in_err-replace_row.result c.in_err-replace_row.field-0.0
-    c.from_residual-in_err-replace_row.ensures.1 (λ r. IfErr r IsWriteFault) (read_is_write
-    c.in_err-replace_row.field-0.0 c.in_err-replace_row.ensures.cause)
-
-pub returns-in_err-replace_row-clause-room : goal.returns-in_err-replace_row-clause-room
-returns-in_err-replace_row-clause-room g c =
-    λ honest agrees named generation left right has is. absurd (never_full c.replace_row.result
-    c.replace_row.ensures.cause (refused_by_call c.in_err-replace_row.was
-    c.from_residual-in_err-replace_row.ensures.1 is))
 
 pub move_row-requires-clause-sectors : goal.move_row-requires-clause-sectors
 move_row-requires-clause-sectors g c =
@@ -390,27 +146,143 @@ move_row-requires-clause-sectors g c =
     g.D.Device _ c.args.pages.now c.find_row.new.pages c.args.device.now c.find_row.new.device
     c.find_row.ensures.looks.only c.find_row.ensures.looks.unchanged.committed c.requires.sectors))
 
-pub returns-in_err-listing-clause-spent : goal.returns-in_err-listing-clause-spent
-returns-in_err-listing-clause-spent g c =
-    λ is. spent_before c.args.pages.now c.find_row.new.pages c.find_row.ensures.looks.unchanged.committed
-    (spent_before c.find_row.new.pages c.find_duplicate_key.new.pages
-    c.find_duplicate_key.ensures.looks.unchanged.committed (spent_before c.find_duplicate_key.new.pages
-    c.replace_row.new.pages c.replace_row.ensures.edits.committed (c.move_row.ensures.spent (refused_by_call
-    c.in_err-listing.was c.from_residual-in_err-listing.ensures.1 is))))
+put : (g : Over) (c : After-replace_row g) → EditsPages g.D.Device (c.replace_row.result ≡ Err Device)
+    c.args.pages.now c.args.device.now c.replace_row.new.pages c.replace_row.new.device
+put g c =
+    edits_last g.D.Device _ _ _ _ _ _ _ _ _ (λ is. is)
+    (edits_last g.D.Device _ _ _ _ _ _ _ _ _ (λ is. is) (looks_edits g.D.Device _ _ _ _ _ c.find_row.ensures.looks)
+    (looks_edits g.D.Device _ _ _ _ _ c.find_duplicate_key.ensures.looks)) c.replace_row.ensures.edits
 
-pub returns-in_err-listing-clause-cause : goal.returns-in_err-listing-clause-cause
-returns-in_err-listing-clause-cause g c =
-    passed c.from_residual-in_err-listing.result c.in_err-listing.field-0.0 c.from_residual-in_err-listing.ensures.1
-    (λ r. IfErr r IsWriteFault) c.in_err-listing.ensures.cause
+-- the row that was found is replaced as the replacement says
+found_new : (g : Over) (c : Else-not-is_done g) → OnTrees g.D.Device (spec_of c.args.file.now) c.args.pages.now
+    c.args.device.now c.args.listing.now (λ named generation left right.
+    HoldsRow g.D.Device (spec_of c.args.file.now) named generation left right c.args.listing.now
+    (named_pair c.args.file.now.organization c.args.number c.args.bytes.now) c.in-Some.row c.find_row.new.pages
+    c.find_row.new.device) → OnTrees g.D.Device (spec_of c.args.file.now) c.args.pages.now c.args.device.now
+    c.args.listing.now (λ named generation left right.
+    (replacement c.args.number c.args.bytes.now named.file).outcome ≡ c.in_ok-outcome.outcome)
+found_new g c found honest agrees named generation left right has =
+    ap (λ (ch : FileChange). ch.outcome) (replaces g c (found honest agrees named generation left right has))
 
-pub returns-in-None-clause-spent : goal.returns-in-None-clause-spent
-returns-in-None-clause-spent g c = λ is. never_ok is
+moving : (g : Over) (c : After-move_row g) → OnTrees g.D.Device (spec_of c.args.file.now) c.args.pages.now
+    c.args.device.now c.args.listing.now (λ named generation left right.
+    HoldsRow g.D.Device (spec_of c.args.file.now) named generation left right c.args.listing.now
+    (named_pair c.args.file.now.organization c.args.number c.args.bytes.now) c.in-Some.row c.find_row.new.pages
+    c.find_row.new.device) → ((named : NamedFile) (generation : ℕ) (left right : List TreeLevels)
+    (found : HoldsRow g.D.Device (spec_of c.args.file.now) named generation left right c.args.listing.now
+    (named_pair c.args.file.now.organization c.args.number c.args.bytes.now) c.in-Some.row c.find_row.new.pages
+    c.find_row.new.device) → Replaces c.args.number c.args.bytes.now named.file found.row.old c.in_ok-outcome.outcome)
+    → OnTrees g.D.Device (spec_of c.args.file.now) c.args.pages.now c.args.device.now c.args.listing.now (Moves g c)
+moving g c found done honest agrees named generation left right has =
+    let row = found honest agrees named generation left right has in
+    moves g c honest row (done named generation left right row)
 
-pub returns-then-not-is_done-clause-spent : goal.returns-then-not-is_done-clause-spent
-returns-then-not-is_done-clause-spent g c = λ is. never_ok is
+pub returns-in_err-row : goal.returns-in_err-row
+returns-in_err-row g c =
+    trees_refused_early g.D.Device c.in_err-row.was c.from_residual.ensures.1
+    (looks_edits g.D.Device _ _ _ _ _ c.find_row.ensures.looks)
+    (λ honest agrees named generation left right has refused.
+    c.find_row.ensures.damaged honest agrees named.file.rows (prime_rows _ _ _ _ _ _ _ has c.row_tree-prime.result
+    c.row_tree-prime.ensures.layout c.row_tree-prime.ensures.root c.row_tree-prime.ensures.form) refused)
+    c.find_row.ensures.spent c.find_row.ensures.cause
 
-pub returns-clause-spent : goal.returns-clause-spent
-returns-clause-spent g c = λ is. never_ok is
+pub returns-in-None : goal.returns-in-None
+returns-in-None g c =
+    trees_unchanged g.D.Device (looks_edits g.D.Device _ _ _ _ _ c.find_row.ensures.looks)
+    (ap is_change c.none.ensures) c.find_row.ensures.looks.unchanged
+    (λ honest agrees named generation left right has.
+    let told = c.in_ok-row.ensures.found honest agrees named.file.rows (prime_rows _ _ _ _ _ _ _ has
+    c.row_tree-prime.result c.row_tree-prime.ensures.layout c.row_tree-prime.ensures.root
+    c.row_tree-prime.ensures.form) in
+    c.none.ensures ∙ sym (ap (λ (ch : FileChange). ch.outcome) (named_missing c.args.number c.args.bytes.now
+    named.file has.spec_is (pair_is g (goal.at.returns-in-None g c).After-find_row)
+    (none_at _ _ _ _ _ _ _ has _ c.in_ok-row.field-0 told c.in-None.is))))
 
-pub returns-then-arrival-clause-spent : goal.returns-then-arrival-clause-spent
-returns-then-arrival-clause-spent g c = λ is. damaged_not_spent Damaged refl is
+pub returns-in_err-outcome : goal.returns-in_err-outcome
+returns-in_err-outcome g c =
+    let at = goal.at.returns-in_err-outcome g c in
+    trees_refused_early g.D.Device c.in_err-outcome.was c.from_residual-in_err-outcome.ensures.1
+    (looked g at.After-find_duplicate_key)
+    (λ honest agrees named generation left right has refused.
+    let found = row_found g at.In-Some (pair_is g at.After-find_row) honest agrees named generation left right has in
+    c.find_duplicate_key.ensures.damaged found.trees.honest found.trees.agrees named.file.rows
+    (all_pairs _ _ _ _ _ _ _ found.trees.has) refused)
+    (λ is. spent_before c.args.pages.now c.find_row.new.pages c.find_row.ensures.looks.unchanged.committed
+    (c.find_duplicate_key.ensures.spent is)) c.find_duplicate_key.ensures.cause
+
+pub returns-then-not-is_done : goal.returns-then-not-is_done
+returns-then-not-is_done g c =
+    let at = goal.at.returns-then-not-is_done g c in
+    let idle = sym c.is_done.ensures ∙ c.if-not-is_done.true in
+    trees_unchanged g.D.Device (looked g at.After-find_duplicate_key) (ap is_change c.none-then-not-is_done.ensures
+    ∙ idle) (unchanged_on c.args.pages.now c.find_row.new.pages c.find_duplicate_key.new.pages
+    c.find_row.ensures.looks.unchanged c.find_duplicate_key.ensures.looks.unchanged)
+    (λ honest agrees named generation left right has.
+    let found = row_found g at.In-Some (pair_is g at.After-find_row) honest agrees named generation left right has in
+    let told = c.in_ok-outcome.ensures.told found.trees.honest found.trees.agrees named.file.rows
+    (all_pairs _ _ _ _ _ _ _ found.trees.has) in
+    c.none-then-not-is_done.ensures ∙ look_bars _ _ _ _ _ _ _ found.trees.has c.args.number c.args.bytes.now
+    c.in-Some.row found.row c.value-old.result.now c.value-old.ensures c.in_ok-outcome.outcome told idle)
+
+pub returns-then-arrival : goal.returns-then-arrival
+returns-then-arrival g c =
+    trees_damaged g.D.Device (looked g (goal.at.returns-then-arrival g c).After-find_duplicate_key)
+    (λ honest agrees named generation left right has.
+    let few = arrival_few _ _ _ _ _ _ _ has in
+    let same = arrival_is _ _ _ _ _ _ _ has in
+    let own = c.next_arrival-arrival.ensures in
+    let most = c.if-arrival.true in
+    omega (arith, few, same, own, most))
+
+pub returns-in_err-value : goal.returns-in_err-value
+returns-in_err-value g c =
+    let memory = c.value_after.ensures.memory in
+    trees_refused g.D.Device c.in_err-value.was c.from_residual-in_err-value.ensures.1
+    (edits_blamed g.D.Device _ _ _ _ _ _ (λ is. absurd (never_device c.value_after.result memory is))
+    (looked g (goal.at.returns-in_err-value g c).After-find_duplicate_key))
+    (λ honest agrees named generation left right has is. absurd (never_full_memory c.value_after.result memory is))
+    (λ unspent honest agrees named generation left right has is.
+    absurd (never_full_memory c.value_after.result memory is))
+    (λ honest agrees named generation left right has is. never_damaged c.value_after.result memory is)
+    (λ is. absurd (never_spent c.value_after.result memory is)) (memory_writes c.value_after.result memory)
+
+pub returns-in_err-replace_row : goal.returns-in_err-replace_row
+returns-in_err-replace_row g c =
+    let at = goal.at.returns-in_err-replace_row g c in
+    trees_refused_early g.D.Device c.in_err-replace_row.was c.from_residual-in_err-replace_row.ensures.1
+    (put g at.After-replace_row)
+    (λ honest agrees named generation left right has refused.
+    let found = row_found g at.In-Some (pair_is g at.After-find_row) honest agrees named generation left right has in
+    let trees = still_holds g.D.Device found.trees c.find_duplicate_key.ensures.looks in
+    c.replace_row.ensures.damaged trees.honest trees.agrees left _ _
+    (prime_stands _ _ _ _ _ _ _ trees.has c.row_tree-prime.result c.row_tree-prime.ensures.layout
+    c.row_tree-prime.ensures.root c.row_tree-prime.ensures.form) (entry_there found.row c.key.result.now c.key.ensures)
+    refused)
+    (λ is. spent_before c.args.pages.now c.find_duplicate_key.new.pages (looked g at.After-find_duplicate_key).committed
+    (c.replace_row.ensures.spent is)) c.replace_row.ensures.cause
+
+pub returns-in_err-listing : goal.returns-in_err-listing
+returns-in_err-listing g c =
+    let at = goal.at.returns-in_err-listing g c in
+    let found = row_found g at.In-Some (pair_is g at.After-find_row) in
+    let edits = put g at.After-replace_row in
+    trees_unmoved g.D.Device (moving g at.After-move_row found (λ named generation left right row. replaces g at.Else-not-is_done row)) c.in_err-listing.was
+    c.from_residual-in_err-listing.ensures.1
+    (edits_last g.D.Device _ _ _ _ _ _ _ _ _ (λ is. is) edits c.move_row.ensures.edits)
+    c.move_row.ensures.room c.move_row.ensures.damaged
+    (λ honest agrees named generation left right has.
+    ap is_change (found_new g at.Else-not-is_done found honest agrees named generation left right has)
+    ∙ sym c.is_done.ensures ∙ c.if-not-is_done.false)
+    (λ is. spent_before c.args.pages.now c.replace_row.new.pages edits.committed (c.move_row.ensures.spent is))
+    c.move_row.ensures.cause
+
+pub returns : goal.returns
+returns g c =
+    let at = goal.at.returns g c in
+    let found = row_found g at.In-Some (pair_is g at.After-find_row) in
+    trees_moved g.D.Device (moving g at.After-move_row found (λ named generation left right row. replaces g at.Else-not-is_done row))
+    (edits_last g.D.Device _ _ _ _ _ _ _ _ _ (λ is. is) (put g at.After-replace_row) c.move_row.ensures.edits)
+    c.in_ok-listing.ensures.placed c.in_ok-listing.ensures.few
+    (λ honest agrees named generation left right has.
+    sym (found_new g at.Else-not-is_done found honest agrees named generation left right has))
+    (sym c.is_done.ensures ∙ c.if-not-is_done.false) c.in_ok-listing.ensures.long

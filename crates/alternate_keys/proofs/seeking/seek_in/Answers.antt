@@ -1,5 +1,5 @@
 use Rattle.std.proofs.Common.{◌≡◌, ◌<◌, ◌≤◌, ◌^◌, inr, List, Err, sym, ap, subst, ◌∙◌, arith, rules}
-use Rattle.std.specs.Prelude.{Option}
+use Rattle.std.specs.Prelude.{Option, IfErr}
 use Rattle.station.specs.Disk.{Sector}
 use Rattle.pages.specs.Pages.{map_now}
 use Rattle.pages.specs.declared.error.PagesError.TheVariants as pages
@@ -12,14 +12,15 @@ use Rattle.btree.proofs.Frames.{same_pages}
 use Rattle.btree.specs.Calls.{pages_on}
 use Rattle.btree.specs.Places.{IsLeafPlace}
 use Rattle.volume_format.specs.Volume.{MapHolds}
+use Rattle.alternate_keys.specs.Faults.{IsReadFault}
 use Rattle.alternate_keys.specs.Notes.{AreNotesOf, OnNotes, noted_search}
 use Rattle.alternate_keys.specs.Seen.{IsSought}
 use Rattle.volume_format.proofs.Faults.{damaged_back, device_back}
 use Rattle.volume_format.proofs.Looks.{looks_blamed, looks_then}
 use Rattle.alternate_keys.proofs.FoundTrees.{Knows, knows_listed, layout_short, sought_in}
 use Rattle.alternate_keys.proofs.Noted.{never_missing, leaf_noted}
-use Rattle.alternate_keys.proofs.Faults.{never_device, refused_by_call}
-use Rattle.alternate_keys.proofs.Passing.{never_ok, same_error}
+use Rattle.alternate_keys.proofs.Faults.{refused_by_call}
+use Rattle.alternate_keys.proofs.Passing.{never_ok, passed, same_error}
 use Rattle.alternate_keys.proofs.seeking.seek_in.Given.{Over}
 use Rattle.alternate_keys.proofs.seeking.seek_in.Goals as goal
 use Rattle.alternate_keys.proofs.seeking.seek_in.Goals.{After-seek_row}
@@ -163,3 +164,18 @@ returns-in-Err-clause-looks g c =
     (λ is. let told : c.to_fault.result ≡ Device = same_error is in
     inr (c.in-Err.is ∙ ap Err (device_back c.in-Err.error (sym c.to_fault.ensures ∙ told))))
     c.note_file.ensures.looks c.seek_row.ensures.looks
+
+pub returns-in_err-note_file-clause-notes : goal.returns-in_err-note_file-clause-notes
+returns-in_err-note_file-clause-notes g c = c.note_file.ensures.notes
+
+pub returns-then-not-branch-clause-notes : goal.returns-then-not-branch-clause-notes
+returns-then-not-branch-clause-notes g c = c.note_file.ensures.notes
+
+pub returns-in_err-note_file-clause-spent : goal.returns-in_err-note_file-clause-spent
+returns-in_err-note_file-clause-spent g c =
+    λ is. c.note_file.ensures.spent (refused_by_call c.in_err-note_file.was c.from_residual.ensures.1 is)
+
+pub returns-in_err-note_file-clause-cause : goal.returns-in_err-note_file-clause-cause
+returns-in_err-note_file-clause-cause g c =
+    passed c.from_residual.result c.in_err-note_file.field-0.0 c.from_residual.ensures.1 (λ r. IfErr r IsReadFault)
+    c.in_err-note_file.ensures.cause
