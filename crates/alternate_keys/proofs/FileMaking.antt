@@ -18,6 +18,11 @@ use Rattle.alternate_keys.specs.Stands.{LacksSpace}
 use Rattle.alternate_keys.proofs.Faults.{never_full, reads_write}
 use Rattle.alternate_keys.proofs.Passing.{passed, never_ok, still_error}
 
+-- after a commit of these pages the volume holds the file without rows, if its mark allows one of this length
+abbrev pub WillHold : {D : Type 0} (d : Devices D) → FileSpec → PageMap → D → PageMap → Type 0
+WillHold d file old now new = (mark_of old ≡ 0 → is_long (spec_of file) ≡ false) → OnFiles d old now
+    (λ files holds. MapHolds (next_generation (map_now new (d.state now).disk.present)) (with_empty file files))
+
 module _ {D : Type 0} (d : Devices D) {old : PageMap} {now : D} {new : PageMap} {now' : D} where
   prepares_blamed : (A B : Type 0) → (B → A) → Prepares d A old now new now' → Prepares d B old now new now'
   prepares_blamed A B from prepares = record {
@@ -59,8 +64,7 @@ module _ {D : Type 0} (d : Devices D) {T : Type 0} {file : FileSpec} {old : Page
 
   -- it is made
   pub file_made : {A : Type 0} {x : T} → Prepares d A old now new now'
-      → ((mark_of old ≡ 0 → is_long (spec_of file) ≡ false) → OnFiles d old now (λ files holds.
-      MapHolds (next_generation (map_now new (d.state now).disk.present)) (with_empty file files)))
+      → WillHold d file old now new
       → OnFiles d old now (λ files holds. changed_pages_of old ≡ [] → IsFull new
       → LacksSpace (committed_of old) true file.name.items (with_empty file files))
       → PreparesFile d file old now new now' (Ok x)

@@ -1,9 +1,9 @@
-use Rattle.std.proofs.Common.{◌≡◌, ◌<◌, ◌++◌, true, false, Err, ℕ, List, [], length, refl, sym, ap, subst, ◌∙◌, arith}
+use Rattle.std.proofs.Common.{◌≡◌, ◌<◌, ◌++◌, true, Err, ℕ, List, [], length, refl, sym, ap, subst, ◌∙◌, arith}
 use Rattle.std.specs.Prelude.{map, Option, None}
 use Rattle.std.specs.List.{flat_map}
 use Rattle.station.specs.State.{State}
 use Rattle.pages.specs.Image.{Map}
-use Rattle.pages.specs.Pages.{map_now, catalog_of, mark_of, changed_pages_of, committed_of, next_generation}
+use Rattle.pages.specs.Pages.{map_now, catalog_of, mark_of, changed_pages_of, committed_of}
 use Rattle.pages.specs.Pages.{Agrees, SameCommitted, IsFull}
 use Rattle.btree.specs.Calls.{pages_on}
 use Rattle.btree.specs.Entries.{Entry, entry_with, with_value, with_new_entry}
@@ -11,7 +11,7 @@ use Rattle.btree.specs.Results.{FewChanged}
 use Rattle.btree.proofs.Frames.{same_pages}
 use Rattle.records.specs.declared.fault.StoreFault.TheVariants.{Device, Damaged}
 use Rattle.records.specs.Files.{Files, file_at}
-use Rattle.records.specs.Spec.{is_name, is_long}
+use Rattle.records.specs.Spec.{is_name}
 use Rattle.records.specs.Stores.{spec_of}
 use Rattle.file_bytes.specs.Description.{padded_name}
 use Rattle.volume_format.specs.Catalog.{catalog_value}
@@ -28,7 +28,7 @@ use Rattle.alternate_keys.proofs.Calling.{prepares_then}
 use Rattle.alternate_keys.proofs.Calling.{sectors_still}
 use Rattle.alternate_keys.proofs.Empties.{empty_placed}
 use Rattle.alternate_keys.proofs.Faults.{memory_reads, never_damaged, never_device, never_spent}
-use Rattle.alternate_keys.proofs.FileMaking.{file_refused, file_refused_early, file_made}
+use Rattle.alternate_keys.proofs.FileMaking.{WillHold, file_refused, file_refused_early, file_made}
 use Rattle.alternate_keys.proofs.FoundTrees.{listed_as}
 use Rattle.alternate_keys.proofs.MadeFile.{holds_at, lacks_filled, lacks_needed}
 use Rattle.alternate_keys.proofs.Making.{IsThere, IsEmptied, is_there_as, entry_is_there, left_there, right_there}
@@ -172,11 +172,15 @@ returns-in_err-clear_trees-in-Some g c =
     (λ is. spent_before c.args.pages.now c.find_listing.new.pages c.find_listing.ensures.unchanged.committed
     (c.clear_trees.ensures.spent is)) c.clear_trees.ensures.cause
 
--- the entry of the file is in the catalog when its trees are empty
-entry_never : (g : Over) (c : After-replace_listing g) → OnFiles g.D.Device c.args.pages.now c.args.device.now
-    (λ files holds. IsThere (map_now c.args.pages.now (g.D.Device.state c.args.device.now).disk.present) files holds
+-- the file is there after the look into the catalog
+abbrev Stands : (g : Over) (c : After-replace_listing g) → Type 0
+Stands g c = OnFiles g.D.Device c.args.pages.now c.args.device.now (λ files holds.
+    IsThere (map_now c.args.pages.now (g.D.Device.state c.args.device.now).disk.present) files holds
     c.args.file.now.name.items c.args.file.now.named
     (pages_on g.D.Device c.find_listing.new.pages c.find_listing.new.device) c.listing_part.result.now)
+
+-- the entry of the file is in the catalog when its trees are empty
+entry_never : (g : Over) (c : After-replace_listing g) → Stands g c
     → OnFiles g.D.Device c.args.pages.now c.args.device.now (λ files holds. c.replace_listing.result ≡ Err Damaged → ⊥)
 entry_never g c there honest agrees files holds refused =
     let honest_found = c.find_listing.ensures.only.honest.0 honest in
@@ -210,14 +214,8 @@ Replaced g c = OnAmong g.D.Device (catalog_at (mark_of c.clear_trees.new.pages) 
       value = catalog_value (mark_of c.clear_trees.new.pages) c.deref-in-Some-2.result.now 0;
     })))
 
-holds_replaced : (g : Over) (c : After-replace_listing g) → OnFiles g.D.Device c.args.pages.now c.args.device.now
-    (λ files holds. IsThere (map_now c.args.pages.now (g.D.Device.state c.args.device.now).disk.present) files holds
-    c.args.file.now.name.items c.args.file.now.named
-    (pages_on g.D.Device c.find_listing.new.pages c.find_listing.new.device) c.listing_part.result.now)
-    → Replaced g c → (mark_of c.args.pages.now ≡ 0 → is_long (spec_of c.args.file.now) ≡ false)
-    → OnFiles g.D.Device c.args.pages.now c.args.device.now (λ files holds. MapHolds (next_generation
-    (map_now c.replace_listing.new.pages (g.D.Device.state c.args.device.now).disk.present))
-    (with_empty c.args.file.now files))
+holds_replaced : (g : Over) (c : After-replace_listing g) → Stands g c → Replaced g c
+    → WillHold g.D.Device c.args.file.now c.args.pages.now c.args.device.now c.replace_listing.new.pages
 holds_replaced g c there replaced fits honest agrees files holds =
     let honest_found = c.find_listing.ensures.only.honest.0 honest in
     let agrees_found = c.find_listing.ensures.agrees honest agrees in
@@ -301,10 +299,7 @@ Added g c = OnFiles g.D.Device c.find_listing.new.pages c.find_listing.new.devic
 
 holds_added : (g : Over) (c : After-add_listing g) → OnFiles g.D.Device c.find_listing.new.pages
     c.find_listing.new.device (λ files holds. length files < 255) → Added g c
-    → (mark_of c.args.pages.now ≡ 0 → is_long (spec_of c.args.file.now) ≡ false)
-    → OnFiles g.D.Device c.args.pages.now c.args.device.now (λ files holds. MapHolds (next_generation
-    (map_now c.add_listing.new.pages (g.D.Device.state c.args.device.now).disk.present))
-    (with_empty c.args.file.now files))
+    → WillHold g.D.Device c.args.file.now c.args.pages.now c.args.device.now c.add_listing.new.pages
 holds_added g c few added fits honest agrees files holds =
     let honest_found = c.find_listing.ensures.only.honest.0 honest in
     let agrees_found = c.find_listing.ensures.agrees honest agrees in

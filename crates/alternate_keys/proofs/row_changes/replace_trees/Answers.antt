@@ -266,8 +266,9 @@ returns-in_err-listing g c =
     let at = goal.at.returns-in_err-listing g c in
     let found = row_found g at.In-Some (pair_is g at.After-find_row) in
     let edits = put g at.After-replace_row in
-    trees_unmoved g.D.Device (moving g at.After-move_row found (λ named generation left right row. replaces g at.Else-not-is_done row)) c.in_err-listing.was
-    c.from_residual-in_err-listing.ensures.1
+    trees_unmoved g.D.Device
+    (moving g at.After-move_row found (λ named generation left right row. replaces g at.Else-not-is_done row))
+    c.in_err-listing.was c.from_residual-in_err-listing.ensures.1
     (edits_last g.D.Device _ _ _ _ _ _ _ _ _ (λ is. is) edits c.move_row.ensures.edits)
     c.move_row.ensures.room c.move_row.ensures.damaged
     (λ honest agrees named generation left right has.
@@ -280,7 +281,8 @@ pub returns : goal.returns
 returns g c =
     let at = goal.at.returns g c in
     let found = row_found g at.In-Some (pair_is g at.After-find_row) in
-    trees_moved g.D.Device (moving g at.After-move_row found (λ named generation left right row. replaces g at.Else-not-is_done row))
+    trees_moved g.D.Device
+    (moving g at.After-move_row found (λ named generation left right row. replaces g at.Else-not-is_done row))
     (edits_last g.D.Device _ _ _ _ _ _ _ _ _ (λ is. is) (put g at.After-replace_row) c.move_row.ensures.edits)
     c.in_ok-listing.ensures.placed c.in_ok-listing.ensures.few
     (λ honest agrees named generation left right has.
