@@ -82,7 +82,7 @@ fn has_front(key: &[u8], value: &[u8]) -> bool
     ensures { result ≡ same_bytes (take (length value.now) key.now) value.now }
 {
     let count = value.len().min(key.len());
-    key[..count] == value[..]
+    key[..count].cmp(value).is_eq()
 }
 
 /// What a search says of a row, by its entry in the tree of an alternate key. The notes have the entry. The row's record is put into

@@ -63,7 +63,7 @@ impl SearchNotes {
         ensures { NotesFile D.Device (noted_search self.old) pages.old device.old name.now
             (noted_search self.new) pages.new device.new result }
     {
-        if self.name[..] == name[..] {
+        if self.name[..].cmp(name).is_eq() {
             return Ok(true);
         }
         self.note_other_file(pages, device, name)

@@ -43,7 +43,9 @@ impl SearchKey {
         requires fits { length value.now ≤ count }
         ensures { self.new ≡ extended_bytes count byte value.now }
     {
-        self.bytes = [byte; MOST_KEY_BYTES];
+        if value.len() < count {
+            self.bytes = [byte; MOST_KEY_BYTES];
+        }
         self.bytes[..value.len()].copy_from_slice(value);
         self.length = count;
     }

@@ -17,7 +17,7 @@ use Rattle.lru.specs.LruCache.{LruCache, lru_cache, promoted, put_entries}
 use Rattle.lru.proofs.Pairs.{lookup-lookup_entry}
 use Rattle.lru.proofs.Splits.{Contains-head}
 use Rattle.lru.proofs.CallerLemmas.{Contains-lookup, Contains-promoted, Contains-remove_entry, Contains-put_entries}
-use Rattle.pages.specs.Cache.{IsCacheOf, Recalls, StaysOut, ComesIn, CachesPage, KeepsChanges, Gathers}
+use Rattle.pages.specs.Cache.{IsCacheOf, is_first, Recalls, StaysOut, ComesIn, CachesPage, KeepsChanges, Gathers}
 use Rattle.pages.specs.Changes.{pages_after, changed_pages, ChangesPage}
 use Rattle.pages.specs.declared.change.Change.{Change}
 use Rattle.pages.proofs.Edits.{changed_at, away_same, is_only, only_same}
@@ -67,6 +67,17 @@ promoted_first entries page is =
     let same = lookup-lookup_entry (nat_eq page) entries in
     put_first (lookup_entry (nat_eq page) entries) entries (remove_entry (nat_eq page) entries) (ap is_some same ∙ is)
     ∙ same
+
+-- the first entry is found, and it is the first one as it is
+pub first_found : (entries : List (ℕ × Sector)) (page : ℕ) → is_first page entries ≡ true
+    → is_some (lookup (nat_eq page) entries) ≡ true
+first_found [] page is = absurd (false≢true is)
+first_found (e ∷ entries) page is = rw is refl
+
+pub first_stays : (entries : List (ℕ × Sector)) (page : ℕ) → is_first page entries ≡ true
+    → promoted (nat_eq page) entries ≡ entries
+first_stays [] page is = absurd (false≢true is)
+first_stays (e ∷ entries) page is = rw is refl
 
 pub after_promoted : (pages : List (Option Sector)) (changed : List ℕ) (entries : List (ℕ × Sector)) (page : ℕ)
     → IsCacheOf pages changed entries → IsCacheOf pages changed (promoted (nat_eq page) entries)

@@ -1,6 +1,7 @@
 -- The cache of pages as committed.
-use Rattle.std.specs.Prelude.{◌≡◌, ◌⊎◌, ℕ, List, nat_eq, Option, Some, None, IsSome, slice_index_or, Contains}
+use Rattle.std.specs.Prelude.{◌≡◌, ◌⊎◌, ℕ, List, Bool, false, nat_eq, Option, Some, None, IsSome, slice_get, slice_index_or, Contains}
 use Rattle.std.specs.Map.{lookup, remove_entry}
+use Rattle.std.specs.Option.{option_map_or}
 use Rattle.station.specs.Disk.{Sector}
 use Rattle.lru.specs.LruCache.{LruCache, lru_cache, promoted, put_entries}
 use Rattle.pages.specs.declared.change.Change.{Change}
@@ -9,6 +10,10 @@ use Rattle.pages.specs.declared.change.Change.{Change}
 pub record IsCacheOf (pages : List (Option Sector)) (changed : List ℕ) (entries : List (ℕ × Sector)) : Type 0 where
   pub right : (e : ℕ × Sector) → Contains entries e → slice_index_or pages e.0 None ≡ Some e.1
   pub unchanged : (e : ℕ × Sector) → Contains entries e → Contains changed e.0 → ⊥
+
+-- whether the most recently used page has this number
+abbrev pub is_first : ℕ → List (ℕ × Sector) → Bool
+is_first page entries = option_map_or (λ e. nat_eq page e.0) (slice_get entries 0) false
 
 -- without a page
 abbrev pub cache_without : ℕ → LruCache ℕ Sector → LruCache ℕ Sector

@@ -5,7 +5,7 @@ ghost use Rattle.std.specs.Map.{lookup};
 ghost use Rattle.station.specs.Calls.{OnlyReads};
 ghost use Rattle.lru.specs.LruCache.{lru_cache, promoted, IsValid};
 ghost use Rattle.pages.specs.Image.{pages_in};
-ghost use Rattle.pages.specs.Cache.{IsCacheOf, Recalls, CachesPage, Loads, KeepsChanges, cache_without};
+ghost use Rattle.pages.specs.Cache.{IsCacheOf, is_first, Recalls, CachesPage, Loads, KeepsChanges, cache_without};
 
 use crate::change::{Change, clear_places};
 use crate::error::PagesError;
@@ -54,12 +54,25 @@ pub(crate) fn seen_page(cache: &LruCache<u32, PageBytes>, page: u32) -> Option<&
     }
 }
 
+/// Whether a page is the most recently used one. It takes no look-up.
+fn is_most_recent(cache: &LruCache<u32, PageBytes>, page: u32) -> bool
+    ensures { result ≡ is_first page cache.now.entries }
+{
+    match cache.peek_mru() {
+        Some((first, _)) => page == *first,
+        None => false,
+    }
+}
+
 /// A page of the cache becomes the most recently used one. It returns whether the cache has the page.
 pub(crate) fn promote_page(cache: &mut LruCache<u32, PageBytes>, page: u32) -> bool
     ensures is_there { result ≡ is_some (lookup (nat_eq page) cache.old.entries) }
     ensures entries { cache.new
         ≡ lru_cache (promoted (nat_eq page) cache.old.entries) cache.old.cap }
 {
+    if is_most_recent(cache, page) {
+        return true;
+    }
     cache.promote(&page)
 }
 

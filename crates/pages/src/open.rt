@@ -41,7 +41,7 @@ pub(crate) fn read_volume<D: Device>(alloc: Global, device: &mut D) -> Result<Vo
     Ok(volume)
 }
 
-/// What the maps of a root name, beside the roots.
+/// What the maps of a root name, in addition to the roots.
 #[derive(Drop)]
 struct Named {
     /// The sector of each page.

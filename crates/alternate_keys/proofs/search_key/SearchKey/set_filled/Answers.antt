@@ -1,8 +1,11 @@
-use Rattle.std.proofs.Common.{◌≡◌, ◌≤◌, ◌-◌, ◌++◌, ℕ, zero, suc, List, [], ◌∷◌, length, take, drop, ap, ◌∙◌, arith}
+use Rattle.std.proofs.Common.{◌≡◌, ◌≤◌, ◌-◌, ◌++◌, ℕ, zero, suc, List, [], ◌∷◌, length, take, drop}
+use Rattle.std.proofs.Common.{ap, sym, subst, ◌∙◌, arith}
 use Rattle.std.specs.Prelude.{replicate}
 use Rattle.std.proofs.lemmas.List.{take-replicate, drop-replicate}
 use Rattle.alternate_keys.specs.Aims.{extended_bytes}
+use Rattle.alternate_keys.specs.declared.search_key.SearchKey.TheInside.{Inside}
 use Rattle.alternate_keys.proofs.search_key.SearchKey.set_filled.Goals as goal
+use Rattle.alternate_keys.proofs.search_key.SearchKey.set_filled.Goals.{then-value-count, else-value-count}
 
 take_over : (front rest : List ℕ) (count : ℕ) → length front ≤ count
     → take count (front ++ rest) ≡ front ++ take (count - length front) rest
@@ -22,6 +25,24 @@ filled value front count byte same few fits =
     ∙ take_over value (replicate {A = ℕ} (200 - length value) byte) count fits
     ∙ ap (λ (l : List ℕ). value ++ l) (take-replicate (count - length value) (200 - length value) byte (omega arith))
 
+-- The bytes of a whole value are overwritten, and no other is looked at.
+whole : (value front rest : List ℕ) (count byte : ℕ) → front ≡ value → count ≤ length value → length value ≤ count
+    → take count (front ++ rest) ≡ extended_bytes count byte value
+whole value front rest count byte same most fits =
+    let none : count - length value ≡ 0 = omega (arith, most) in
+    ap (λ (l : List ℕ). take count (l ++ rest)) same ∙ take_over value rest count fits
+    ∙ ap (λ (n : ℕ). value ++ take n rest) none ∙ ap (λ (n : ℕ). value ++ replicate {A = ℕ} n byte) (sym none)
+
 pub returns : goal.returns
-returns c = filled c.args.value.now c.copy_from_slice.new.self c.args.count c.args.byte c.copy_from_slice.ensures.after
-    c.requires.count c.requires.fits
+returns c =
+    let value = c.args.value.now in
+    let front = c.copy_from_slice.new.self in
+    let same : front ≡ value = c.copy_from_slice.ensures.after in
+    (elim c.if-value-count.branch [
+      | then-value-count w ↦ subst (λ (key : Inside).
+          take c.args.count (front ++ drop (length value) key.bytes) ≡ extended_bytes c.args.count c.args.byte value)
+          (sym w.self-inside-is)
+          (filled value front c.args.count c.args.byte same c.requires.count c.requires.fits)
+      | else-value-count w ↦ whole value front (drop (length value) c.if-value-count.self-inside.bytes) c.args.count
+          c.args.byte same (omega (arith, w.if-value-count)) c.requires.fits
+    ])
