@@ -1,11 +1,14 @@
 -- Small pages, worked out.
-use Rattle.std.proofs.Common.{◌≡◌, ℕ, List, [], ◌∷◌, ◌++◌, Some, None, refl}
+use Rattle.std.proofs.Common.{◌≡◌, ℕ, List, [], ◌∷◌, ◌++◌, Some, None, refl, arith}
+use Rattle.std.specs.Prelude.{Ok, Err}
+use Rattle.std.proofs.lemmas.List.Elements.{All-from_recursion, All-head}
 use Rattle.std.specs.declared.cmp.Ordering.TheVariants.{Less, Equal, Greater}
 use Rattle.btree_pages.specs.declared.row_layout.RowLayout.{RowLayout}
 use Rattle.btree_pages.specs.declared.row_layout.Kind.TheVariants.{Leaf, Inner}
 use Rattle.btree_pages.specs.RowLayouts.{capacity, row_length}
-use Rattle.btree_pages.specs.Keys.{child_of, key_cmp, key_of, rest_of}
+use Rattle.btree_pages.specs.Keys.{child_of, key_cmp, key_of, keys_of, rest_of, Ascend, Precedes}
 use Rattle.btree_pages.specs.Node.{Node, kind_in, node_in, rows_in}
+use Rattle.btree_pages.specs.Searches.{HasKeyAt, SplitsRows}
 use Rattle.btree_pages.specs.Edits.{node_with_row, node_without_row, with_key, with_rest}
 
 -- keys of two bytes, values of one
@@ -76,3 +79,31 @@ other_value = refl
 
 other_key : with_key (leaf_with ((1 ∷ 2 ∷ 3 ∷ []) ∷ [])) 0 (8 ∷ 9 ∷ []) ≡ leaf_with ((8 ∷ 9 ∷ 3 ∷ []) ∷ [])
 other_key = refl
+
+-- three rows, with the keys 1 1, 3 3 and 5 5
+abbrev three : Node
+three = leaf_with ((1 ∷ 1 ∷ 1 ∷ []) ∷ (3 ∷ 3 ∷ 3 ∷ []) ∷ (5 ∷ 5 ∷ 5 ∷ []) ∷ [])
+
+key_in_the_middle : HasKeyAt three (3 ∷ 3 ∷ []) 1
+key_in_the_middle = (omega arith, refl)
+
+found_in_the_middle : SplitsRows three (3 ∷ 3 ∷ []) (Ok 1)
+found_in_the_middle = λ ascend. (
+  All-from_recursion (λ row. Precedes (key_of pairs row) (3 ∷ 3 ∷ [])) ((1 ∷ 1 ∷ 1 ∷ []) ∷ []) (refl, tt),
+  All-from_recursion (λ row. Precedes (3 ∷ 3 ∷ []) (key_of pairs row)) ((5 ∷ 5 ∷ 5 ∷ []) ∷ []) (refl, tt),
+)
+
+missing_in_the_middle : SplitsRows three (4 ∷ 4 ∷ []) (Err 2)
+missing_in_the_middle = λ ascend. (
+  All-from_recursion (λ row. Precedes (key_of pairs row) (4 ∷ 4 ∷ [])) ((1 ∷ 1 ∷ 1 ∷ []) ∷ (3 ∷ 3 ∷ 3 ∷ []) ∷ [])
+      (refl, (refl, tt)),
+  All-from_recursion (λ row. Precedes (4 ∷ 4 ∷ []) (key_of pairs row)) ((5 ∷ 5 ∷ 5 ∷ []) ∷ []) (refl, tt),
+)
+
+-- no lesser row is behind the place
+not_at_the_front : Ascend (keys_of pairs three.rows) → SplitsRows three (4 ∷ 4 ∷ []) (Err 1) → ⊥
+not_at_the_front ascend splits =
+    let greater : key_cmp (4 ∷ 4 ∷ []) (3 ∷ 3 ∷ []) ≡ Less =
+    All-head (λ row. Precedes (4 ∷ 4 ∷ []) (key_of pairs row)) (3 ∷ 3 ∷ 3 ∷ []) ((5 ∷ 5 ∷ 5 ∷ []) ∷ [])
+    (splits ascend).1 in
+    cc
