@@ -30,7 +30,7 @@ const NO_PLACE: Place = Place {
 };
 
 /// The most that the shapes of code ask for.
-#[derive(Clone, Copy, PartialEq, Eq)]
+#[derive(Clone, Copy)]
 pub struct Room {
     pub numbers: usize,
     pub places: usize,

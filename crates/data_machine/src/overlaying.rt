@@ -4,10 +4,9 @@ ghost use Rattle.std.specs.Prelude.{◌≡◌, ◌+◌, ◌<◌, ◌≤◌, leng
 ghost use Rattle.source_tree.specs.Initializing.{overlaid};
 ghost use Rattle.data_instructions.specs.Scratch.{Continues};
 ghost use Rattle.data_instructions.specs.Table as spec;
-ghost use Rattle.data_instructions.specs.Tables.{item_place};
 ghost use Rattle.data_machine.specs.Data.{scratch_of};
 ghost use Rattle.data_machine.specs.Comes.{IsStepOf, KeepsRoom};
-ghost use Rattle.data_machine.specs.Finds.{IsAtOffset, FindsItem};
+ghost use Rattle.data_machine.specs.Finds.{FindsItem};
 ghost use Rattle.data_machine.specs.Overlays.{byte_over};
 ghost use Rattle.data_machine.specs.Writing.{with_part};
 
@@ -60,24 +59,8 @@ impl Data {
         let place = self.places.pop();
         let one = item_of(tables, place.item);
         let part = part_of(one, place.length);
-        self.overlay_at(seen(one, &part), place.offset, bytes, marks)
-    }
-
-    /// The same with an item at an offset.
-    fn overlay_at(
-        &mut self,
-        one: &DataItem,
-        offset: usize,
-        bytes: &[u8],
-        marks: &[u8],
-    ) -> Result<(), ProgramFault>
-        requires { IsAtOffset one.now self.old.areas offset }
-        ensures does { IsStepOf result (scratch_of self.new) (spec.laid_over
-            (spec.pattern_of bytes.now marks.now) (item_place one.now offset)
-            (scratch_of self.old)) }
-        ensures keeps { KeepsRoom self.old self.new }
-    {
-        self.areas.overlay(one, offset, bytes, marks);
+        self.areas
+            .overlay(seen(one, &part), place.offset, bytes, marks);
         Ok(())
     }
 

@@ -10,7 +10,7 @@ ghost use Rattle.data_machine.specs.Lines.{HasLineRoom, HasTextRoom};
 
 use crate::data::Data;
 use crate::seen::{part_of, seen};
-use crate::superinstruction_work::item_of;
+use crate::superinstruction_work::{item_of, text_of};
 use data_instructions::{DataTables, ProgramFault, TextIndex};
 
 impl Data {
@@ -44,8 +44,8 @@ impl Data {
             text.number) (λ bytes. spec.append_step bytes (scratch_of self.old))) }
         ensures keeps { KeepsRoom self.old self.new }
     {
-        let bytes = &tables.texts.as_slice()[text.number as usize];
-        self.line.append(bytes.as_slice());
+        let bytes = text_of(tables, text.number as usize);
+        self.line.append(bytes);
         Ok(())
     }
 

@@ -1,7 +1,8 @@
-use Rattle.std.proofs.Common.{ap}
+use Rattle.std.proofs.Common.{ap, sym}
 use Rattle.std.specs.Prelude.{Ok}
 use Rattle.items.specs.Texts.{padded_text}
 use Rattle.source_tree.specs.References.{storage_with}
+use Rattle.source_tree.specs.Storage.{Storage}
 use Rattle.data_instructions.specs.declared.tables.DataItem.{DataItem}
 use Rattle.data_instructions.specs.Scratch.{Continues}
 use Rattle.data_machine.specs.Data.{scratch_of}
@@ -30,8 +31,8 @@ seen-requires-clause-shortened c =
     c.item_of-one.result.now c.item_of-one.ensures c.part_of-part.result
     (ap (λ (d : DataItem). d.item.length) c.part_of-part.ensures)
 
-pub accept_at-requires : goal.accept_at-requires
-accept_at-requires c =
+pub pad-requires : goal.pad-requires
+pad-requires c =
     seen_stands c.args.tables.now c.args.self.now.areas c.args.self.now.places.newest_first
     c.requires.operand c.pop-place.result c.pop-place.new.self.newest_first c.pop-place.ensures.newest
     c.item_of-one.result.now c.item_of-one.ensures c.part_of-part.result
@@ -44,7 +45,10 @@ returns-clause-does c =
     c.requires.operand c.pop-place.result c.pop-place.new.self.newest_first c.pop-place.ensures.newest
     c.item_of-one.result.now c.item_of-one.ensures c.part_of-part.result
     (ap (λ (d : DataItem). d.item.length) c.part_of-part.ensures)
-    c.seen.result.now c.seen.ensures (Ok c.pop-place.result) (scratch_of c.accept_at.new.self)
+    c.seen.result.now c.seen.ensures (Ok c.pop-place.result)
+    (record (scratch_of c.args.self.now) { storage = c.pad.new.self; places = c.pop-place.new.self.newest_first })
     (scratch_of c.args.self.now) (λ place t. Continues
     (record t { storage = storage_with place (padded_text place.item.length c.args.line.now) t.storage }))
-    c.pop-place.ensures.newest c.accept_at.ensures.does
+    c.pop-place.ensures.newest
+    (ap (λ (m : Storage). Continues (record (scratch_of c.args.self.now)
+    { storage = m; places = c.pop-place.new.self.newest_first })) (sym c.pad.ensures.stores))

@@ -1,5 +1,10 @@
-use Rattle.std.proofs.Common.{ap}
+use Rattle.std.proofs.Common.{ap, sym}
+use Rattle.std.specs.Prelude.{Result, Ok}
+use Rattle.source_tree.specs.Storage.{Storage}
+use Rattle.data_instructions.specs.declared.fault.ProgramFault.{ProgramFault}
+use Rattle.data_instructions.specs.declared.place.Place.{Place}
 use Rattle.data_instructions.specs.declared.tables.DataItem.{DataItem}
+use Rattle.data_instructions.specs.Scratch.{Continues}
 use Rattle.data_instructions.specs.Table as spec
 use Rattle.data_machine.specs.Data.{scratch_of}
 use Rattle.data_machine.proofs.Newest.{some_place, item_within, item_whole, part_editing, seen_stands, newest_does}
@@ -28,8 +33,8 @@ seen-requires-clause-shortened c =
     c.item_of-one.result.now c.item_of-one.ensures c.part_of-part.result
     (ap (λ (d : DataItem). d.item.length) c.part_of-part.ensures)
 
-pub overlay_at-requires : goal.overlay_at-requires
-overlay_at-requires c =
+pub overlay-requires : goal.overlay-requires
+overlay-requires c =
     seen_stands c.args.tables.now c.args.self.now.areas c.args.self.now.places.newest_first
     c.requires.operand c.pop-place.result c.pop-place.new.self.newest_first c.pop-place.ensures.newest
     c.item_of-one.result.now c.item_of-one.ensures c.part_of-part.result
@@ -39,11 +44,13 @@ overlay_at-requires c =
 pub returns-clause-does : goal.returns-clause-does
 returns-clause-does c =
     let now = scratch_of c.args.self.now in
-    let after = scratch_of c.overlay_at.new.self in
-    step_found c.overlay_at.result after _ _ c.text_of-bytes.result.now c.text_of-bytes.ensures
-    (step_found c.overlay_at.result after _ _ c.text_of-marks.result.now c.text_of-marks.ensures
+    let laid = λ (m : Storage). record now { storage = m; places = c.pop-place.new.self.newest_first } in
+    let after = laid c.overlay.new.self in
+    let done : Result Place ProgramFault = Ok c.pop-place.result in
+    step_found done after _ _ c.text_of-bytes.result.now c.text_of-bytes.ensures
+    (step_found done after _ _ c.text_of-marks.result.now c.text_of-marks.ensures
     (newest_does c.args.tables.now c.args.self.now.areas _ c.requires.operand _ _ c.pop-place.ensures.newest _
     c.item_of-one.ensures c.part_of-part.result (ap (λ (d : DataItem). d.item.length) c.part_of-part.ensures) _
-    c.seen.ensures c.overlay_at.result after now
+    c.seen.ensures done after now
     (spec.laid_over (spec.pattern_of c.text_of-bytes.result.now c.text_of-marks.result.now))
-    c.pop-place.ensures.newest c.overlay_at.ensures.does))
+    c.pop-place.ensures.newest (ap (λ (m : Storage). Continues (laid m)) (sym c.overlay.ensures.stores))))
