@@ -173,6 +173,15 @@ tallying_reader = do
 
 -- ---- reading REPLACING
 
+-- x, the word between, x bd
+unfoldable pub replacement_reader : Reserved → Parser ReplacedText
+replacement_reader between = do
+  one ← text_reader
+  expect between
+  by ← text_reader
+  limits ← limits_reader
+  pure (record { text = one; by = by; limits = limits })
+
 unfoldable pub replaced_text_reader : Parser ReplacedText
 replaced_text_reader = do
   one ← text_reader

@@ -47,25 +47,8 @@ fn adding_to(
     }
 }
 
-/// After the operands: GIVING and receivers.
-#[tactic(auto, unfolding(crate::specs::Adding::adding_up_reader))]
-fn adding_up(
-    alloc: Global,
-    operands: Items<Operand>,
-    tokens: &mut Tokens<'_>,
-) -> Result<Operation, ReadFault>
-    ensures { Reads (spec.adding_up_reader operands tokens.old) result tokens.new }
-{
-    tokens.expect(Reserved::Giving)?;
-    let receivers = all_receivers(alloc, tokens)?;
-    Ok(Operation::AddGiving {
-        operands,
-        receivers,
-    })
-}
-
-/// After the operands.
-#[tactic(auto, unfolding(crate::specs::Adding::added_reader))]
+/// After the operands: from TO on, or GIVING and receivers.
+#[tactic(auto, unfolding(crate::specs::Adding::added_reader, crate::specs::Adding::adding_up_reader))]
 fn added(
     alloc: Global,
     operands: Items<Operand>,
@@ -74,8 +57,12 @@ fn added(
     ensures { Reads (spec.added_reader operands tokens.old) result tokens.new }
 {
     if tokens.at_word(Reserved::To) {
-        adding_to(alloc, operands, tokens)
-    } else {
-        adding_up(alloc, operands, tokens)
+        return adding_to(alloc, operands, tokens);
     }
+    tokens.expect(Reserved::Giving)?;
+    let receivers = all_receivers(alloc, tokens)?;
+    Ok(Operation::AddGiving {
+        operands,
+        receivers,
+    })
 }

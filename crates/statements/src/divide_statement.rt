@@ -13,13 +13,17 @@ use std::alloc::Global;
 use tokens::Reserved;
 
 /// From the verb on, without its phrases.
-#[tactic(auto, unfolding(crate::specs::Dividing::divide_reader))]
+#[tactic(auto, unfolding(crate::specs::Dividing::divide_reader, crate::specs::Dividing::divided_reader))]
 pub fn read_divide(alloc: Global, tokens: &mut Tokens<'_>) -> Result<Operation, ReadFault>
     ensures { Reads (spec.divide_reader tokens.old) result tokens.new }
 {
     tokens.expect(Reserved::Divide)?;
     let first = number_operand(alloc, tokens)?;
-    divided(alloc, first, tokens)
+    if tokens.at_word(Reserved::By) {
+        by(alloc, first, tokens)
+    } else {
+        into(alloc, first, tokens)
+    }
 }
 
 /// The one receiver of a list.
@@ -118,16 +122,4 @@ fn by(alloc: Global, first: Operand, tokens: &mut Tokens<'_>) -> Result<Operatio
     let (operands, ()) = beside((first, second), tokens.expect(Reserved::Giving))?;
     let ((first, second), receivers) = beside(operands, all_receivers(alloc, tokens))?;
     given(alloc, first, DivisionOrder::By, second, receivers, tokens)
-}
-
-/// From INTO or BY on.
-#[tactic(auto, unfolding(crate::specs::Dividing::divided_reader))]
-fn divided(alloc: Global, first: Operand, tokens: &mut Tokens<'_>) -> Result<Operation, ReadFault>
-    ensures { Reads (spec.divided_reader first tokens.old) result tokens.new }
-{
-    if tokens.at_word(Reserved::By) {
-        by(alloc, first, tokens)
-    } else {
-        into(alloc, first, tokens)
-    }
 }

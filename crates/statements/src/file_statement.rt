@@ -208,18 +208,8 @@ fn read_key(alloc: Global, tokens: &mut Tokens<'_>) -> Result<Option<Reference>,
     item_at(alloc, tokens, after)
 }
 
-/// The relation and the key of a START, after KEY.
-#[tactic(auto, unfolding(crate::specs::Filing::some_key_reader))]
-fn some_key(alloc: Global, tokens: &mut Tokens<'_>) -> Result<Option<StartKey>, ReadFault>
-    ensures { Reads (rule.some_key_reader tokens.old) result tokens.new }
-{
-    let operator = relation(tokens)?;
-    let key = reference(alloc, tokens)?;
-    Ok(Some(StartKey { operator, key }))
-}
-
-/// The KEY phrase of a START, where it stands.
-#[tactic(auto, unfolding(crate::specs::Filing::start_key_reader))]
+/// The KEY phrase of a START, where it stands: a relation and the key.
+#[tactic(auto, unfolding(crate::specs::Filing::start_key_reader, crate::specs::Filing::some_key_reader))]
 fn start_key(alloc: Global, tokens: &mut Tokens<'_>) -> Result<Option<StartKey>, ReadFault>
     ensures { Reads (rule.start_key_reader tokens.old) result tokens.new }
 {
@@ -227,5 +217,7 @@ fn start_key(alloc: Global, tokens: &mut Tokens<'_>) -> Result<Option<StartKey>,
         return Ok(None);
     };
     tokens.go_to(after);
-    some_key(alloc, tokens)
+    let operator = relation(tokens)?;
+    let key = reference(alloc, tokens)?;
+    Ok(Some(StartKey { operator, key }))
 }

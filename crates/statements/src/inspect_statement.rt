@@ -27,8 +27,8 @@ pub fn read_inspect(alloc: Global, tokens: &mut Tokens<'_>) -> Result<Verb<State
     Ok(Verb::TextStatement(inspected(subject, alloc, tokens)?))
 }
 
-/// What is after the subject.
-#[tactic(auto, unfolding(crate::specs::Inspecting::inspected_of))]
+/// What is after the subject: a conversion, or the phrases TALLYING and REPLACING.
+#[tactic(auto, unfolding(crate::specs::Inspecting::inspected_of, crate::specs::Inspecting::convert_of, crate::specs::Inspecting::phrases_of))]
 fn inspected(
     subject: Reference,
     alloc: Global,
@@ -37,48 +37,38 @@ fn inspected(
     ensures { Reads (rule.inspected_of subject tokens.old) result tokens.new }
 {
     if tokens.at_word(Reserved::Converting) {
-        converting(subject, alloc, tokens)
+        let (subject, texts) = beside(subject, converted_texts(alloc, tokens))?;
+        Ok(TextStatement::Convert(Converting { subject, texts }))
     } else {
-        with_phrases(subject, alloc, tokens)
+        let (subject, (tallying, replacing)) = beside(subject, phrases(alloc, tokens))?;
+        Ok(TextStatement::Inspect(InspectStatement {
+            subject,
+            tallying,
+            replacing,
+        }))
     }
 }
 
-#[tactic(auto, unfolding(crate::specs::Inspecting::convert_of))]
-fn converting(
-    subject: Reference,
-    alloc: Global,
-    tokens: &mut Tokens<'_>,
-) -> Result<TextStatement, ReadFault>
-    ensures { Reads (rule.convert_of subject tokens.old) result tokens.new }
-{
-    let (subject, texts) = beside(subject, converted_texts(alloc, tokens))?;
-    Ok(TextStatement::Convert(Converting { subject, texts }))
-}
-
-#[tactic(auto, unfolding(crate::specs::Inspecting::phrases_of))]
-fn with_phrases(
-    subject: Reference,
-    alloc: Global,
-    tokens: &mut Tokens<'_>,
-) -> Result<TextStatement, ReadFault>
-    ensures { Reads (rule.phrases_of subject tokens.old) result tokens.new }
-{
-    let (subject, (tallying, replacing)) = beside(subject, phrases(alloc, tokens))?;
-    Ok(TextStatement::Inspect(InspectStatement {
-        subject,
-        tallying,
-        replacing,
-    }))
-}
-
 /// CONVERTING, a text, TO, and the text whose characters come in its place.
-#[tactic(auto, unfolding(crate::specs::Inspecting::converted_texts_reader))]
+#[tactic(auto, unfolding(crate::specs::Inspecting::converted_texts_reader, crate::specs::Inspecting::replacement_reader))]
 fn converted_texts(alloc: Global, tokens: &mut Tokens<'_>) -> Result<ReplacedText, ReadFault>
     ensures { Reads (rule.converted_texts_reader tokens.old) result tokens.new }
 {
     tokens.expect(Reserved::Converting)?;
+    replacement(alloc, Reserved::To, tokens)
+}
+
+/// A text, this word, and the text in its place.
+#[tactic(auto, unfolding(crate::specs::Inspecting::replacement_reader))]
+fn replacement(
+    alloc: Global,
+    word: Reserved,
+    tokens: &mut Tokens<'_>,
+) -> Result<ReplacedText, ReadFault>
+    ensures { Reads (rule.replacement_reader word tokens.old) result tokens.new }
+{
     let one = text(alloc, tokens)?;
-    let (one, ()) = beside(one, tokens.expect(Reserved::To))?;
+    let (one, ()) = beside(one, tokens.expect(word))?;
     let both = beside(one, text(alloc, tokens))?;
     let ((text, by), limits) = beside(both, limits(alloc, tokens))?;
     Ok(ReplacedText { text, by, limits })
@@ -166,17 +156,7 @@ fn limited_text(alloc: Global, tokens: &mut Tokens<'_>) -> Result<TalliedText, R
     Ok(TalliedText { text, limits })
 }
 
-/// A text that is counted; a reference before FOR is none.
-#[tactic(auto, unfolding(crate::specs::Inspecting::tallied_text_reader))]
-fn tallied_text(alloc: Global, tokens: &mut Tokens<'_>) -> Result<TalliedText, ReadFault>
-    ensures { Reads (rule.tallied_text_reader tokens.old) result tokens.new }
-{
-    if after_reference_before(tokens.rest(), Reserved::For).is_some() {
-        return Err(tokens.refuse());
-    }
-    limited_text(alloc, tokens)
-}
-
+/// Texts that are counted; a reference before FOR is none.
 struct TalliedTexts;
 
 impl Part<TalliedText> for TalliedTexts {
@@ -188,8 +168,12 @@ impl Part<TalliedText> for TalliedTexts {
 
     ghost beginning = { λ _. rule.begins_tallied_text };
 
+    #[tactic(auto, unfolding(crate::specs::Inspecting::tallied_text_reader))]
     fn read(&self, alloc: Global, tokens: &mut Tokens<'_>) -> Result<TalliedText, ReadFault> {
-        tallied_text(alloc, tokens)
+        if after_reference_before(tokens.rest(), Reserved::For).is_some() {
+            return Err(tokens.refuse());
+        }
+        limited_text(alloc, tokens)
     }
 
     fn begins(&self, tokens: &Tokens<'_>) -> bool {
@@ -197,25 +181,7 @@ impl Part<TalliedText> for TalliedTexts {
     }
 }
 
-/// ALL or LEADING, and the texts after it.
-#[tactic(auto, unfolding(crate::specs::Inspecting::tallied_texts_reader))]
-fn tallied_texts(alloc: Global, tokens: &mut Tokens<'_>) -> Result<Tallied, ReadFault>
-    ensures { Reads (rule.tallied_texts_reader tokens.old) result tokens.new }
-{
-    let occurrences = how_tallied(tokens)?;
-    let texts = several(&TalliedTexts, alloc, tokens)?;
-    Ok(Tallied::Texts { occurrences, texts })
-}
-
-#[tactic(auto, unfolding(crate::specs::Inspecting::tallied_characters_reader))]
-fn tallied_characters(alloc: Global, tokens: &mut Tokens<'_>) -> Result<Tallied, ReadFault>
-    ensures { Reads (rule.tallied_characters_reader tokens.old) result tokens.new }
-{
-    tokens.expect(Reserved::Characters)?;
-    let limits = limits(alloc, tokens)?;
-    Ok(Tallied::Characters { limits })
-}
-
+/// What is counted: characters, or ALL or LEADING and the texts after it.
 struct TalliedEntries;
 
 impl Part<Tallied> for TalliedEntries {
@@ -227,12 +193,16 @@ impl Part<Tallied> for TalliedEntries {
 
     ghost beginning = { λ _. rule.begins_tallied };
 
-    #[tactic(auto, unfolding(crate::specs::Inspecting::tallied_reader))]
+    #[tactic(auto, unfolding(crate::specs::Inspecting::tallied_reader, crate::specs::Inspecting::tallied_texts_reader, crate::specs::Inspecting::tallied_characters_reader))]
     fn read(&self, alloc: Global, tokens: &mut Tokens<'_>) -> Result<Tallied, ReadFault> {
         if begins_tallied_texts(tokens) {
-            tallied_texts(alloc, tokens)
+            let occurrences = how_tallied(tokens)?;
+            let texts = several(&TalliedTexts, alloc, tokens)?;
+            Ok(Tallied::Texts { occurrences, texts })
         } else {
-            tallied_characters(alloc, tokens)
+            tokens.expect(Reserved::Characters)?;
+            let limits = limits(alloc, tokens)?;
+            Ok(Tallied::Characters { limits })
         }
     }
 
@@ -241,17 +211,7 @@ impl Part<Tallied> for TalliedEntries {
     }
 }
 
-/// A counter, FOR, and what it counts.
-#[tactic(auto, unfolding(crate::specs::Inspecting::counting_reader))]
-fn counting(alloc: Global, tokens: &mut Tokens<'_>) -> Result<Tallying, ReadFault>
-    ensures { Reads (rule.counting_reader tokens.old) result tokens.new }
-{
-    let counter = reference(alloc, tokens)?;
-    let (counter, ()) = beside(counter, tokens.expect(Reserved::For))?;
-    let (counter, tallied) = beside(counter, several(&TalliedEntries, alloc, tokens))?;
-    Ok(Tallying { counter, tallied })
-}
-
+/// Counters, each with FOR and what it counts.
 struct Counters;
 
 impl Part<Tallying> for Counters {
@@ -264,8 +224,12 @@ impl Part<Tallying> for Counters {
 
     ghost beginning = { λ _. grammar.begins_name };
 
+    #[tactic(auto, unfolding(crate::specs::Inspecting::counting_reader))]
     fn read(&self, alloc: Global, tokens: &mut Tokens<'_>) -> Result<Tallying, ReadFault> {
-        counting(alloc, tokens)
+        let counter = reference(alloc, tokens)?;
+        let (counter, ()) = beside(counter, tokens.expect(Reserved::For))?;
+        let (counter, tallied) = beside(counter, several(&TalliedEntries, alloc, tokens))?;
+        Ok(Tallying { counter, tallied })
     }
 
     fn begins(&self, tokens: &Tokens<'_>) -> bool {
@@ -273,27 +237,7 @@ impl Part<Tallying> for Counters {
     }
 }
 
-/// The phrase TALLYING.
-#[tactic(auto, unfolding(crate::specs::Inspecting::tallying_reader))]
-fn tallying(alloc: Global, tokens: &mut Tokens<'_>) -> Result<Items<Tallying>, ReadFault>
-    ensures { Reads (rule.tallying_reader tokens.old) result tokens.new }
-{
-    tokens.expect(Reserved::Tallying)?;
-    several(&Counters, alloc, tokens)
-}
-
-/// A text that is replaced, BY, and the text in its place.
-#[tactic(auto, unfolding(crate::specs::Inspecting::replaced_text_reader))]
-fn replaced_text(alloc: Global, tokens: &mut Tokens<'_>) -> Result<ReplacedText, ReadFault>
-    ensures { Reads (rule.replaced_text_reader tokens.old) result tokens.new }
-{
-    let one = text(alloc, tokens)?;
-    let (one, ()) = beside(one, tokens.expect(Reserved::By))?;
-    let both = beside(one, text(alloc, tokens))?;
-    let ((text, by), limits) = beside(both, limits(alloc, tokens))?;
-    Ok(ReplacedText { text, by, limits })
-}
-
+/// Texts that are replaced, each with BY and the text in its place.
 struct ReplacedTexts;
 
 impl Part<ReplacedText> for ReplacedTexts {
@@ -306,8 +250,9 @@ impl Part<ReplacedText> for ReplacedTexts {
 
     ghost beginning = { λ _. begins_text };
 
+    #[tactic(auto, unfolding(crate::specs::Inspecting::replaced_text_reader, crate::specs::Inspecting::replacement_reader))]
     fn read(&self, alloc: Global, tokens: &mut Tokens<'_>) -> Result<ReplacedText, ReadFault> {
-        replaced_text(alloc, tokens)
+        replacement(alloc, Reserved::By, tokens)
     }
 
     fn begins(&self, tokens: &Tokens<'_>) -> bool {
@@ -315,27 +260,7 @@ impl Part<ReplacedText> for ReplacedTexts {
     }
 }
 
-/// ALL, LEADING or FIRST, and the texts after it.
-#[tactic(auto, unfolding(crate::specs::Inspecting::replaced_texts_reader))]
-fn replaced_texts(alloc: Global, tokens: &mut Tokens<'_>) -> Result<Replacing, ReadFault>
-    ensures { Reads (rule.replaced_texts_reader tokens.old) result tokens.new }
-{
-    let occurrences = how_replaced(tokens)?;
-    let texts = several(&ReplacedTexts, alloc, tokens)?;
-    Ok(Replacing::Texts { occurrences, texts })
-}
-
-#[tactic(auto, unfolding(crate::specs::Inspecting::replaced_characters_reader))]
-fn replaced_characters(alloc: Global, tokens: &mut Tokens<'_>) -> Result<Replacing, ReadFault>
-    ensures { Reads (rule.replaced_characters_reader tokens.old) result tokens.new }
-{
-    tokens.expect(Reserved::Characters)?;
-    tokens.expect(Reserved::By)?;
-    let by = text(alloc, tokens)?;
-    let (by, limits) = beside(by, limits(alloc, tokens))?;
-    Ok(Replacing::Characters { by, limits })
-}
-
+/// What is replaced: characters, or ALL, LEADING or FIRST and the texts after it.
 struct ReplacedEntries;
 
 impl Part<Replacing> for ReplacedEntries {
@@ -347,12 +272,18 @@ impl Part<Replacing> for ReplacedEntries {
 
     ghost beginning = { λ _. rule.begins_replaced };
 
-    #[tactic(auto, unfolding(crate::specs::Inspecting::replaced_reader))]
+    #[tactic(auto, unfolding(crate::specs::Inspecting::replaced_reader, crate::specs::Inspecting::replaced_texts_reader, crate::specs::Inspecting::replaced_characters_reader))]
     fn read(&self, alloc: Global, tokens: &mut Tokens<'_>) -> Result<Replacing, ReadFault> {
         if begins_replaced_texts(tokens) {
-            replaced_texts(alloc, tokens)
+            let occurrences = how_replaced(tokens)?;
+            let texts = several(&ReplacedTexts, alloc, tokens)?;
+            Ok(Replacing::Texts { occurrences, texts })
         } else {
-            replaced_characters(alloc, tokens)
+            tokens.expect(Reserved::Characters)?;
+            tokens.expect(Reserved::By)?;
+            let by = text(alloc, tokens)?;
+            let (by, limits) = beside(by, limits(alloc, tokens))?;
+            Ok(Replacing::Characters { by, limits })
         }
     }
 
@@ -382,31 +313,8 @@ fn perhaps_replacing(alloc: Global, tokens: &mut Tokens<'_>) -> Result<Items<Rep
     }
 }
 
-/// TALLYING, and REPLACING where it stands.
-#[tactic(auto, unfolding(crate::specs::Inspecting::counted_reader))]
-fn counted(
-    alloc: Global,
-    tokens: &mut Tokens<'_>,
-) -> Result<(Items<Tallying>, Items<Replacing>), ReadFault>
-    ensures { Reads (rule.counted_reader tokens.old) result tokens.new }
-{
-    let counters = tallying(alloc, tokens)?;
-    beside(counters, perhaps_replacing(alloc, tokens))
-}
-
-/// REPLACING alone.
-#[tactic(auto, unfolding(crate::specs::Inspecting::uncounted_reader))]
-fn uncounted(
-    alloc: Global,
-    tokens: &mut Tokens<'_>,
-) -> Result<(Items<Tallying>, Items<Replacing>), ReadFault>
-    ensures { Reads (rule.uncounted_reader tokens.old) result tokens.new }
-{
-    beside(Items::new(alloc), replacing(alloc, tokens))
-}
-
-/// TALLYING, REPLACING, or both.
-#[tactic(auto, unfolding(crate::specs::Inspecting::phrases_reader))]
+/// TALLYING, with REPLACING or without, or REPLACING alone.
+#[tactic(auto, unfolding(crate::specs::Inspecting::phrases_reader, crate::specs::Inspecting::counted_reader, crate::specs::Inspecting::uncounted_reader, crate::specs::Inspecting::tallying_reader))]
 fn phrases(
     alloc: Global,
     tokens: &mut Tokens<'_>,
@@ -414,8 +322,10 @@ fn phrases(
     ensures { Reads (rule.phrases_reader tokens.old) result tokens.new }
 {
     if tokens.at_word(Reserved::Tallying) {
-        counted(alloc, tokens)
+        tokens.expect(Reserved::Tallying)?;
+        let counters = several(&Counters, alloc, tokens)?;
+        beside(counters, perhaps_replacing(alloc, tokens))
     } else {
-        uncounted(alloc, tokens)
+        beside(Items::new(alloc), replacing(alloc, tokens))
     }
 }

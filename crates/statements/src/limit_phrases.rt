@@ -53,25 +53,21 @@ fn limit(
     Ok(Some(bound(alloc, tokens)?))
 }
 
-/// BEFORE and then AFTER, where AFTER isn't in front.
-#[tactic(auto, unfolding(crate::specs::Limiting::before_first_reader))]
-fn before_first(alloc: Global, tokens: &mut Tokens<'_>) -> Result<Limits, ReadFault>
-    ensures { Reads (rule.before_first_reader tokens.old) result tokens.new }
+/// BEFORE and AFTER, each where it stands, in either order.
+#[tactic(auto, unfolding(crate::specs::Limiting::limits_reader, crate::specs::Limiting::before_first_reader, crate::specs::Limiting::after_first_reader))]
+pub fn limits(alloc: Global, tokens: &mut Tokens<'_>) -> Result<Limits, ReadFault>
+    ensures { Reads (rule.limits_reader tokens.old) result tokens.new }
 {
-    let before = limit(alloc, Reserved::Before, tokens)?;
-    let (before, after) = beside(before, limit(alloc, Reserved::After, tokens))?;
-    Ok(Limits {
-        before,
-        after,
-        after_first: false,
-    })
-}
-
-/// The text of an AFTER in front, from after that word on, and then BEFORE.
-#[tactic(auto, unfolding(crate::specs::Limiting::after_first_reader))]
-fn after_first(alloc: Global, tokens: &mut Tokens<'_>) -> Result<Limits, ReadFault>
-    ensures { Reads (rule.after_first_reader tokens.old) result tokens.new }
-{
+    let Some(behind) = after_word(tokens.rest(), Reserved::After) else {
+        let before = limit(alloc, Reserved::Before, tokens)?;
+        let (before, after) = beside(before, limit(alloc, Reserved::After, tokens))?;
+        return Ok(Limits {
+            before,
+            after,
+            after_first: false,
+        });
+    };
+    tokens.go_to(behind);
     let after = bound(alloc, tokens)?;
     let (after, before) = beside(after, limit(alloc, Reserved::Before, tokens))?;
     let after_first = before.is_some();
@@ -80,16 +76,4 @@ fn after_first(alloc: Global, tokens: &mut Tokens<'_>) -> Result<Limits, ReadFau
         after: Some(after),
         after_first,
     })
-}
-
-/// BEFORE and AFTER, each where it stands, in either order.
-#[tactic(auto, unfolding(crate::specs::Limiting::limits_reader))]
-pub fn limits(alloc: Global, tokens: &mut Tokens<'_>) -> Result<Limits, ReadFault>
-    ensures { Reads (rule.limits_reader tokens.old) result tokens.new }
-{
-    let Some(behind) = after_word(tokens.rest(), Reserved::After) else {
-        return before_first(alloc, tokens);
-    };
-    tokens.go_to(behind);
-    after_first(alloc, tokens)
 }

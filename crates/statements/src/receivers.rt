@@ -31,16 +31,7 @@ pub fn numbers(alloc: Global, tokens: &mut Tokens<'_>) -> Result<Items<Operand>,
     several(&NumberOperands, alloc, tokens)
 }
 
-/// A receiver, with ROUNDED or without.
-#[tactic(auto, unfolding(crate::specs::Receivers::receiver_reader))]
-fn receiver(alloc: Global, tokens: &mut Tokens<'_>) -> Result<Receiver, ReadFault>
-    ensures { Reads (spec.receiver_reader tokens.old) result tokens.new }
-{
-    let item = reference(alloc, tokens)?;
-    let rounded = tokens.take(Reserved::Rounded);
-    Ok(Receiver { item, rounded })
-}
-
+/// Receivers, each with ROUNDED or without.
 struct Receivers;
 
 impl Part<Receiver> for Receivers {
@@ -53,8 +44,11 @@ impl Part<Receiver> for Receivers {
 
     ghost beginning = { λ _. grammar.begins_name };
 
+    #[tactic(auto, unfolding(crate::specs::Receivers::receiver_reader))]
     fn read(&self, alloc: Global, tokens: &mut Tokens<'_>) -> Result<Receiver, ReadFault> {
-        receiver(alloc, tokens)
+        let item = reference(alloc, tokens)?;
+        let rounded = tokens.take(Reserved::Rounded);
+        Ok(Receiver { item, rounded })
     }
 
     fn begins(&self, tokens: &Tokens<'_>) -> bool {
@@ -77,31 +71,16 @@ fn begins_receivers(tokens: &Tokens<'_>) -> bool
     begins_name(tokens) && after_reference_before(tokens.rest(), Reserved::Giving).is_none()
 }
 
-#[tactic(auto, unfolding(crate::specs::Receivers::receivers_alone_reader))]
-fn receivers_alone(alloc: Global, tokens: &mut Tokens<'_>) -> Result<Target, ReadFault>
-    ensures { Reads (spec.receivers_alone_reader tokens.old) result tokens.new }
-{
-    Ok(Target::Receivers(all_receivers(alloc, tokens)?))
-}
-
-#[tactic(auto, unfolding(crate::specs::Receivers::giving_reader))]
-fn giving(alloc: Global, tokens: &mut Tokens<'_>) -> Result<Target, ReadFault>
-    ensures { Reads (spec.giving_reader tokens.old) result tokens.new }
-{
-    let operand = number_operand(alloc, tokens)?;
-    let (operand, ()) = beside(operand, tokens.expect(Reserved::Giving))?;
-    let (operand, receivers) = beside(operand, all_receivers(alloc, tokens))?;
-    Ok(Target::Giving { operand, receivers })
-}
-
 /// Receivers, or an operand and the receivers after GIVING.
-#[tactic(auto, unfolding(crate::specs::Receivers::target_reader))]
+#[tactic(auto, unfolding(crate::specs::Receivers::target_reader, crate::specs::Receivers::receivers_alone_reader, crate::specs::Receivers::giving_reader))]
 pub fn target_of(alloc: Global, tokens: &mut Tokens<'_>) -> Result<Target, ReadFault>
     ensures { Reads (spec.target_reader tokens.old) result tokens.new }
 {
     if begins_receivers(tokens) {
-        receivers_alone(alloc, tokens)
-    } else {
-        giving(alloc, tokens)
+        return Ok(Target::Receivers(all_receivers(alloc, tokens)?));
     }
+    let operand = number_operand(alloc, tokens)?;
+    let (operand, ()) = beside(operand, tokens.expect(Reserved::Giving))?;
+    let (operand, receivers) = beside(operand, all_receivers(alloc, tokens))?;
+    Ok(Target::Giving { operand, receivers })
 }

@@ -13,15 +13,19 @@ use source_tree::{Repetition, TestTime, Until, Varying};
 use std::alloc::Global;
 use tokens::{Kind, Reserved, Token};
 
-/// The phrase, where one stands; `depth` is how deep a condition may nest.
-#[tactic(auto, unfolding(crate::specs::Turning::turns_reader))]
+/// The phrase, where one stands: a number or an item with TIMES, or UNTIL. `depth` is how deep a condition may nest.
+#[tactic(auto, unfolding(crate::specs::Turning::turns_reader, crate::specs::Turning::times_reader, crate::specs::Turning::counted_reader))]
 pub fn turns(alloc: Global, depth: usize, tokens: &mut Tokens<'_>) -> Result<Repetition, ReadFault>
     ensures { Reads (rule.turns_reader depth tokens.old) result tokens.new }
 {
     if begins_integer(tokens) {
-        times(alloc, tokens)
+        let count = integer(alloc, tokens)?;
+        tokens.expect(Reserved::Times)?;
+        Ok(Repetition::Times(count))
     } else if begins_name(tokens) {
-        counted(alloc, tokens)
+        let item = reference(alloc, tokens)?;
+        tokens.expect(Reserved::Times)?;
+        Ok(Repetition::CountedBy(item))
     } else if begins_until(tokens) {
         until(alloc, depth, tokens)
     } else {
@@ -125,24 +129,4 @@ fn until(alloc: Global, depth: usize, tokens: &mut Tokens<'_>) -> Result<Repetit
         varying,
         condition,
     }))
-}
-
-/// An integer and TIMES.
-#[tactic(auto, unfolding(crate::specs::Turning::times_reader))]
-fn times(alloc: Global, tokens: &mut Tokens<'_>) -> Result<Repetition, ReadFault>
-    ensures { Reads (rule.times_reader tokens.old) result tokens.new }
-{
-    let count = integer(alloc, tokens)?;
-    tokens.expect(Reserved::Times)?;
-    Ok(Repetition::Times(count))
-}
-
-/// An item and TIMES.
-#[tactic(auto, unfolding(crate::specs::Turning::counted_reader))]
-fn counted(alloc: Global, tokens: &mut Tokens<'_>) -> Result<Repetition, ReadFault>
-    ensures { Reads (rule.counted_reader tokens.old) result tokens.new }
-{
-    let item = reference(alloc, tokens)?;
-    tokens.expect(Reserved::Times)?;
-    Ok(Repetition::CountedBy(item))
 }

@@ -50,18 +50,7 @@ fn delimiter(alloc: Global, tokens: &mut Tokens<'_>) -> Result<Option<Operand>, 
     Ok(None)
 }
 
-/// Senders and their delimiter.
-#[tactic(auto, unfolding(crate::specs::Stringing::sending_reader))]
-fn sending(alloc: Global, tokens: &mut Tokens<'_>) -> Result<Sending, ReadFault>
-    ensures { Reads (rule.sending_reader tokens.old) result tokens.new }
-{
-    let senders = several(&Operands, alloc, tokens)?;
-    tokens.expect(Reserved::Delimited)?;
-    tokens.skip(Reserved::By);
-    let delimiter = delimiter(alloc, tokens)?;
-    Ok(Sending { senders, delimiter })
-}
-
+/// Senders, each list with its delimiter.
 struct Sendings;
 
 impl Part<Sending> for Sendings {
@@ -74,8 +63,13 @@ impl Part<Sending> for Sendings {
 
     ghost beginning = { λ _. begins_operand };
 
+    #[tactic(auto, unfolding(crate::specs::Stringing::sending_reader))]
     fn read(&self, alloc: Global, tokens: &mut Tokens<'_>) -> Result<Sending, ReadFault> {
-        sending(alloc, tokens)
+        let senders = several(&Operands, alloc, tokens)?;
+        tokens.expect(Reserved::Delimited)?;
+        tokens.skip(Reserved::By);
+        let delimiter = delimiter(alloc, tokens)?;
+        Ok(Sending { senders, delimiter })
     }
 
     fn begins(&self, tokens: &Tokens<'_>) -> bool {
