@@ -1,56 +1,100 @@
 //! A row: a program, and what is to be seen of it.
 
+use std::alloc::{AllocError, Global};
 use std::rt::Files;
-use std::{fs, io};
+use std::{fs, io, str};
 
 /// The budget of a row that names none.
 const BUDGET: u64 = 1_000_000_000;
 
+/// The bytes of each file of a row, or none where there is no such file.
 #[derive(Drop)]
 pub struct Row {
-    pub source: Vec<u8>,
-    /// What it shows.
-    pub shown: Vec<u8>,
-    /// How it ends, in words.
-    pub end: String,
-    pub budget: u64,
-    /// The lines of the console.
-    pub lines: Vec<Vec<u8>>,
-    /// The statuses that it receives, one a line.
-    pub notes: Option<Vec<u8>>,
-    /// The files that it leaves, as `listed` tells them. A row that tells notes or files runs over a new volume.
-    pub files: Option<Vec<u8>>,
+    files: Vec<Option<Vec<u8>>>,
 }
 
 /// What is to be seen of a run: its bytes, its end, and its statuses and its files if they are known.
 #[derive(Clone, Copy)]
 pub struct Expected<'a> {
     pub shown: &'a [u8],
-    pub end: &'a str,
+    pub end: &'a [u8],
     pub notes: Option<&'a [u8]>,
     pub files: Option<&'a [u8]>,
 }
 
+/// The endings of the names of a row's files, in the order of `Part`.
+const ENDINGS: [&str; 7] = ["cob", "out", "end", "budget", "in", "notes", "files"];
+
+/// A file of a row.
+#[derive(Clone, Copy)]
+enum Part {
+    Source,
+    /// What it shows.
+    Shown,
+    /// How it ends, in words.
+    End,
+    Budget,
+    /// The lines of the console.
+    Lines,
+    /// The statuses that it receives, one a line.
+    Notes,
+    /// The files that it leaves, in the words of `listed`.
+    Files,
+}
+
 impl Row {
-    pub fn expected(&self) -> Expected<'_> {
-        Expected {
-            shown: self.shown.as_slice(),
-            end: self.end.as_str(),
-            notes: bytes_of(&self.notes),
-            files: bytes_of(&self.files),
+    fn part(&self, part: Part) -> Option<&[u8]> {
+        match self.files.get(part as usize) {
+            Some(Some(bytes)) => Some(bytes.as_slice()),
+            _ => None,
         }
     }
 
-    /// Whether it runs over a volume.
+    /// The text of the program, which is empty if it has no file.
+    pub fn source(&self) -> &[u8] {
+        self.part(Part::Source).unwrap_or(b"")
+    }
+
+    /// The steps that it may take, or none if they are no number.
+    pub fn budget(&self) -> Option<u64> {
+        match self.part(Part::Budget) {
+            Some(digits) => number(digits),
+            None => Some(BUDGET),
+        }
+    }
+
+    /// The lines of the console, each without its line feed.
+    pub fn lines(&self, alloc: Global) -> Result<Vec<Vec<u8>>, AllocError> {
+        let mut lines = Vec::new(alloc);
+        let bytes = self.part(Part::Lines).unwrap_or(b"");
+        for line in bytes.split(|byte| *byte == b'\n') {
+            lines.push(Vec::from_slice(alloc, line)?)?;
+        }
+        // Nothing follows the last line feed.
+        lines.pop();
+        Ok(lines)
+    }
+
+    pub fn expected(&self) -> Expected<'_> {
+        Expected {
+            shown: self.part(Part::Shown).unwrap_or(b""),
+            end: self.part(Part::End).unwrap_or(b"").trim_ascii_end(),
+            notes: self.part(Part::Notes),
+            files: self.part(Part::Files),
+        }
+    }
+
+    /// Whether it runs over a new volume: it does if it has notes or files.
     pub fn has_volume(&self) -> bool {
-        self.notes.is_some() || self.files.is_some()
+        self.part(Part::Notes).is_some() || self.part(Part::Files).is_some()
     }
 }
 
-fn bytes_of(file: &Option<Vec<u8>>) -> Option<&[u8]> {
-    match file {
-        Some(bytes) => Some(bytes.as_slice()),
-        None => None,
+/// The number that these digits spell, with white space after them, if they are one.
+fn number(digits: &[u8]) -> Option<u64> {
+    match str::from_utf8(digits.trim_ascii_end()) {
+        Ok(text) => text.parse().ok(),
+        Err(_) => None,
     }
 }
 
@@ -58,27 +102,12 @@ fn bytes_of(file: &Option<Vec<u8>>) -> Option<&[u8]> {
 /// lines of the console, `NAME.notes` with the statuses that it receives and `NAME.files` with the files that it leaves.
 pub fn read_row<R: Files + AllocGlobal>(rt: &R, name: &str) -> io::Result<Row> {
     let alloc = rt.alloc();
-    let end = fs::read_to_string(rt, format!(in alloc; "{name}.end")?)?;
-    Ok(Row {
-        source: fs::read(rt, format!(in alloc; "{name}.cob")?)?,
-        shown: fs::read(rt, format!(in alloc; "{name}.out")?)?,
-        end: end.as_str().trim_end().to_string(alloc)?,
-        budget: read_budget(rt, name)?,
-        lines: read_lines(rt, name)?,
-        notes: read_if_there(rt, format!(in alloc; "{name}.notes")?.as_str())?,
-        files: read_if_there(rt, format!(in alloc; "{name}.files")?.as_str())?,
-    })
-}
-
-fn read_budget<R: Files + AllocGlobal>(rt: &R, name: &str) -> io::Result<u64> {
-    match fs::read_to_string(rt, format!(in rt.alloc(); "{name}.budget")?) {
-        Ok(text) => match text.as_str().trim_end().parse() {
-            Ok(budget) => Ok(budget),
-            Err(_) => Err(io::Error::from(io::ErrorKind::InvalidData)),
-        },
-        Err(error) if error.kind() == io::ErrorKind::NotFound => Ok(BUDGET),
-        Err(error) => Err(error),
+    let mut files = Vec::new(alloc);
+    for ending in &ENDINGS {
+        let path = format!(in alloc; "{name}.{ending}")?;
+        files.push(read_if_there(rt, path.as_str())?)?;
     }
+    Ok(Row { files })
 }
 
 /// The bytes of a file, if it is there.
@@ -88,24 +117,4 @@ fn read_if_there<R: Files + AllocGlobal>(rt: &R, path: &str) -> io::Result<Optio
         Err(error) if error.kind() == io::ErrorKind::NotFound => Ok(None),
         Err(error) => Err(error),
     }
-}
-
-/// The lines of the console, each without its line feed.
-fn read_lines<R: Files + AllocGlobal>(rt: &R, name: &str) -> io::Result<Vec<Vec<u8>>> {
-    let alloc = rt.alloc();
-    let mut lines = Vec::new(alloc);
-    let path = format!(in alloc; "{name}.in")?;
-    let Some(bytes) = read_if_there(rt, path.as_str())? else {
-        return Ok(lines);
-    };
-    let mut line = Vec::new(alloc);
-    for byte in bytes.as_slice() {
-        if *byte == b'\n' {
-            lines.push(line)?;
-            line = Vec::new(alloc);
-        } else {
-            line.push(*byte)?;
-        }
-    }
-    Ok(lines)
 }

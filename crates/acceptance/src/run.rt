@@ -17,18 +17,42 @@ const WAYS: [Way; 3] = [Way::Image, Way::Halves, Way::OnePage];
 
 /// How a row differs from what its files say, or how a way of running it differs from another one, if any does.
 pub fn check_row(alloc: Global, row: &Row) -> Result<Option<String>, AllocError> {
-    let by_source = see(alloc, row, Way::Source)?;
-    if let Some(difference) = by_source.difference(alloc, Way::Source, row.expected())? {
-        return Ok(Some(difference));
+    match row.budget() {
+        Some(budget) => check_with(alloc, row, budget),
+        None => Ok(Some("its budget is no number".to_string(alloc)?)),
+    }
+}
+
+/// The same with so many steps.
+fn check_with(alloc: Global, row: &Row, budget: u64) -> Result<Option<String>, AllocError> {
+    let by_source = see(alloc, row, budget, Way::Source)?;
+    if let Some(difference) = by_source.difference(row.expected()) {
+        return described(alloc, Way::Source, difference, &by_source);
     }
     let count = if row.has_volume() { WAYS.len() } else { 1 };
     for way in &WAYS[..count] {
-        let seen = see(alloc, row, *way)?;
-        if let Some(difference) = seen.difference(alloc, *way, by_source.expected())? {
-            return Ok(Some(difference));
+        let seen = see(alloc, row, budget, *way)?;
+        if let Some(difference) = seen.difference(by_source.expected()) {
+            return described(alloc, *way, difference, &seen);
         }
     }
     Ok(None)
+}
+
+/// A difference in words, with what was seen of the run.
+fn described(
+    alloc: Global,
+    way: Way,
+    difference: &str,
+    seen: &Seen,
+) -> Result<Option<String>, AllocError> {
+    let way = way.name();
+    let end = seen.end.as_str();
+    let count = seen.shown.len();
+    let text = format!(in alloc;
+        "{way}: {difference}; it ended as {end}, and showed {count} bytes"
+    )?;
+    Ok(Some(text))
 }
 
 /// How a row is run.
@@ -73,34 +97,27 @@ impl Seen {
     fn expected(&self) -> Expected<'_> {
         Expected {
             shown: self.shown.as_slice(),
-            end: self.end.as_str(),
+            end: self.end.as_bytes(),
             notes: Some(self.notes.as_slice()),
             files: Some(self.files.as_slice()),
         }
     }
 
-    fn difference(
-        &self,
-        alloc: Global,
-        way: Way,
-        expected: Expected<'_>,
-    ) -> Result<Option<String>, AllocError> {
-        let way = way.name();
-        let end = self.end.as_str();
-        let count = self.shown.len();
-        if end != expected.end {
-            return Ok(Some(format!(in alloc; "{way}: it ended as {end}")?));
+    /// What is other than expected, if something is.
+    fn difference(&self, expected: Expected<'_>) -> Option<&'static str> {
+        if self.end.as_bytes() != expected.end {
+            return Some("another end");
         }
         if self.shown.as_slice() != expected.shown {
-            return Ok(Some(format!(in alloc; "{way}: it showed other {count} bytes")?));
+            return Some("other bytes shown");
         }
         if differs(expected.notes, &self.notes) {
-            return Ok(Some(format!(in alloc; "{way}: it received other statuses")?));
+            return Some("other statuses received");
         }
         if differs(expected.files, &self.files) {
-            return Ok(Some(format!(in alloc; "{way}: it left other files")?));
+            return Some("other files left");
         }
-        Ok(None)
+        None
     }
 }
 
@@ -114,45 +131,52 @@ fn differs(expected: Option<&[u8]>, seen: &Vec<u8>) -> bool {
 
 /// A station with the row's console lines, and with a new volume where the row has one.
 fn station_of(alloc: Global, row: &Row, way: Way) -> Result<MemoryStation, AllocError> {
-    let mut lines = Vec::new(alloc);
-    for line in row.lines.as_slice() {
-        lines.push(line.clone()?)?;
-    }
+    let lines = row.lines(alloc)?;
     if row.has_volume() {
         return new_volume(alloc, way.layout(), lines);
     }
     MemoryStation::new(alloc, Vec::new(alloc), lines)
 }
 
-fn see(alloc: Global, row: &Row, way: Way) -> Result<Seen, AllocError> {
+fn see(alloc: Global, row: &Row, budget: u64, way: Way) -> Result<Seen, AllocError> {
     let mut station = station_of(alloc, row, way)?;
     let ending = match way {
-        Way::Source => run_text(alloc, row, &mut station),
-        _ => match compile(alloc, row.source.as_slice()) {
-            Ok(image) => Ending::Run(run_bytes(alloc, row, image.as_slice(), &mut station, way)),
-            Err(fault) => Ending::Compile(fault),
-        },
+        Way::Source => run_text(alloc, row.source(), &mut station, budget),
+        _ => run_compiled(alloc, row.source(), &mut station, budget, way),
     };
     told(alloc, row, &mut station, ending)
 }
 
-fn run_text(alloc: Global, row: &Row, station: &mut MemoryStation) -> Ending {
-    match run_source(alloc, row.source.as_slice(), station, DAY, row.budget) {
+fn run_text(alloc: Global, source: &[u8], station: &mut MemoryStation, budget: u64) -> Ending {
+    match run_source(alloc, source, station, DAY, budget) {
         Ok(ended) => Ending::Run(ended),
+        Err(fault) => Ending::Compile(fault),
+    }
+}
+
+fn run_compiled(
+    alloc: Global,
+    source: &[u8],
+    station: &mut MemoryStation,
+    budget: u64,
+    way: Way,
+) -> Ending {
+    match compile(alloc, source) {
+        Ok(image) => Ending::Run(run_bytes(alloc, image.as_slice(), station, budget, way)),
         Err(fault) => Ending::Compile(fault),
     }
 }
 
 fn run_bytes(
     alloc: Global,
-    row: &Row,
     image: &[u8],
     station: &mut MemoryStation,
+    budget: u64,
     way: Way,
 ) -> Ended {
     match way {
-        Way::OnePage => run_with_one_page(alloc, image, station, row.budget),
-        _ => run_image(alloc, image, station, DAY, row.budget),
+        Way::OnePage => run_with_one_page(alloc, image, station, budget),
+        _ => run_image(alloc, image, station, DAY, budget),
     }
 }
 

@@ -1,14 +1,15 @@
 //! The first rule that a program of one statement breaks, in a tree that no source text has.
-use check_rules::{CheckError, Rule, check};
+//!
+//! What memory lasts for is asserted: with `?`, each function would have as many ways out as calls, and drop a tree on each.
+use check_rules::{BrokenRule, CheckError, Rule, check};
 use source_tree::{
     Arithmetic, DataStatement, Entry, Integer, ItemEntry, Literal, LiteralValue, Name,
     NumericLiteral, Operand, Operation, Paragraph, Phrases, PictureText, Place, Program,
     QualifiedName, Receiver, Reference, Section, Sentence, Sign, Statement, Verb,
 };
 use sqlite_items::Items;
-use std::alloc::{AllocError, Global};
+use std::alloc::Global;
 use std::process::Abort;
-use std::test::Fail;
 
 /// More digits than a numeric literal has.
 const DIGITS: &[u8] = b"1234567890123456789";
@@ -17,85 +18,80 @@ fn at(column: u8) -> Place {
     Place { line: 1, column }
 }
 
-fn list<T: Drop>(alloc: Global, one: T) -> Result<Items<T>, AllocError> {
+fn copied(rt: &impl Abort, alloc: Global, bytes: &[u8]) -> Items<u8> {
+    Items::from_slice(alloc, bytes).expect(rt, "no memory")
+}
+
+fn list<T: Drop>(rt: &impl Abort, alloc: Global, one: T) -> Items<T> {
     let mut all = Items::new(alloc);
-    all.push(one)?;
-    Ok(all)
+    all.push(one).expect(rt, "no memory");
+    all
 }
 
-fn name(alloc: Global, column: u8, characters: &[u8]) -> Result<Name, AllocError> {
-    Ok(Name {
-        characters: Items::from_slice(alloc, characters)?,
+fn name(rt: &impl Abort, alloc: Global, column: u8, characters: &[u8]) -> Name {
+    Name {
+        characters: copied(rt, alloc, characters),
         place: at(column),
-    })
-}
-
-fn integer(alloc: Global, column: u8, digits: &[u8]) -> Result<Integer, AllocError> {
-    Ok(Integer {
-        digits: Items::from_slice(alloc, digits)?,
-        place: at(column),
-    })
+    }
 }
 
 /// `77 M PIC 9`.
-fn item_m(alloc: Global) -> Result<Entry, AllocError> {
-    let picture = PictureText {
-        characters: Items::from_slice(alloc, b"9")?,
-        place: at(16),
-    };
-    Ok(Entry::Item(ItemEntry {
-        level: integer(alloc, 8, b"77")?,
-        name: Some(name(alloc, 12, b"M")?),
+fn item_m(rt: &impl Abort, alloc: Global) -> Entry {
+    Entry::Item(ItemEntry {
+        level: Integer {
+            digits: copied(rt, alloc, b"77"),
+            place: at(8),
+        },
+        name: Some(name(rt, alloc, 12, b"M")),
         redefines: None,
-        picture: Some(picture),
+        picture: Some(PictureText {
+            characters: copied(rt, alloc, b"9"),
+            place: at(16),
+        }),
         usage: None,
         sign: None,
         occurs: None,
         justified: false,
         blank_when_zero: false,
         value: None,
-    }))
-}
-
-fn section(alloc: Global, verb: Verb<Statement>) -> Result<Section, AllocError> {
-    let statement = Statement {
-        place: at(12),
-        verb,
-    };
-    let statements = list(alloc, statement)?;
-    let sentences = list(alloc, Sentence { statements })?;
-    let paragraph = Paragraph {
-        name: None,
-        sentences,
-    };
-    Ok(Section {
-        name: None,
-        paragraphs: list(alloc, paragraph)?,
     })
 }
 
-/// A program of these sections.
-fn program(alloc: Global, sections: Items<Section>) -> Result<Program, AllocError> {
-    Ok(Program {
-        name: name(alloc, 20, b"P")?,
+/// The rule that is broken first, at a column of the first line.
+fn broken(rule: Rule, column: u8) -> Option<CheckError> {
+    let place = at(column);
+    Some(CheckError::Refused(BrokenRule { rule, place }))
+}
+
+/// Asserts what a program of these sections breaks first.
+fn breaks(rt: &impl Abort, alloc: Global, sections: Items<Section>, expected: Option<CheckError>) {
+    let program = Program {
+        name: name(rt, alloc, 20, b"P"),
         selects: Items::new(alloc),
         files: Items::new(alloc),
-        storage: list(alloc, item_m(alloc)?)?,
+        storage: list(rt, alloc, item_m(rt, alloc)),
         sections,
-    })
+    };
+    let found = check(alloc, &program).err();
+    drop(program);
+    assert!(rt; found == expected);
 }
 
-/// The rule that is broken first, and the column of its place.
-fn broken(alloc: Global, program: &Program) -> Option<(Rule, u8)> {
-    match check(alloc, program) {
-        Err(CheckError::Refused(one)) => Some((one.rule, one.place.column)),
-        _ => None,
-    }
-}
-
-fn broken_by(alloc: Global, verb: Verb<Statement>) -> Result<Option<(Rule, u8)>, AllocError> {
-    let sections = list(alloc, section(alloc, verb)?)?;
-    Ok(broken(alloc, &program(alloc, sections)?))
+/// Asserts what a program of one statement breaks first.
+fn statement_breaks(
+    rt: &impl Abort,
+    alloc: Global,
+    verb: Verb<Statement>,
+    expected: Option<CheckError>,
+) {
+    let place = at(12);
+    let statements = list(rt, alloc, Statement { place, verb });
+    let sentences = list(rt, alloc, Sentence { statements });
+    let name = None;
+    let paragraphs = list(rt, alloc, Paragraph { name, sentences });
+    let name = None;
+    let sections = list(rt, alloc, Section { name, paragraphs });
+    breaks(rt, alloc, sections, expected);
 }
 
 fn literal(value: LiteralValue) -> Operand {
@@ -103,102 +99,78 @@ fn literal(value: LiteralValue) -> Operand {
     Operand::Literal(Literal { value, place })
 }
 
-fn number(alloc: Global, whole: &[u8]) -> Result<LiteralValue, AllocError> {
-    Ok(LiteralValue::Numeric(NumericLiteral {
+fn number(rt: &impl Abort, alloc: Global, whole: &[u8]) -> LiteralValue {
+    LiteralValue::Numeric(NumericLiteral {
         sign: Sign::Unsigned,
-        whole: Items::from_slice(alloc, whole)?,
+        whole: copied(rt, alloc, whole),
         decimals: Items::new(alloc),
-    }))
-}
-
-fn reference(alloc: Global) -> Result<Reference, AllocError> {
-    let item = QualifiedName {
-        name: name(alloc, 30, b"M")?,
-        qualifiers: Items::new(alloc),
-    };
-    Ok(Reference {
-        item,
-        subscripts: Items::new(alloc),
-        part: None,
     })
 }
 
-fn receivers(alloc: Global) -> Result<Items<Reference>, AllocError> {
-    list(alloc, reference(alloc)?)
-}
-
-/// MOVE of this operand TO M.
-fn moved(alloc: Global, sender: Operand) -> Result<Verb<Statement>, AllocError> {
-    match receivers(alloc) {
-        Ok(receivers) => Ok(Verb::DataStatement(DataStatement::Move { sender, receivers })),
-        Err(error) => {
-            drop(sender);
-            Err(error)
-        }
+/// M as a receiver.
+fn receiver(rt: &impl Abort, alloc: Global) -> Reference {
+    Reference {
+        item: QualifiedName {
+            name: name(rt, alloc, 30, b"M"),
+            qualifiers: Items::new(alloc),
+        },
+        subscripts: Items::new(alloc),
+        part: None,
     }
 }
 
-/// M as the receiver of an ADD.
-fn sums(alloc: Global) -> Result<Items<Receiver>, AllocError> {
-    let receiver = Receiver {
-        item: reference(alloc)?,
-        rounded: false,
+/// Asserts what a MOVE of this literal TO M breaks first.
+fn move_breaks(rt: &impl Abort, alloc: Global, value: LiteralValue, expected: Option<CheckError>) {
+    let moved = DataStatement::Move {
+        sender: literal(value),
+        receivers: list(rt, alloc, receiver(rt, alloc)),
     };
-    list(alloc, receiver)
+    statement_breaks(rt, alloc, Verb::DataStatement(moved), expected);
 }
 
-/// ADD of this operand TO M.
-fn add(alloc: Global, operand: Operand) -> Result<Verb<Statement>, AllocError> {
-    let operands = list(alloc, operand)?;
+/// Asserts what an ADD of this literal TO M breaks first.
+fn add_breaks(rt: &impl Abort, alloc: Global, value: LiteralValue, expected: Option<CheckError>) {
+    let sum = Receiver {
+        item: receiver(rt, alloc),
+        rounded: false,
+    };
     let operation = Operation::Add {
-        operands,
-        receivers: sums(alloc)?,
+        operands: list(rt, alloc, literal(value)),
+        receivers: list(rt, alloc, sum),
     };
     let phrases = Phrases {
         arose: None,
         did_not: None,
     };
-    Ok(Verb::Arithmetic(Arithmetic { operation, phrases }))
-}
-
-fn same(rt: &impl Abort, told: Option<(Rule, u8)>, expected: Option<(Rule, u8)>) {
-    assert_eq!(rt; told, expected);
+    let added = Arithmetic { operation, phrases };
+    statement_breaks(rt, alloc, Verb::Arithmetic(added), expected);
 }
 
 #[test]
-fn literals_without_a_form(rt: HostRuntime) -> Result<(), Fail> {
+fn literals_without_a_form(rt: HostRuntime) {
     let alloc = rt.alloc();
-    let empty = literal(LiteralValue::Nonnumeric(Items::new(alloc)));
-    let told = broken_by(alloc, moved(alloc, empty)?)?;
-    same(&rt, told, Some((Rule::NonnumericLiteral, 20)));
-    let long = literal(number(alloc, DIGITS)?);
-    let told = broken_by(alloc, moved(alloc, long)?)?;
-    same(&rt, told, Some((Rule::NumericLiteral, 20)));
-    let none = literal(number(alloc, b"")?);
-    let told = broken_by(alloc, moved(alloc, none)?)?;
-    same(&rt, told, Some((Rule::NumericLiteral, 20)));
-    let one = literal(number(alloc, b"1")?);
-    let told = broken_by(alloc, moved(alloc, one)?)?;
-    same(&rt, told, None);
-    Ok(())
+    let empty = LiteralValue::Nonnumeric(Items::new(alloc));
+    move_breaks(&rt, alloc, empty, broken(Rule::NonnumericLiteral, 20));
+    let long = number(&rt, alloc, DIGITS);
+    move_breaks(&rt, alloc, long, broken(Rule::NumericLiteral, 20));
+    let none = number(&rt, alloc, b"");
+    move_breaks(&rt, alloc, none, broken(Rule::NumericLiteral, 20));
+    let one = number(&rt, alloc, b"1");
+    move_breaks(&rt, alloc, one, None);
 }
 
 #[test]
-fn literals_that_are_no_numbers(rt: HostRuntime) -> Result<(), Fail> {
+fn literals_that_are_no_numbers(rt: HostRuntime) {
     let alloc = rt.alloc();
-    let text = literal(LiteralValue::Nonnumeric(Items::from_slice(alloc, b"5")?));
-    let told = broken_by(alloc, add(alloc, text)?)?;
-    same(&rt, told, Some((Rule::Number, 20)));
-    let five = literal(number(alloc, b"5")?);
-    let told = broken_by(alloc, add(alloc, five)?)?;
-    same(&rt, told, None);
-    Ok(())
+    let text = LiteralValue::Nonnumeric(copied(&rt, alloc, b"5"));
+    add_breaks(&rt, alloc, text, broken(Rule::Number, 20));
+    let five = number(&rt, alloc, b"5");
+    add_breaks(&rt, alloc, five, None);
 }
 
 #[test]
-fn no_sections(rt: HostRuntime) -> Result<(), Fail> {
+fn no_sections(rt: HostRuntime) {
     let alloc = rt.alloc();
-    let told = broken(alloc, &program(alloc, Items::new(alloc))?);
-    same(&rt, told, Some((Rule::NoProcedure, 20)));
-    Ok(())
+    let expected = broken(Rule::NoProcedure, 20);
+    breaks(&rt, alloc, Items::new(alloc), expected);
 }

@@ -38,7 +38,7 @@ pub fn word_at(bytes: &[u8; 4096], place: usize) -> u32 {
 pub fn sector_bytes(rt: &impl Abort, station: &mut MemoryStation, sector: u32) -> [u8; 4096] {
     let mut bytes = filled(255);
     assert!(rt; sector < station.count());
-    assert!(rt; station.read(sector, &mut bytes).is_ok());
+    station.read(sector, &mut bytes).expect(rt, "read");
     bytes
 }
 
@@ -47,7 +47,7 @@ pub fn image_of(rt: &impl Abort, alloc: Global, station: &mut MemoryStation) -> 
     let mut image = Vec::new(alloc);
     for sector in 0..station.count() {
         let bytes = sector_bytes(rt, station, sector);
-        assert!(rt; image.push(bytes).is_ok());
+        image.push(bytes).expect(rt, "no memory");
     }
     image
 }
@@ -63,7 +63,7 @@ pub fn changed(
     let mut sector = 0u32;
     for old in before.iter() {
         if sector_bytes(rt, station, sector) != *old {
-            assert!(rt; sectors.push(sector).is_ok());
+            sectors.push(sector).expect(rt, "no memory");
         }
         sector = sector.wrapping_add(1);
     }
@@ -104,15 +104,12 @@ pub fn map_of(entry: usize, sector: u32) -> [u8; 4096] {
 /// Writes a sector of a station, which has to work.
 pub fn put_sector(rt: &impl Abort, station: &mut MemoryStation, sector: u32, bytes: &[u8; 4096]) {
     assert!(rt; sector < station.count());
-    assert!(rt; station.write(sector, bytes).is_ok());
+    station.write(sector, bytes).expect(rt, "write");
 }
 
 /// A station of so many sectors of zeros.
 pub fn blank_station(rt: &impl Abort, alloc: Global, sectors: u32) -> MemoryStation {
-    match station_of_zeros(alloc, sectors) {
-        Ok(station) => station,
-        Err(_) => panic!(rt; "no memory"),
-    }
+    station_of_zeros(alloc, sectors).expect(rt, "no memory")
 }
 
 /// A station with a volume of generation 1, by the description of the format: page 1 in sector 2, page 1,024 in sector 3, their maps

@@ -1,12 +1,11 @@
 //! An opened volume and the station that it is on, with the calls that the rows make.
 //!
-//! Each call asserts first what `pages` asks of its caller. No test has a `?`: what a row expects to work is asserted, since each `?`
-//! in a test is one more path on which everything has to be let go, and proved so.
-use crate::image::{alike, blank_station, changed, filled, image_of, sector_bytes};
-use pages::{PageMap, PagesError, VolumeMark, format};
+//! A call with a condition asserts it first. No test has a `?`: what a row expects to work is asserted, since each `?` in a test is one more
+//! path on which everything has to be dropped, and proved so.
+use crate::image::{alike, blank_station, filled};
+use pages::{PageMap, VolumeMark, format};
 use station::{Device, MemoryStation};
 use std::alloc::Global;
-use std::mem;
 use std::process::Abort;
 
 /// How often a station was to read, to write and to sync.
@@ -20,17 +19,24 @@ pub struct Counts {
 /// An opened volume on its station.
 #[derive(Drop)]
 pub struct Volume {
-    pages: PageMap,
-    station: MemoryStation,
+    pub pages: PageMap,
+    pub station: MemoryStation,
+}
+
+/// What becomes of a page. Its new bytes are all alike.
+#[derive(Clone, Copy)]
+pub enum Change {
+    Edit(u8),
+    /// The page is read past the cache.
+    EditPast(u8),
+    Release,
 }
 
 impl Volume {
     /// Opens the volume of a station, with a cache that is smaller than what most rows read.
     pub fn open(rt: &impl Abort, alloc: Global, mut station: MemoryStation) -> Volume {
-        match PageMap::open(alloc, &mut station, 2) {
-            Ok(pages) => Volume { pages, station },
-            Err(error) => panic!(rt; "open: {error:?}"),
-        }
+        let pages = PageMap::open(alloc, &mut station, 2).expect(rt, "open");
+        Volume { pages, station }
     }
 
     /// An empty volume of so many sectors, opened.
@@ -47,83 +53,37 @@ impl Volume {
     pub fn reopen(&mut self, rt: &impl Abort, alloc: Global, capacity: usize) {
         assert!(rt; 1 <= capacity);
         assert!(rt; capacity <= 4096);
-        match PageMap::open(alloc, &mut self.station, capacity) {
-            Ok(pages) => drop(mem::replace(&mut self.pages, pages)),
-            Err(error) => panic!(rt; "open: {error:?}"),
-        }
+        let pages = PageMap::open(alloc, &mut self.station, capacity).expect(rt, "open");
+        put(&mut self.pages, pages);
     }
 
-    /// Whether the volume has a page.
-    pub fn has_page(&self, rt: &impl Abort, page: u32) -> bool {
-        assert!(rt; !self.pages.is_spent());
-        self.pages.has_page(page)
-    }
-
-    pub fn generation(&self) -> u64 {
-        self.pages.generation()
-    }
-
-    pub fn is_spent(&self) -> bool {
-        self.pages.is_spent()
-    }
-
-    /// Gives a page bytes that are all alike.
-    pub fn edit(&mut self, rt: &impl Abort, page: u32, byte: u8) -> Result<(), PagesError> {
+    /// Changes a page, which has to work.
+    pub fn change(&mut self, rt: &impl Abort, page: u32, change: Change) {
         assert!(rt; 0 < page);
         assert!(rt; (page as usize) < self.pages.page_count());
-        self.pages.edit(page, &filled(byte))
-    }
-
-    /// Gives a page that is read past the cache bytes that are all alike.
-    pub fn edit_past(&mut self, rt: &impl Abort, page: u32, byte: u8) -> Result<(), PagesError> {
-        assert!(rt; 0 < page);
-        assert!(rt; (page as usize) < self.pages.page_count());
-        self.pages.edit_past(page, &filled(byte))
+        let answer = match change {
+            Change::Edit(byte) => self.pages.edit(page, &filled(byte)),
+            Change::EditPast(byte) => self.pages.edit_past(page, &filled(byte)),
+            Change::Release => self.pages.release(page),
+        };
+        answer.expect(rt, "change");
     }
 
     /// Gives the pages from the first on, up to but without the end, bytes that are all alike.
     pub fn edit_all(&mut self, rt: &impl Abort, first: u32, end: u32, byte: u8) {
         for page in first..end {
-            works(rt, self.edit(rt, page, byte));
+            self.change(rt, page, Change::Edit(byte));
         }
-    }
-
-    /// Takes a number that no page has for a page of zeros.
-    pub fn allocate(&mut self) -> Result<u32, PagesError> {
-        self.pages.allocate()
-    }
-
-    /// Takes a number that no page has for a page that is read past the cache, with bytes that are all alike.
-    pub fn allocate_past(&mut self, byte: u8) -> Result<u32, PagesError> {
-        self.pages.allocate_past(&filled(byte))
     }
 
     /// Allocates so many pages. The answer is the sum of their numbers.
     pub fn allocate_all(&mut self, rt: &impl Abort, count: u32) -> u64 {
         let mut sum = 0u64;
         for _ in 0..count {
-            match self.pages.allocate() {
-                Ok(page) => sum = sum.wrapping_add(page as u64),
-                Err(error) => panic!(rt; "allocate: {error:?}"),
-            }
+            let page = self.pages.allocate().expect(rt, "allocate");
+            sum = sum.wrapping_add(page as u64);
         }
         sum
-    }
-
-    /// Takes a page out of the map.
-    pub fn release(&mut self, rt: &impl Abort, page: u32) -> Result<(), PagesError> {
-        assert!(rt; 0 < page);
-        assert!(rt; (page as usize) < self.pages.page_count());
-        self.pages.release(page)
-    }
-
-    pub fn set_catalog(&mut self, page: u32) {
-        self.pages.set_catalog(page);
-    }
-
-    /// The mark that the next commit writes.
-    pub fn mark(&self) -> VolumeMark {
-        self.pages.mark()
     }
 
     /// Sets the mark to the second one.
@@ -135,7 +95,7 @@ impl Volume {
     }
 
     /// Commits what was changed.
-    pub fn commit(&mut self, rt: &impl Abort) -> Result<(), PagesError> {
+    pub fn commit(&mut self, rt: &impl Abort) -> Result<(), pages::PagesError> {
         assert!(rt; self.pages.sectors() <= self.station.count());
         self.pages.commit(&mut self.station)
     }
@@ -143,66 +103,26 @@ impl Volume {
     /// The byte that a page is filled with, 255 if its bytes aren't alike, or none.
     pub fn has(&mut self, rt: &impl Abort, page: u32) -> Option<u8> {
         assert!(rt; self.pages.sectors() <= self.station.count());
-        match self.pages.read(&mut self.station, page) {
-            Ok(Some(bytes)) => Some(alike(&bytes)),
-            Ok(None) => None,
-            Err(error) => panic!(rt; "read {page}: {error:?}"),
+        let bytes = self.pages.read(&mut self.station, page).expect(rt, "read");
+        match &bytes {
+            Some(bytes) => Some(alike(bytes)),
+            None => None,
         }
     }
 
-    /// Brings a page into memory.
-    pub fn load(&mut self, rt: &impl Abort, page: u32) -> Result<(), PagesError> {
+    /// The same of a page that is brought into memory, and seen there.
+    pub fn load(&mut self, rt: &impl Abort, page: u32) -> Option<u8> {
         assert!(rt; self.pages.sectors() <= self.station.count());
-        self.pages.load(&mut self.station, page)
+        self.pages.load(&mut self.station, page).expect(rt, "load");
+        self.seen(page)
     }
 
     /// The byte that a page is filled with, if its bytes are in memory.
     pub fn seen(&self, page: u32) -> Option<u8> {
-        match self.pages.view(page) {
-            Some(bytes) => Some(alike(bytes)),
-            None => None,
-        }
+        self.pages.view(page).map(alike)
     }
 
-    /// The same of a page that becomes the most recently used one, if it is in the cache.
-    pub fn visit(&mut self, page: u32) -> Option<u8> {
-        match self.pages.visit(page) {
-            Some(bytes) => Some(alike(bytes)),
-            None => None,
-        }
-    }
-
-    /// Notes that a page was used, if it is in the cache.
-    pub fn note_use(&mut self, page: u32) {
-        self.pages.note_use(page);
-    }
-
-    pub fn catalog(&self) -> u32 {
-        self.pages.catalog()
-    }
-
-    /// How many pages are in the cache.
-    pub fn cached(&self) -> usize {
-        self.pages.cached()
-    }
-
-    pub fn changed_pages(&self) -> usize {
-        self.pages.changed_pages()
-    }
-
-    pub fn free_sectors(&self) -> u32 {
-        self.pages.free_sectors()
-    }
-
-    pub fn page_count(&self) -> usize {
-        self.pages.page_count()
-    }
-
-    pub fn sectors(&self) -> u32 {
-        self.pages.sectors()
-    }
-
-    /// The counts of the device up to now.
+    /// The reads, writes and syncs up to now.
     pub fn counts(&self) -> Counts {
         counts_of(&self.station)
     }
@@ -216,34 +136,6 @@ impl Volume {
             now.syncs.wrapping_sub(before.syncs),
         )
     }
-
-    pub fn fail_at(&mut self, n: u64) {
-        self.station.fail_at(n);
-    }
-
-    pub fn stop_at(&mut self, n: u64) {
-        self.station.stop_at(n);
-    }
-
-    /// The bytes of a sector of the device.
-    pub fn sector(&mut self, rt: &impl Abort, sector: u32) -> [u8; 4096] {
-        sector_bytes(rt, &mut self.station, sector)
-    }
-
-    /// All sectors of the device.
-    pub fn image(&mut self, rt: &impl Abort, alloc: Global) -> Vec<[u8; 4096]> {
-        image_of(rt, alloc, &mut self.station)
-    }
-
-    /// The sectors that are not as they were, in ascending order.
-    pub fn changed(&mut self, rt: &impl Abort, alloc: Global, before: &[[u8; 4096]]) -> Vec<u32> {
-        changed(rt, alloc, &mut self.station, before)
-    }
-}
-
-/// Asserts that a call wasn't refused.
-pub fn works(rt: &impl Abort, answer: Result<(), PagesError>) {
-    assert_eq!(rt; answer, Ok(()));
 }
 
 /// A station with an empty volume of so many sectors, from 1,024 to 921,600.
@@ -251,7 +143,7 @@ pub fn new_volume(rt: &impl Abort, alloc: Global, sectors: u32) -> MemoryStation
     let mut station = blank_station(rt, alloc, sectors);
     assert!(rt; 1024 <= station.count());
     assert!(rt; station.count() <= 921_600);
-    assert!(rt; format(&mut station).is_ok());
+    format(&mut station).expect(rt, "format");
     station
 }
 
@@ -262,4 +154,9 @@ pub fn counts_of(station: &MemoryStation) -> Counts {
         writes: station.writes(),
         syncs: station.syncs(),
     }
+}
+
+/// Puts a value in the place of another, which is dropped.
+fn put<T: Drop>(place: &mut T, value: T) {
+    *place = value;
 }

@@ -1,28 +1,32 @@
 //! Rows of pages: the bytes of a new volume and of a commit, and how often and in which order the device is called.
 use crate::asserted::{holds, same, same_in};
-use crate::image::{SECTORS, filled, map_of, root, sector_bytes, station_of_format, word_at};
-use crate::opened::{Volume, counts_of, new_volume, works};
-use crate::steps::{Step, take_last_steps, take_steps};
+use crate::image::{
+    SECTORS, changed, filled, image_of, map_of, root, sector_bytes, station_of_format, word_at,
+};
+use crate::opened::{Change, Volume, counts_of, new_volume};
+use crate::steps::{Step, take_first_steps, take_last_steps, take_steps};
 use pages::{PagesError, VolumeMark};
 use std::alloc::Global;
 use std::process::Abort;
 
 // The numbers of a volume: its sectors, how many are free, its page numbers, and the page of the catalog.
-fn has_figures(rt: &impl Abort, volume: &Volume, expected: [u32; 4]) {
-    let pages = u32::try_from(volume.page_count()).unwrap_or(0);
-    let figures = [
-        volume.sectors(),
-        volume.free_sectors(),
-        pages,
-        volume.catalog(),
-    ];
+fn has_figures(rt: &impl Abort, volume: &Volume, expected: (u32, u32, usize, u32)) {
+    let pages = &volume.pages;
+    let figures = (
+        pages.sectors(),
+        pages.free_sectors(),
+        pages.page_count(),
+        pages.catalog(),
+    );
     same(rt, figures, expected);
 }
 
 // A volume of generation 0 without pages.
 fn is_untouched(rt: &impl Abort, volume: &Volume) {
-    same(rt, (volume.changed_pages(), volume.generation()), (0, 0));
-    holds(rt, !volume.has_page(rt, 1));
+    let pages = &volume.pages;
+    same(rt, (pages.changed_pages(), pages.generation()), (0, 0));
+    assert!(rt; !pages.is_spent());
+    holds(rt, !pages.has_page(1));
 }
 
 // The bytes of both root sectors: 1,025 sectors and two map sectors that aren't written yet. Two sectors are the roots. An opening
@@ -36,7 +40,7 @@ fn a_new_volume(rt: HostRuntime) {
     let before = counts_of(&station);
     let volume = Volume::open(&rt, rt.alloc(), station);
     same(&rt, volume.since(before), (2, 0, 1));
-    has_figures(&rt, &volume, [1025, 1023, 2048, 0]);
+    has_figures(&rt, &volume, (1025, 1023, 2048, 0));
     is_untouched(&rt, &volume);
     volume.close();
 }
@@ -63,13 +67,13 @@ fn stopped_commit(
     sectors: &[u32],
 ) {
     let mut volume = Volume::empty(rt, alloc, 1024);
-    works(rt, volume.edit(rt, 5, 7));
-    let image = volume.image(rt, alloc);
+    volume.change(rt, 5, Change::Edit(7));
+    let image = image_of(rt, alloc, &mut volume.station);
     let before = volume.counts();
-    volume.stop_at(call);
+    volume.station.stop_at(call);
     same_in(rt, &call, volume.commit(rt), answer);
     same_in(rt, &call, volume.since(before), calls);
-    volume.fail_at(1_000_000);
+    volume.station.fail_at(1_000_000);
     has_changed(rt, alloc, &mut volume, &image, call, sectors);
     volume.close();
 }
@@ -83,33 +87,37 @@ fn has_changed(
     call: u64,
     sectors: &[u32],
 ) {
-    let now = volume.changed(rt, alloc, image);
+    let now = changed(rt, alloc, &mut volume.station, image);
     same_in(rt, &call, now.as_slice(), sectors);
 }
 
 // One page: its sector, its map's, a sync, the root in sector 1, a sync. Of the two sectors the lower is written first.
 #[test]
 fn a_commit_of_one_page(rt: HostRuntime) {
-    let (low, high) = placed(&rt, rt.alloc());
+    let alloc = rt.alloc();
+    let (low, high) = placed(&rt, alloc);
     holds(&rt, 2 <= low);
     holds(&rt, low < high);
     let refused = Err(PagesError::Device);
-    stopped_commit(&rt, rt.alloc(), 1, refused, (0, 1, 0), &[]);
-    stopped_commit(&rt, rt.alloc(), 2, refused, (0, 2, 0), &[low]);
-    stopped_commit(&rt, rt.alloc(), 3, refused, (0, 2, 1), &[low, high]);
-    stopped_commit(&rt, rt.alloc(), 4, refused, (0, 3, 1), &[low, high]);
-    stopped_commit(&rt, rt.alloc(), 5, refused, (0, 3, 2), &[1, low, high]);
-    stopped_commit(&rt, rt.alloc(), 6, Ok(()), (0, 3, 2), &[1, low, high]);
+    stopped_commit(&rt, alloc, 1, refused, (0, 1, 0), &[]);
+    stopped_commit(&rt, alloc, 2, refused, (0, 2, 0), &[low]);
+    stopped_commit(&rt, alloc, 3, refused, (0, 2, 1), &[low, high]);
+    stopped_commit(&rt, alloc, 4, refused, (0, 3, 1), &[low, high]);
+    stopped_commit(&rt, alloc, 5, refused, (0, 3, 2), &[1, low, high]);
+    stopped_commit(&rt, alloc, 6, Ok(()), (0, 3, 2), &[1, low, high]);
 }
 
 // Asserts that a sector has these bytes.
 fn has_bytes(rt: &impl Abort, volume: &mut Volume, sector: u32, expected: &[u8; 4096]) {
-    holds(rt, volume.sector(rt, sector) == *expected);
+    holds(
+        rt,
+        sector_bytes(rt, &mut volume.station, sector) == *expected,
+    );
 }
 
 // The number at a place of a sector.
 fn number_in(rt: &impl Abort, volume: &mut Volume, sector: u32, place: usize) -> u32 {
-    word_at(&volume.sector(rt, sector), place)
+    word_at(&sector_bytes(rt, &mut volume.station, sector), place)
 }
 
 // The bytes that it writes: the page, the map whose entry 5 is the page's sector, the root of generation 1.
@@ -130,7 +138,6 @@ fn bytes_of_a_commit(rt: HostRuntime) {
 // If the catalog's page alone changed, the root alone is written. With nothing changed the device isn't called.
 #[test]
 fn a_commit_of_the_catalog(rt: HostRuntime) {
-    let volume = Volume::empty(&rt, rt.alloc(), 1024);
     let steps = [
         Step::Catalog(9),
         Step::Commit(1, 2),
@@ -139,7 +146,7 @@ fn a_commit_of_the_catalog(rt: HostRuntime) {
         Step::Catalog(9),
         Step::Commit(0, 0),
     ];
-    take_last_steps(&rt, rt.alloc(), volume, &steps);
+    take_first_steps(&rt, rt.alloc(), 1024, &steps);
 }
 
 // A volume that was written by the description of the format. An opening syncs, and reads the two roots and the two maps. Two roots,
@@ -150,7 +157,7 @@ fn a_volume_of_the_format(rt: HostRuntime) {
     let before = counts_of(&station);
     let volume = Volume::open(&rt, rt.alloc(), station);
     same(&rt, volume.since(before), (4, 0, 1));
-    has_figures(&rt, &volume, [1500, 1494, 2048, 1]);
+    has_figures(&rt, &volume, (1500, 1494, 2048, 1));
     let steps = [
         Step::Has(1, Some(1)),
         Step::Has(1024, Some(24)),
@@ -165,7 +172,7 @@ fn a_volume_of_the_format(rt: HostRuntime) {
 fn a_commit_of_the_mark(rt: HostRuntime) {
     let station = station_of_format(&rt, rt.alloc());
     let mut volume = Volume::open(&rt, rt.alloc(), station);
-    holds(&rt, volume.mark() == VolumeMark::First);
+    holds(&rt, volume.pages.mark() == VolumeMark::First);
     volume.set_second_mark();
     take_steps(&rt, rt.alloc(), &mut volume, &[Step::Commit(1, 2)]);
     let older = root(b"COBVOL01", 1, SECTORS, 1, &[4, 5]);
@@ -178,7 +185,6 @@ fn a_commit_of_the_mark(rt: HostRuntime) {
 // A page that is released frees its sector by a commit; a map of zeros takes none.
 #[test]
 fn a_page_is_released(rt: HostRuntime) {
-    let volume = Volume::empty(&rt, rt.alloc(), 1024);
     let steps = [
         Step::EditAll(1, 3, 1),
         Step::Commit(4, 2),
@@ -190,13 +196,12 @@ fn a_page_is_released(rt: HostRuntime) {
         Step::Commit(1, 2),
         Step::Free(1022),
     ];
-    take_last_steps(&rt, rt.alloc(), volume, &steps);
+    take_first_steps(&rt, rt.alloc(), 1024, &steps);
 }
 
 // A page of each of two maps, and the sectors of both.
 #[test]
 fn pages_of_two_maps(rt: HostRuntime) {
-    let volume = Volume::empty(&rt, rt.alloc(), 2048);
     let steps = [
         Step::EditAll(1023, 1025, 3),
         Step::Commit(5, 2),
@@ -204,5 +209,5 @@ fn pages_of_two_maps(rt: HostRuntime) {
         Step::Commit(3, 2),
         Step::Free(2041),
     ];
-    take_last_steps(&rt, rt.alloc(), volume, &steps);
+    take_first_steps(&rt, rt.alloc(), 2048, &steps);
 }

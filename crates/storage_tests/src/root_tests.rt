@@ -5,6 +5,8 @@ use roots::{
     Mark, Root, RootSector, RootsError, RootsFault, newest_of, put_head, read_root, read_roots,
     root_sector,
 };
+use std::alloc::Global;
+use std::process::Abort;
 
 const MARKS: [[u8; 8]; 2] = [*b"COBVOL01", *b"COBVOL02"];
 
@@ -67,15 +69,21 @@ fn the_newest_of_two_roots(rt: HostRuntime) {
     }
 }
 
-// Devices without roots, and how often each is read.
+// A device without roots, and how often it is read.
+fn has_no_roots(rt: &impl Abort, alloc: Global, sectors: u32, reads: u64) {
+    let mut station = blank_station(rt, alloc, sectors);
+    let damaged = Err(RootsError::Roots(RootsFault::Damaged));
+    same_in(rt, &sectors, read_roots(&mut station, &[&MARKS]), damaged);
+    same_in(rt, &sectors, station.reads(), reads);
+}
+
 #[test]
 fn devices_without_roots(rt: HostRuntime) {
-    for (sectors, reads) in [(0, 0), (1, 0), (2, 2), (1024, 2)] {
-        let mut station = blank_station(&rt, rt.alloc(), sectors);
-        let damaged = Err(RootsError::Roots(RootsFault::Damaged));
-        same_in(&rt, &sectors, read_roots(&mut station, &[&MARKS]), damaged);
-        same_in(&rt, &sectors, station.reads(), reads);
-    }
+    let alloc = rt.alloc();
+    has_no_roots(&rt, alloc, 0, 0);
+    has_no_roots(&rt, alloc, 1, 0);
+    has_no_roots(&rt, alloc, 2, 2);
+    has_no_roots(&rt, alloc, 1024, 2);
 }
 
 // A device with two roots, each of which is read once.

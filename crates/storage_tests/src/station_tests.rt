@@ -21,21 +21,15 @@ fn possible_station(alloc: Global) -> Result<MemoryStation, AllocError> {
 }
 
 fn fresh_station(rt: &impl Abort, alloc: Global) -> MemoryStation {
-    match possible_station(alloc) {
-        Ok(station) => station,
-        Err(_) => panic!(rt; "no memory"),
-    }
+    possible_station(alloc).expect(rt, "no memory")
 }
 
 // Asserts which bytes were shown, and that the one note was received.
 fn has_told(rt: &impl Abort, station: &MemoryStation, expected: &[u8]) {
-    match (station.shown(), station.notes()) {
-        (Ok(shown), Ok(notes)) => {
-            same(rt, shown.as_slice(), expected);
-            same(rt, notes.as_slice(), [NOTE].as_slice());
-        }
-        _ => panic!(rt; "no memory"),
-    }
+    let shown = station.shown().expect(rt, "no memory");
+    same(rt, shown.as_slice(), expected);
+    let notes = station.notes().expect(rt, "no memory");
+    same(rt, notes.as_slice(), [NOTE].as_slice());
 }
 
 // A sector that is written, read and synced.
@@ -81,11 +75,10 @@ fn the_second_call_fails(rt: HostRuntime) {
 }
 
 // Puts 2 and 3 in sectors 2 and 3, and then the root 9 in sector 1.
-fn put_all(station: &mut MemoryStation, alloc: Global) -> Result<(), DeviceError> {
+fn put_all(rt: &impl Abort, alloc: Global, station: &mut MemoryStation) -> bool {
+    assert!(rt; 8 <= station.count());
     let second = filled(2);
-    let Ok(third) = SectorBytes::owned(alloc, filled(3)) else {
-        return Err(DeviceError::Failed);
-    };
+    let third = SectorBytes::owned(alloc, filled(3)).expect(rt, "no memory");
     let blocks = [
         Block {
             sector: 2,
@@ -96,17 +89,14 @@ fn put_all(station: &mut MemoryStation, alloc: Global) -> Result<(), DeviceError
             bytes: third,
         },
     ];
-    if station.count() < 8 {
-        return Err(DeviceError::Failed);
-    }
-    two_phase_write(station, &blocks, 1, &filled(9))
+    two_phase_write(station, &blocks, 1, &filled(9)).is_ok()
 }
 
 // Stopped at a call, a put leaves these bytes in the sectors 1, 2 and 3 after a crash by these choices.
 fn stopped_put(rt: &impl Abort, alloc: Global, n: u64, works: bool, choose: &[u32], left: [u8; 3]) {
     let mut station = fresh_station(rt, alloc);
     station.stop_at(n);
-    same_in(rt, &n, put_all(&mut station, alloc).is_ok(), works);
+    same_in(rt, &n, put_all(rt, alloc, &mut station), works);
     station.crash(choose);
     let now = [
         sector_bytes(rt, &mut station, 1)[0],
@@ -116,18 +106,20 @@ fn stopped_put(rt: &impl Abort, alloc: Global, n: u64, works: bool, choose: &[u3
     same_in(rt, &n, now, left);
 }
 
+// The same after a crash that leaves nothing that waits for a sync, and one that leaves all of it.
+fn stopped_puts(rt: &impl Abort, alloc: Global, n: u64, works: bool, none: [u8; 3], all: [u8; 3]) {
+    stopped_put(rt, alloc, n, works, &[], none);
+    stopped_put(rt, alloc, n, works, &[1, 1, 1], all);
+}
+
 // Stopped at each of its five calls: a crash leaves the old root, or the new one with all blocks.
 #[test]
 fn a_stopped_put_leaves_the_old_root_or_all(rt: HostRuntime) {
-    for (n, works, none, all) in [
-        (1, false, [0, 0, 0], [0, 2, 0]),
-        (2, false, [0, 0, 0], [0, 2, 3]),
-        (3, false, [0, 0, 0], [0, 2, 3]),
-        (4, false, [0, 2, 3], [9, 2, 3]),
-        (5, false, [0, 2, 3], [9, 2, 3]),
-        (6, true, [9, 2, 3], [9, 2, 3]),
-    ] {
-        stopped_put(&rt, rt.alloc(), n, works, &[], none);
-        stopped_put(&rt, rt.alloc(), n, works, &[1, 1, 1], all);
-    }
+    let alloc = rt.alloc();
+    stopped_puts(&rt, alloc, 1, false, [0, 0, 0], [0, 2, 0]);
+    stopped_puts(&rt, alloc, 2, false, [0, 0, 0], [0, 2, 3]);
+    stopped_puts(&rt, alloc, 3, false, [0, 0, 0], [0, 2, 3]);
+    stopped_puts(&rt, alloc, 4, false, [0, 2, 3], [9, 2, 3]);
+    stopped_puts(&rt, alloc, 5, false, [0, 2, 3], [9, 2, 3]);
+    stopped_puts(&rt, alloc, 6, true, [9, 2, 3], [9, 2, 3]);
 }

@@ -1,6 +1,7 @@
 //! Calls on an open volume, one after the other. They are data, which takes no proof.
 use crate::asserted::same_in;
-use crate::opened::{Volume, works};
+use crate::image::{alike, filled};
+use crate::opened::{Change, Volume};
 use pages::PagesError;
 use std::alloc::Global;
 use std::process::Abort;
@@ -27,6 +28,10 @@ pub enum Step {
     Commit(u64, u64),
     /// A commit is refused with `Full`. It doesn't call the device, and the volume is spent.
     Full,
+    /// Five pages, filled with their number, are read, for which the device is read so often.
+    Reads([u8; 5], u64),
+    /// The same of pages that are brought into memory, and seen there.
+    Loads([u8; 5], u64),
     /// The byte that a page is filled with.
     Has(u32, Option<u8>),
     /// The same of a page in memory.
@@ -45,46 +50,58 @@ pub fn take_steps(rt: &impl Abort, alloc: Global, volume: &mut Volume, steps: &[
     }
 }
 
-/// Takes these steps, and closes the volume.
+/// Takes these steps on a volume, and closes it.
 pub fn take_last_steps(rt: &impl Abort, alloc: Global, volume: Volume, steps: &[Step]) {
     let mut volume = volume;
     take_steps(rt, alloc, &mut volume, steps);
     volume.close();
 }
 
+/// Takes these steps on an empty volume of so many sectors.
+pub fn take_first_steps(rt: &impl Abort, alloc: Global, sectors: u32, steps: &[Step]) {
+    take_last_steps(rt, alloc, Volume::empty(rt, alloc, sectors), steps);
+}
+
 fn take_step(rt: &impl Abort, alloc: Global, volume: &mut Volume, place: usize, step: Step) {
     match step {
-        Step::Edit(page, byte) => works(rt, volume.edit(rt, page, byte)),
+        Step::Edit(page, byte) => volume.change(rt, page, Change::Edit(byte)),
         Step::EditAll(first, end, byte) => volume.edit_all(rt, first, end, byte),
-        Step::EditPast(page, byte) => works(rt, volume.edit_past(rt, page, byte)),
-        Step::Allocate(page) => same_in(rt, &place, volume.allocate(), Ok(page)),
-        Step::AllocatePast(page, byte) => same_in(rt, &place, volume.allocate_past(byte), Ok(page)),
-        Step::Release(page) => works(rt, volume.release(rt, page)),
-        Step::Catalog(page) => volume.set_catalog(page),
-        Step::NoteUse(page) => volume.note_use(page),
+        Step::EditPast(page, byte) => volume.change(rt, page, Change::EditPast(byte)),
+        Step::Release(page) => volume.change(rt, page, Change::Release),
+        Step::Catalog(page) => volume.pages.set_catalog(page),
+        Step::NoteUse(page) => volume.pages.note_use(page),
         Step::Reopen(capacity) => volume.reopen(rt, alloc, capacity),
         Step::Commit(writes, syncs) => commit(rt, volume, place, (0, writes, syncs)),
         Step::Full => is_full(rt, volume, place),
+        Step::Reads(numbers, reads) => has_reads(rt, volume, place, &numbers, reads),
+        Step::Loads(numbers, reads) => has_loads(rt, volume, place, &numbers, reads),
         other => look(rt, volume, place, other),
     }
 }
 
 fn look(rt: &impl Abort, volume: &mut Volume, place: usize, step: Step) {
     match step {
+        Step::Allocate(page) => same_in(rt, &place, volume.pages.allocate(), Ok(page)),
+        Step::AllocatePast(page, byte) => {
+            let answer = volume.pages.allocate_past(&filled(byte));
+            same_in(rt, &place, answer, Ok(page));
+        }
         Step::Has(page, byte) => same_in(rt, &place, volume.has(rt, page), byte),
         Step::Seen(page, byte) => same_in(rt, &place, volume.seen(page), byte),
-        Step::Visit(page, byte) => same_in(rt, &place, volume.visit(page), byte),
-        Step::Cached(count) => same_in(rt, &place, volume.cached(), count),
-        Step::Changed(count) => same_in(rt, &place, volume.changed_pages(), count),
-        Step::Free(count) => same_in(rt, &place, volume.free_sectors(), count),
-        _ => panic!(rt; "{place} is no question"),
+        Step::Visit(page, byte) => {
+            same_in(rt, &place, volume.pages.visit(page).map(alike), byte);
+        }
+        Step::Cached(count) => same_in(rt, &place, volume.pages.cached(), count),
+        Step::Changed(count) => same_in(rt, &place, volume.pages.changed_pages(), count),
+        Step::Free(count) => same_in(rt, &place, volume.pages.free_sectors(), count),
+        _ => panic!(rt; "no question"),
     }
 }
 
 /// Commits what was changed by so many reads, writes and syncs.
 fn commit(rt: &impl Abort, volume: &mut Volume, place: usize, calls: (u64, u64, u64)) {
     let before = volume.counts();
-    works(rt, volume.commit(rt));
+    volume.commit(rt).expect(rt, "commit");
     same_in(rt, &place, volume.since(before), calls);
 }
 
@@ -92,5 +109,23 @@ fn is_full(rt: &impl Abort, volume: &mut Volume, place: usize) {
     let before = volume.counts();
     same_in(rt, &place, volume.commit(rt), Err(PagesError::Full));
     same_in(rt, &place, volume.since(before), (0, 0, 0));
-    same_in(rt, &place, volume.is_spent(), true);
+    same_in(rt, &place, volume.pages.is_spent(), true);
+}
+
+fn has_reads(rt: &impl Abort, volume: &mut Volume, place: usize, numbers: &[u8; 5], reads: u64) {
+    let before = volume.counts();
+    for number in numbers {
+        let byte = volume.has(rt, *number as u32);
+        same_in(rt, &place, byte, Some(*number));
+    }
+    same_in(rt, &place, volume.since(before).0, reads);
+}
+
+fn has_loads(rt: &impl Abort, volume: &mut Volume, place: usize, numbers: &[u8; 5], reads: u64) {
+    let before = volume.counts();
+    for number in numbers {
+        let byte = volume.load(rt, *number as u32);
+        same_in(rt, &place, byte, Some(*number));
+    }
+    same_in(rt, &place, volume.since(before).0, reads);
 }

@@ -1,4 +1,5 @@
 //! The calls of rows, by their words.
+use crate::volume::Search;
 use row_scripts::look_up;
 
 /// A call.
@@ -8,7 +9,6 @@ pub enum Call {
     Pair(PairCall),
     Tree(TreeCall),
     Chain(ChainCall),
-    Change(ChangeCall),
     Volume(VolumeCall),
     Count(CountCall),
 }
@@ -19,9 +19,7 @@ pub enum EntryCall {
     Insert,
     Remove,
     Drop,
-    Get,
-    Seek,
-    Next,
+    Find(Search),
 }
 
 /// With two numbers.
@@ -60,19 +58,13 @@ pub enum ChainCall {
     Zeros,
 }
 
-/// A change of the volume by a number. It has no answer.
-#[derive(Clone, Copy)]
-pub enum ChangeCall {
-    Crash,
-    Fail,
-    Stop,
-    Allocate,
-    Root,
-}
-
-/// Another change of the volume. It has no answer.
+/// A change of the volume. It has no answer.
 #[derive(Clone, Copy)]
 pub enum VolumeCall {
+    Crash,
+    Disturb { is_stop: bool },
+    Allocate,
+    Root,
     Reopen,
     Plant,
     Page,
@@ -93,9 +85,9 @@ const CALLS: [(&[u8], Call); 41] = [
     (b"insert", Call::Entry(EntryCall::Insert)),
     (b"remove", Call::Entry(EntryCall::Remove)),
     (b"drop", Call::Entry(EntryCall::Drop)),
-    (b"get", Call::Entry(EntryCall::Get)),
-    (b"seek", Call::Entry(EntryCall::Seek)),
-    (b"next", Call::Entry(EntryCall::Next)),
+    (b"get", Call::Entry(EntryCall::Find(Search::Get))),
+    (b"seek", Call::Entry(EntryCall::Find(Search::Seek))),
+    (b"next", Call::Entry(EntryCall::Find(Search::Next))),
     (b"value", Call::Pair(PairCall::Value)),
     (b"valued", Call::Pair(PairCall::Valued)),
     (b"reads", Call::Pair(PairCall::Reads)),
@@ -117,11 +109,14 @@ const CALLS: [(&[u8], Call); 41] = [
     (b"release", Call::Chain(ChainCall::Release)),
     (b"bytes", Call::Chain(ChainCall::Bytes)),
     (b"zeros", Call::Chain(ChainCall::Zeros)),
-    (b"crash", Call::Change(ChangeCall::Crash)),
-    (b"fail", Call::Change(ChangeCall::Fail)),
-    (b"stop", Call::Change(ChangeCall::Stop)),
-    (b"allocate", Call::Change(ChangeCall::Allocate)),
-    (b"root", Call::Change(ChangeCall::Root)),
+    (b"crash", Call::Volume(VolumeCall::Crash)),
+    (
+        b"fail",
+        Call::Volume(VolumeCall::Disturb { is_stop: false }),
+    ),
+    (b"stop", Call::Volume(VolumeCall::Disturb { is_stop: true })),
+    (b"allocate", Call::Volume(VolumeCall::Allocate)),
+    (b"root", Call::Volume(VolumeCall::Root)),
     (b"reopen", Call::Volume(VolumeCall::Reopen)),
     (b"plant", Call::Volume(VolumeCall::Plant)),
     (b"page", Call::Volume(VolumeCall::Page)),

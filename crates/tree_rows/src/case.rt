@@ -1,7 +1,9 @@
 //! A case over a tree. Its first row is `tree KEY VALUE CACHED`: the bytes of keys and values, and how many pages are in memory.
+use crate::answer::{Answer, in_words};
+use crate::operands::Operands;
 use crate::tree_run::TreeRun;
 use btree_pages::RowLayout;
-use row_scripts::{Case, CheckCase, Difference, Fault, Row, Tally, Words};
+use row_scripts::{Case, CheckCase, Fault, Row, Tally, Words};
 use std::alloc::{AllocError, Global};
 use std::io;
 
@@ -19,117 +21,77 @@ impl CheckCase for OneTree {
         case: Case,
         tally: &mut Tally,
     ) -> io::Result<()> {
-        check_case(rt, script, &case, tally)
+        if let Some(line) = case.wrong {
+            let fault = Fault::Spelling("this is no row");
+            tally.fail_at(rt, script, OVER, line, fault)?;
+        }
+        check_rows(rt, script, &case.rows, tally)
     }
 }
 
-/// Runs a case, and prints the first row that differs.
-fn check_case<R: Print + AllocGlobal>(
+/// Does the rows of a case up to the first that differs, which is printed.
+fn check_rows<R: Print + AllocGlobal>(
     rt: &R,
     script: &str,
-    case: &Case,
+    rows: &[Row],
     tally: &mut Tally,
 ) -> io::Result<()> {
-    if let Some(line) = case.wrong {
-        let fault = Fault::Spelling("this is no row");
-        tally.fail_at(rt, script, OVER, line, fault)?;
-    }
-    match do_rows(rt.alloc(), &case.rows, tally)? {
-        Some(difference) => tally.fail(rt, script, OVER, &difference),
-        None => Ok(()),
+    let [first, rows @ ..] = rows else {
+        return Ok(());
+    };
+    match read_tree(rt.alloc(), &first.text) {
+        Ok(mut run) => check_rows_on(rt, script, &mut run, rows, tally),
+        Err(fault) => tally.fail_at(rt, script, OVER, first.line, fault),
     }
 }
 
-fn no_tree() -> Fault {
-    Fault::Spelling("a case begins with its tree")
+fn check_rows_on<R: Print + AllocGlobal>(
+    rt: &R,
+    script: &str,
+    run: &mut TreeRun,
+    rows: &[Row],
+    tally: &mut Tally,
+) -> io::Result<()> {
+    for row in rows.iter() {
+        match do_row(rt.alloc(), run, &row.text) {
+            Ok(()) => tally.pass(),
+            Err(fault) => return tally.fail_at(rt, script, OVER, row.line, fault),
+        }
+    }
+    Ok(())
+}
+
+/// Does a row, and compares what it gives with what it expects.
+fn do_row(alloc: Global, run: &mut TreeRun, row: &[u8]) -> Result<(), Fault> {
+    let mut operands = Operands::of(row);
+    let answer = run.answer(&mut operands);
+    match answer {
+        Answer::NoRow(why) => Err(Fault::Spelling(why)),
+        Answer::NoMemory => Err(Fault::Memory),
+        _ => compare(in_words(alloc, answer, run.drawing()), operands.expected()),
+    }
+}
+
+/// Compares the words of an answer with those expected.
+fn compare(given: Result<String, AllocError>, expected: &[u8]) -> Result<(), Fault> {
+    match given {
+        Ok(words) if words.as_bytes() == expected => Ok(()),
+        words => Err(Fault::found(words)),
+    }
 }
 
 /// The tree of a first row.
-fn read_tree(alloc: Global, row: &Row) -> Result<TreeRun, Fault> {
-    let mut words = Words::of(&row.text);
-    let is_tree = words.takes(b"tree");
-    let (Some(key), Some(value), Some(cached)) = (words.number(), words.number(), words.number())
-    else {
-        return Err(no_tree());
-    };
-    if !is_tree {
-        return Err(no_tree());
-    }
-    let layout = RowLayout {
-        key_length: key as usize,
-        value_length: value as usize,
-    };
-    TreeRun::new(alloc, layout, cached as usize)
-}
-
-/// Compares an answer with the expected one, after the arrow of a row.
-fn compare(words: &mut Words<'_>, answer: String) -> Result<(), Fault> {
-    if answer.as_bytes() == expected(words) {
-        return Ok(());
-    }
-    Err(Fault::Differs(answer))
-}
-
-fn expected<'a>(words: &mut Words<'a>) -> &'a [u8] {
-    let is_expected = words.takes(b"->");
-    match words.rest() {
-        [b' ', rest @ ..] if is_expected => rest,
-        rest => rest,
-    }
-}
-
-/// The answer of a row's call. A refusal is an answer.
-fn answer_of(
-    alloc: Global,
-    run: &mut TreeRun,
-    call: &[u8],
-    words: &mut Words<'_>,
-) -> Result<String, Fault> {
-    match run.call(call, words) {
-        Err(Fault::Refused(number)) => Ok(Fault::Refused(number).into_words(alloc)?),
-        answer => answer,
-    }
-}
-
-/// Does a row.
-fn do_row(alloc: Global, run: &mut TreeRun, row: &[u8]) -> Result<(), Fault> {
+fn read_tree(alloc: Global, row: &[u8]) -> Result<TreeRun, Fault> {
     let mut words = Words::of(row);
-    let Some(call) = words.word() else {
-        return Err(Fault::Spelling("this is no row"));
-    };
-    let answer = answer_of(alloc, run, call, &mut words)?;
-    compare(&mut words, answer)
-}
-
-/// Does the rows up to the first that differs.
-fn do_rows(
-    alloc: Global,
-    rows: &[Row],
-    tally: &mut Tally,
-) -> Result<Option<Difference>, AllocError> {
-    let Some((first, rows)) = rows.split_first() else {
-        return Ok(None);
-    };
-    let mut run = match read_tree(alloc, first) {
-        Ok(run) => run,
-        Err(fault) => return Ok(Some(Difference::at(alloc, first.line, fault)?)),
-    };
-    let found = first_difference(alloc, &mut run, rows, tally);
-    drop(run);
-    found
-}
-
-fn first_difference(
-    alloc: Global,
-    run: &mut TreeRun,
-    rows: &[Row],
-    tally: &mut Tally,
-) -> Result<Option<Difference>, AllocError> {
-    for row in rows.iter() {
-        if let Err(fault) = do_row(alloc, run, &row.text) {
-            return Ok(Some(Difference::at(alloc, row.line, fault)?));
+    let is_tree = words.takes(b"tree");
+    match (words.number(), words.number(), words.number()) {
+        (Some(key), Some(value), Some(cached)) if is_tree => {
+            let layout = RowLayout {
+                key_length: key as usize,
+                value_length: value as usize,
+            };
+            TreeRun::new(alloc, layout, cached as usize)
         }
-        tally.pass();
+        _ => Err(Fault::Spelling("a case begins with its tree")),
     }
-    Ok(None)
 }

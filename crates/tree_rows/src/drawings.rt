@@ -1,10 +1,69 @@
 //! Trees by their drawing: how many rows each page has, from left to right, the leaves first and then each level above them, as in
 //! `1213/22/2`. A number is the character so far after 0, so `D` is 20 and `W` is 39. Their entries are 10, 20, 30 and so on.
-use crate::volume::{Volume, key_of, tree_of, value_of};
-use btree::Tree;
-use btree_pages::{Kind, RowLayout, TreePage};
-use row_scripts::Fault;
-use std::alloc::{AllocError, Global};
+use crate::answer::Answer;
+use crate::entry_bytes::{key_of, value_of};
+use crate::volume::Volume;
+use btree_pages::{Kind, TreePage};
+
+/// The most pages of a tree here.
+const MOST_PAGES: usize = 1024;
+
+/// The most characters of a drawing.
+const MOST_BYTES: usize = 2048;
+
+/// The drawing of the pages of a tree, which are in order from the root on, each level from right to left.
+#[derive(Drop)]
+pub struct Drawing {
+    pages: [u32; MOST_PAGES],
+    count: usize,
+    bytes: [u8; MOST_BYTES],
+    /// Where the drawing begins.
+    start: usize,
+}
+
+impl Drawing {
+    /// Of no page.
+    pub fn new() -> Drawing {
+        Drawing {
+            pages: [0; MOST_PAGES],
+            count: 0,
+            bytes: [0; MOST_BYTES],
+            start: MOST_BYTES,
+        }
+    }
+
+    /// Its characters.
+    pub fn bytes(&self) -> &[u8] {
+        self.bytes.get(self.start..).unwrap_or(b"")
+    }
+
+    /// Adds a character in front.
+    fn push(&mut self, byte: u8) {
+        if 1 <= self.start && self.start <= MOST_BYTES {
+            self.start -= 1;
+            self.bytes[self.start] = byte;
+        }
+    }
+
+    /// Adds a page after the others.
+    fn push_page(&mut self, page: u32) {
+        if self.count < MOST_PAGES {
+            self.pages[self.count] = page;
+            self.count += 1;
+        }
+    }
+
+    /// Adds the number of rows of a page, and its children after the other pages, from right to left.
+    fn push_rows(&mut self, page: &TreePage) {
+        let count = page.count();
+        self.push(b'0'.wrapping_add((count % 256) as u8));
+        if page.kind() == Kind::Inner {
+            for place in 0..count {
+                self.push_page(page.child(count - 1 - place));
+            }
+        }
+    }
+}
 
 /// How many entries the tree of a drawing has.
 pub fn entries_in(drawing: &[u8]) -> u32 {
@@ -35,60 +94,51 @@ pub fn leaves_in(drawing: &[u8], least: usize) -> (usize, usize) {
 }
 
 /// Puts the tree of a drawing on pages.
-pub fn plant(
-    alloc: Global,
-    volume: &mut Volume,
-    layout: RowLayout,
-    drawing: &[u8],
-) -> Result<Tree, Fault> {
-    let mut below = Vec::new(alloc);
-    for level in drawing.split(|byte| *byte == b'/') {
-        below = plant_level(alloc, volume, layout, &below, level)?;
+pub fn plant(volume: &mut Volume, drawing: &[u8]) {
+    let mut planting = Planting {
+        pages: [NO_PAGE; MOST_PAGES],
+        count: 0,
+        level: 0,
+        below: 0,
+        rows: 0,
+    };
+    for byte in drawing.iter() {
+        if *byte == b'/' {
+            planting.begin_level();
+        } else {
+            planting.plant_page(volume, rows_in(*byte));
+        }
     }
-    match below.first() {
-        Some(top) => tree_of(alloc, layout, top.page),
-        None => Err(wrong()),
+    match planting.pages.get(planting.level..planting.count) {
+        Some([top, ..]) => volume.set_root(top.page),
+        _ => volume.refuse(WRONG),
     }
 }
 
 /// The drawing of a tree: from the root on, and turned round.
-pub fn draw(alloc: Global, volume: &mut Volume, tree: &Tree) -> Result<Vec<u8>, Fault> {
-    let mut pages = root_pages(alloc, tree)?;
-    let mut drawing = Vec::new(alloc);
+pub fn draw(volume: &mut Volume) -> Drawing {
+    let mut drawing = Drawing::new();
+    if volume.root() != 0 {
+        drawing.push_page(volume.root());
+    }
     let mut end = 1;
-    for place in 0..1024usize {
-        let Some(page) = pages.get(place).copied() else {
+    for place in 0..MOST_PAGES {
+        if place >= drawing.count {
             break;
-        };
-        if place == end {
-            drawing.push(b'/')?;
-            end = pages.len();
         }
-        let page = volume.tree_page(tree.layout(), page)?;
-        draw_page(&page, &mut drawing, &mut pages)?;
+        if place == end {
+            drawing.push(b'/');
+            end = drawing.count;
+        }
+        match volume.tree_page(drawing.pages[place]) {
+            Some(page) => drawing.push_rows(&page),
+            None => break,
+        }
     }
-    drawing.reverse();
-    Ok(drawing)
+    drawing
 }
 
-/// The page of the root, if there is one.
-fn root_pages(alloc: Global, tree: &Tree) -> Result<Vec<u32>, AllocError> {
-    let mut pages = Vec::new(alloc);
-    if tree.root() != 0 {
-        pages.push(tree.root())?;
-    }
-    Ok(pages)
-}
-
-/// Adds the rows of a page to a drawing, and its children after other pages.
-fn draw_page(
-    page: &TreePage,
-    drawing: &mut Vec<u8>,
-    pages: &mut Vec<u32>,
-) -> Result<(), AllocError> {
-    drawing.push(b'0'.wrapping_add((page.count() % 256) as u8))?;
-    push_children(pages, page)
-}
+const WRONG: Answer = Answer::NoRow("this is no drawing");
 
 /// A page of a tree, and the number of the least key below it.
 #[derive(Clone, Copy)]
@@ -97,8 +147,52 @@ struct PlacedPage {
     page: u32,
 }
 
-fn wrong() -> Fault {
-    Fault::Spelling("this is no drawing")
+const NO_PAGE: PlacedPage = PlacedPage { least: 0, page: 0 };
+
+/// The pages of a drawing so far.
+#[derive(Drop)]
+struct Planting {
+    pages: [PlacedPage; MOST_PAGES],
+    count: usize,
+    /// The places of the first page of this level, and of the first one of the level below.
+    level: usize,
+    below: usize,
+    /// How many rows this level has.
+    rows: usize,
+}
+
+impl Planting {
+    /// The next level begins.
+    fn begin_level(&mut self) {
+        self.below = self.level;
+        self.level = self.count;
+        self.rows = 0;
+    }
+
+    /// Puts the next page of this level on a page, with so many rows. They are entries if there is no page below, and else pages below.
+    fn plant_page(&mut self, volume: &mut Volume, count: usize) {
+        let first = self.rows;
+        self.rows = first.wrapping_add(count);
+        let page = if self.below == self.level {
+            plant_leaf(volume, first, count)
+        } else {
+            plant_inner(volume, self.children(first, count))
+        };
+        if self.count < MOST_PAGES {
+            self.pages[self.count] = page;
+            self.count += 1;
+        }
+    }
+
+    /// So many pages of the level below, from a place on; none, if there are fewer.
+    fn children(&self, first: usize, count: usize) -> &[PlacedPage] {
+        let first = self.below.wrapping_add(first);
+        let end = first.wrapping_add(count);
+        match self.pages.get(first..end) {
+            Some(children) if end <= self.level => children,
+            _ => &[],
+        }
+    }
 }
 
 /// The rows of a page of a drawing.
@@ -106,125 +200,58 @@ fn rows_in(byte: u8) -> usize {
     byte.wrapping_sub(b'0') as usize
 }
 
-/// A page without rows.
-fn new_page(layout: RowLayout, kind: Kind) -> Result<TreePage, Fault> {
-    if layout.is_possible() {
-        Ok(TreePage::new(layout, kind))
-    } else {
-        Err(wrong())
-    }
-}
-
-/// Adds a row after the last row of a page.
-fn push_row(alloc: Global, page: &mut TreePage, number: u32, rest: &[u8]) -> Result<(), Fault> {
-    let key = key_of(alloc, page.layout(), number)?;
-    let rest_length = match page.kind() {
-        Kind::Leaf => page.layout().value_length,
-        Kind::Inner => 4,
-    };
-    if page.is_full() || key.len() != page.layout().key_length || rest.len() != rest_length {
-        return Err(wrong());
-    }
-    let place = page.count();
-    page.insert(place, &key, rest);
-    Ok(())
-}
-
-/// Adds the entry of a number after the last row of a leaf.
-fn push_entry(alloc: Global, leaf: &mut TreePage, number: u32) -> Result<(), Fault> {
-    let value = value_of(alloc, leaf.layout(), number)?;
-    push_row(alloc, leaf, number, &value)
-}
-
-/// Puts a leaf on a page, with so many entries from a place on.
-fn plant_leaf(
-    alloc: Global,
-    volume: &mut Volume,
-    layout: RowLayout,
-    first: usize,
-    count: usize,
-) -> Result<PlacedPage, Fault> {
-    let mut leaf = new_page(layout, Kind::Leaf)?;
-    for place in 0..count {
-        push_entry(alloc, &mut leaf, number_at(first.wrapping_add(place)))?;
-    }
-    let page = volume.put_page(&leaf)?;
-    let least = number_at(first);
-    Ok(PlacedPage { least, page })
-}
-
 /// The number of the entry at a place, counted from 0.
-fn number_at(place: usize) -> u32 {
+fn entry_number(place: usize) -> u32 {
     ((place % 1_000_000) as u32)
         .wrapping_add(1)
         .wrapping_mul(10)
 }
 
-/// Puts an inner page with these children on a page.
-fn plant_inner(
-    alloc: Global,
-    volume: &mut Volume,
-    layout: RowLayout,
-    children: &[PlacedPage],
-) -> Result<PlacedPage, Fault> {
-    let mut inner = new_page(layout, Kind::Inner)?;
-    for child in children.iter() {
-        push_row(alloc, &mut inner, child.least, &child.page.to_be_bytes())?;
-    }
-    let page = volume.put_page(&inner)?;
-    match children {
-        [first, ..] => Ok(PlacedPage {
-            least: first.least,
-            page,
-        }),
-        [] => Err(wrong()),
-    }
-}
-
-/// Puts the pages of a level on pages.
-fn plant_level(
-    alloc: Global,
-    volume: &mut Volume,
-    layout: RowLayout,
-    below: &[PlacedPage],
-    drawing: &[u8],
-) -> Result<Vec<PlacedPage>, Fault> {
-    let mut level = Vec::new(alloc);
-    let mut start = 0usize;
-    for byte in drawing.iter() {
-        let count = rows_in(*byte);
-        let page = plant_page(alloc, volume, layout, below, start, count)?;
-        level.push(page)?;
-        start = start.wrapping_add(count);
-    }
-    Ok(level)
-}
-
-/// Puts a page with so many rows on a page: entries from a place on, or pages below it from a place on.
-fn plant_page(
-    alloc: Global,
-    volume: &mut Volume,
-    layout: RowLayout,
-    below: &[PlacedPage],
-    start: usize,
-    count: usize,
-) -> Result<PlacedPage, Fault> {
-    if below.is_empty() {
-        return plant_leaf(alloc, volume, layout, start, count);
-    }
-    match below.get(start..start.wrapping_add(count)) {
-        Some(children) => plant_inner(alloc, volume, layout, children),
-        None => Err(wrong()),
-    }
-}
-
-/// Adds the children of an inner page after other pages, from right to left.
-fn push_children(pages: &mut Vec<u32>, page: &TreePage) -> Result<(), AllocError> {
-    if page.kind() == Kind::Inner {
-        let count = page.count();
-        for place in 0..count {
-            pages.push(page.child(count - 1 - place))?;
+/// Puts a leaf on a page, with so many entries from a place on.
+fn plant_leaf(volume: &mut Volume, first: usize, count: usize) -> PlacedPage {
+    let layout = volume.layout();
+    let mut leaf = TreePage::new(layout, Kind::Leaf);
+    for place in 0..count {
+        let number = entry_number(first.wrapping_add(place));
+        if !push_row(&mut leaf, number, &value_of(number)[..layout.value_length]) {
+            volume.refuse(WRONG);
         }
     }
-    Ok(())
+    PlacedPage {
+        least: entry_number(first),
+        page: volume.put_page(&leaf),
+    }
+}
+
+/// Puts an inner page with these children on a page.
+fn plant_inner(volume: &mut Volume, children: &[PlacedPage]) -> PlacedPage {
+    let [first, ..] = children else {
+        volume.refuse(WRONG);
+        return NO_PAGE;
+    };
+    let mut inner = TreePage::new(volume.layout(), Kind::Inner);
+    for child in children.iter() {
+        if !push_row(&mut inner, child.least, &child.page.to_be_bytes()) {
+            volume.refuse(WRONG);
+        }
+    }
+    PlacedPage {
+        least: first.least,
+        page: volume.put_page(&inner),
+    }
+}
+
+/// Adds a row after the last row of a page. The answer is whether it has room there.
+fn push_row(page: &mut TreePage, number: u32, rest: &[u8]) -> bool {
+    let layout = page.layout();
+    let rest_length = match page.kind() {
+        Kind::Leaf => layout.value_length,
+        Kind::Inner => 4,
+    };
+    let has_room = !page.is_full() && rest.len() == rest_length;
+    if has_room {
+        let key = key_of(layout.key_length, number);
+        page.insert(page.count(), &key[..layout.key_length], rest);
+    }
+    has_room
 }

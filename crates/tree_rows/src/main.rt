@@ -1,10 +1,14 @@
 //! Runs scripts of calls on trees of pages, and prints the rows whose answer differs from the script.
 #![tactic(auto)]
 
+mod answer;
 mod calls;
 mod case;
 mod chain_calls;
 mod drawings;
+mod entry_bytes;
+mod numbers;
+mod operands;
 mod tree_run;
 mod volume;
 

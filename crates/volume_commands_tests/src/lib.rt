@@ -14,6 +14,8 @@ mod load_tests;
 #[cfg(test)]
 mod narrow_writer;
 #[cfg(test)]
+mod printing;
+#[cfg(test)]
 mod stat_tests;
 #[cfg(test)]
 mod unseen;

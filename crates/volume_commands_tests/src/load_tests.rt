@@ -1,40 +1,49 @@
 //! What `load` leaves of a volume.
-use crate::asserted::{holds, same_in};
+use crate::asserted::{holds, same, same_in};
+use crate::narrow_writer::NarrowWriter;
+use crate::printing::{PRINTED, Printing, prints};
 use crate::unseen::Unseen;
-use crate::volume::{add_file, blank_station, dump_of, file, indexed, new_volume};
+use crate::volume::{FileRows, INDEXED, blank_station, volume_of};
 use records::{Organization, Status, StoreFault};
-use station::{Device, MemoryStation};
+use station::MemoryStation;
 use std::alloc::Global;
 use std::process::Abort;
 use volume_copies::{LineFault, Load, LoadEnd, load_volume};
 
+const KEYS: &[FileRows] = &[FileRows {
+    name: b"KEYS",
+    organization: INDEXED,
+    length: 2,
+    records: &[],
+}];
+
+const BOXES: &[FileRows] = &[FileRows {
+    name: b"BOXES",
+    organization: Organization::Relative,
+    length: 1,
+    records: &[b"1", b"2"],
+}];
+
+const LOG: &[FileRows] = &[FileRows {
+    name: b"LOG",
+    organization: Organization::Sequential,
+    length: 1,
+    records: &[b"1"],
+}];
+
 const LINES: &[u8] = b"B2\nA1\n\\x00\n";
-
-/// The dumps of the file after none, one, two and all of them.
-const DUMPS: [&[u8]; 4] = [b"", b"B2\n", b"A1\nB2\n", b"\\x00 \nA1\nB2\n"];
-
-fn volume_of_keys(rt: &impl Abort, alloc: Global) -> MemoryStation {
-    let mut station = new_volume(rt, alloc);
-    let keys = indexed(rt, alloc, b"KEYS", 2);
-    add_file(rt, alloc, &mut station, &keys, &[]);
-    station
-}
 
 fn load(alloc: Global, station: &mut MemoryStation, name: &[u8], text: &[u8]) -> Load {
     load_volume(alloc, station, name, text, &mut Unseen)
 }
 
 fn load_ends(rt: &impl Abort, alloc: Global, text: &[u8], rows: u64, end: LoadEnd, dump: &[u8]) {
-    let mut station = volume_of_keys(rt, alloc);
+    let mut station = volume_of(rt, alloc, KEYS);
     let answer = load(alloc, &mut station, b"KEYS", text);
     same_in(rt, &text, answer.rows, rows);
     holds(rt, answer.end == end);
-    same_in(
-        rt,
-        &text,
-        dump_of(rt, alloc, &mut station, b"KEYS").as_slice(),
-        dump,
-    );
+    let keys = Printing::Dump(b"KEYS");
+    prints(rt, alloc, &mut station, keys, PRINTED, dump);
 }
 
 // Lines are rows up to the first that is refused, and the rows before it stay.
@@ -43,46 +52,26 @@ fn lines_that_are_refused(rt: HostRuntime) {
     let alloc = rt.alloc();
     let taken = LoadEnd::Rejected(Status::DuplicateKey);
     load_ends(&rt, alloc, b"", 0, LoadEnd::Done, b"");
-    load_ends(&rt, alloc, LINES, 3, LoadEnd::Done, DUMPS[3]);
+    load_ends(&rt, alloc, LINES, 3, LoadEnd::Done, b"\\x00 \nA1\nB2\n");
     load_ends(&rt, alloc, b"B2\nB3\nA1\n", 1, taken, b"B2\n");
     load_ends(&rt, alloc, b"\n", 1, LoadEnd::Done, b"  \n");
-    load_ends(
-        &rt,
-        alloc,
-        b"B\nABC",
-        1,
-        LoadEnd::Malformed(LineFault::Long),
-        b"B \n",
-    );
-    load_ends(
-        &rt,
-        alloc,
-        b"B\nA\x1f",
-        1,
-        LoadEnd::Malformed(LineFault::Control),
-        b"B \n",
-    );
-    load_ends(
-        &rt,
-        alloc,
-        b"B\nA\\",
-        1,
-        LoadEnd::Malformed(LineFault::Escape),
-        b"B \n",
-    );
+    let long = LoadEnd::Malformed(LineFault::Long);
+    load_ends(&rt, alloc, b"B\nABC", 1, long, b"B \n");
+    let control = LoadEnd::Malformed(LineFault::Control);
+    load_ends(&rt, alloc, b"B\nA\x1f", 1, control, b"B \n");
+    let escape = LoadEnd::Malformed(LineFault::Escape);
+    load_ends(&rt, alloc, b"B\nA\\", 1, escape, b"B \n");
 }
 
 // Without the file, and without files.
 #[test]
 fn names_and_volumes_that_are_refused(rt: HostRuntime) {
     let alloc = rt.alloc();
-    let mut station = volume_of_keys(&rt, alloc);
+    let mut station = volume_of(&rt, alloc, KEYS);
     let writes = station.writes();
-    holds(
-        &rt,
-        load(alloc, &mut station, b"keys", LINES).end == LoadEnd::UnknownName,
-    );
-    same_in(&rt, &"no file", station.writes(), writes);
+    let end = load(alloc, &mut station, b"keys", LINES).end;
+    holds(&rt, end == LoadEnd::UnknownName);
+    same(&rt, station.writes(), writes);
     let end = load(alloc, &mut blank_station(&rt, alloc), b"KEYS", LINES).end;
     holds(&rt, end == LoadEnd::Refused(StoreFault::Damaged));
 }
@@ -91,19 +80,19 @@ fn names_and_volumes_that_are_refused(rt: HostRuntime) {
 #[test]
 fn numbers_after_the_greatest(rt: HostRuntime) {
     let alloc = rt.alloc();
-    let mut station = new_volume(&rt, alloc);
-    let boxes = file(&rt, alloc, b"BOXES", Organization::Relative, 1);
-    add_file(&rt, alloc, &mut station, &boxes, &[b"1", b"2"]);
-    holds(
-        &rt,
-        load(alloc, &mut station, b"BOXES", b"3\n4").end == LoadEnd::Done,
-    );
-    same_in(
-        &rt,
-        &"boxes",
-        dump_of(&rt, alloc, &mut station, b"BOXES").as_slice(),
-        b"1\n2\n3\n4\n",
-    );
+    let mut station = volume_of(&rt, alloc, BOXES);
+    let end = load(alloc, &mut station, b"BOXES", b"3\n4").end;
+    holds(&rt, end == LoadEnd::Done);
+    let boxes = Printing::Dump(b"BOXES");
+    prints(&rt, alloc, &mut station, boxes, PRINTED, b"1\n2\n3\n4\n");
+}
+
+/// How many bytes the dump of the log has.
+fn dumped(rt: &impl Abort, alloc: Global, station: &mut MemoryStation) -> usize {
+    let mut out = NarrowWriter::new(alloc, usize::MAX);
+    let log = Printing::Dump(b"LOG");
+    holds(rt, log.print(alloc, station, &mut out) == PRINTED);
+    out.taken.len()
 }
 
 /// Stops a load of a line at a call of the device, and says whether it had ended before. The crash leaves what was synced last, or what
@@ -115,25 +104,19 @@ fn stop_at(
     call: u64,
     choices: &[u32],
 ) -> bool {
-    let before = dump_of(rt, alloc, station, b"LOG").len();
+    let before = dumped(rt, alloc, station);
     station.stop_at(call);
     let answer = load(alloc, station, b"LOG", b"X\n");
     station.crash(choices);
-    let after = dump_of(rt, alloc, station, b"LOG").len();
+    let after = dumped(rt, alloc, station);
     let is_there = after == before.saturating_add(2);
-    same_in(
-        rt,
-        &call,
-        is_there || after == before && answer.rows == 0,
-        true,
-    );
+    let is_lost = after == before && answer.rows == 0;
+    same_in(rt, &call, is_there || is_lost, true);
     answer.end == LoadEnd::Done
 }
 
 fn stops(rt: &impl Abort, alloc: Global, choices: &[u32]) {
-    let mut station = new_volume(rt, alloc);
-    let log = file(rt, alloc, b"LOG", Organization::Sequential, 1);
-    add_file(rt, alloc, &mut station, &log, &[b"1"]);
+    let mut station = volume_of(rt, alloc, LOG);
     let mut stopped = 0u64;
     for call in 1..200 {
         if stop_at(rt, alloc, &mut station, call, choices) {

@@ -1,17 +1,8 @@
 //! The calls of a run on the station, a letter for each: R reads a sector, W writes one, C writes a root, S syncs, D shows a text, L takes
 //! a console line, N notes a status. Spaces don't count.
 
-/// Where the root of the file statement in progress is.
-#[derive(Clone, Copy, Debug, PartialEq, Eq)]
-pub enum Root {
-    Absent,
-    /// It is written and waits for a sync, as the only sector.
-    Waiting,
-    Durable,
-}
-
 /// What a run has done on the station.
-#[derive(Clone, Copy, Debug)]
+#[derive(Clone, Copy)]
 pub struct Progress {
     pub reads: u64,
     pub writes: u64,
@@ -21,6 +12,15 @@ pub struct Progress {
     /// How many sectors were written since the last sync.
     waiting: u32,
     root: Root,
+}
+
+/// Where the root of the file statement in progress is.
+#[derive(Clone, Copy)]
+enum Root {
+    Absent,
+    /// It is written and waits for a sync, as the only sector.
+    Waiting,
+    Durable,
 }
 
 const NOTHING: Progress = Progress {
@@ -65,8 +65,11 @@ impl Progress {
 
     /// How many file statements the disk has, where a crash leaves an image. An odd one has the first of the sectors that wait.
     pub fn statements_on_disk(&self, image: u32) -> usize {
-        let is_root_left = self.root == Root::Waiting && image % 2 == 1;
-        let is_one_more = is_root_left || self.root == Root::Durable;
+        let is_one_more = match self.root {
+            Root::Absent => false,
+            Root::Waiting => image % 2 == 1,
+            Root::Durable => true,
+        };
         self.notes.saturating_add(usize::from(is_one_more))
     }
 
@@ -94,7 +97,7 @@ impl Progress {
     fn syncs(&mut self) {
         self.syncs = self.syncs.saturating_add(1);
         self.waiting = 0;
-        if self.root == Root::Waiting {
+        if matches!(self.root, Root::Waiting) {
             self.root = Root::Durable;
         }
     }

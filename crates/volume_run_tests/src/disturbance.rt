@@ -1,7 +1,7 @@
 //! What comes between the calls of a run.
 use station::MemoryStation;
 
-#[derive(Clone, Copy, Debug, PartialEq, Eq)]
+#[derive(Clone, Copy)]
 pub enum Disturbance {
     /// The call fails, and all later ones.
     Stop,
@@ -17,6 +17,14 @@ impl Disturbance {
         match self {
             Disturbance::Stop => station.stop_at(call),
             Disturbance::Failure | Disturbance::FailureAndStop => station.fail_at(call),
+        }
+    }
+
+    pub fn name(self) -> &'static str {
+        match self {
+            Disturbance::Stop => "stop",
+            Disturbance::Failure => "failure",
+            Disturbance::FailureAndStop => "failure and stop",
         }
     }
 }

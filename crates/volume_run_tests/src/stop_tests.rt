@@ -5,9 +5,9 @@ use crate::calls::{Progress, number_of};
 use crate::cases::{CHANGING, Case, EQUALS, PLACING, TALKING, WRITING};
 use crate::disturbance::Disturbance;
 use crate::told::files_left;
-use crate::volume::{BOTH, Layout, image_of, new_volume, notes, run, shown};
+use crate::volume::{Layout, image_of, new_volume, notes, run, shown};
 use run_unit::{Ended, Refusal};
-use station::{MemoryStation, Note};
+use station::MemoryStation;
 use std::alloc::Global;
 use std::process::Abort;
 
@@ -15,9 +15,8 @@ use std::process::Abort;
 const SECTORS: usize = 8;
 
 /// A call that is disturbed, and what a crash leaves of the sectors that wait for a sync: the last value of the i-th if bit i is set.
-#[derive(Clone, Copy, Debug)]
+#[derive(Clone, Copy)]
 struct Crash {
-    layout: Layout,
     how: Disturbance,
     call: u64,
     image: u32,
@@ -35,6 +34,9 @@ impl Crash {
     }
 }
 
+/// The layout, the disturbance, the call and the image of a crash, for messages.
+type Named = (&'static str, &'static str, u64, u32);
+
 /// How often a station was to read, write and sync.
 fn counts(station: &MemoryStation) -> [u64; 3] {
     [station.reads(), station.writes(), station.syncs()]
@@ -46,25 +48,6 @@ fn since(after: [u64; 3], before: [u64; 3]) -> [u64; 3] {
         after[1].saturating_sub(before[1]),
         after[2].saturating_sub(before[2]),
     ]
-}
-
-/// What is seen of a run, and what recovery finds after the crash.
-#[derive(Drop)]
-struct Seen {
-    ended: Ended,
-    counts: [u64; 3],
-    /// How many statuses were received before the run.
-    before: usize,
-    notes: Vec<Note>,
-    shown: Vec<u8>,
-    files: String,
-}
-
-impl Seen {
-    /// The statuses that the run received.
-    fn received(&self) -> &[Note] {
-        self.notes.get(self.before..).unwrap_or(&[])
-    }
 }
 
 /// A case over a layout, and the images of its programs.
@@ -105,67 +88,82 @@ impl<'a> Prepared<'a> {
         same(rt, run(alloc, &self.image, station), refused);
     }
 
-    fn seen(&self, rt: &impl Abort, alloc: Global, crash: &Crash) -> Seen {
-        let mut station = self.volume(rt, alloc);
-        let before = notes(rt, &station).len();
-        let counted = counts(&station);
-        crash.how.disturb(&mut station, crash.call);
-        let ended = run(alloc, &self.image, &mut station);
-        let counts = since(counts(&station), counted);
-        if crash.how == Disturbance::FailureAndStop {
-            self.is_not_opened(rt, alloc, &mut station);
-        }
-        station.crash(&crash.choices());
-        Seen {
-            ended,
-            counts,
-            before,
-            notes: notes(rt, &station),
-            shown: shown(rt, &station),
-            files: match files_left(rt, alloc, &mut station) {
-                Ok(files) => files,
-                Err(_) => panic!(rt; "not recovered"),
-            },
+    /// How a run ends of which this call is disturbed.
+    fn end(&self, call: u64) -> Ended {
+        if call <= number_of(self.case.calls(self.layout)) {
+            Ended::Refused(Refusal::Device)
+        } else {
+            Ended::Stopped
         }
     }
 
-    /// The call that is disturbed ends the run and is its last one, whatever a crash leaves.
+    /// The call that is disturbed ends the run and is its last one: the run has made the calls up to that one and no others.
+    fn is_run(
+        &self,
+        rt: &impl Abort,
+        alloc: Global,
+        station: &mut MemoryStation,
+        crash: &Crash,
+        progress: &Progress,
+    ) {
+        let named = self.named(crash);
+        let before = counts(station);
+        crash.how.disturb(station, crash.call);
+        let ended = run(alloc, &self.image, station);
+        same_in(rt, &named, ended, self.end(crash.call));
+        let made = [progress.reads, progress.writes, progress.syncs];
+        same_in(rt, &named, since(counts(station), before), made);
+        if matches!(crash.how, Disturbance::FailureAndStop) {
+            self.is_not_opened(rt, alloc, station);
+        }
+        station.crash(&crash.choices());
+    }
+
+    /// What a run showed and received and what a crash left is what the text means.
+    fn is_meant(&self, rt: &impl Abort, alloc: Global, crash: &Crash, progress: &Progress) {
+        let named = self.named(crash);
+        let mut station = self.volume(rt, alloc);
+        let before = notes(rt, &station).len();
+        self.is_run(rt, alloc, &mut station, crash, progress);
+        has_received(rt, &named, &station, before, progress.notes, self.case);
+        let text = self.case.shown.get(progress.texts).unwrap_or(&"?");
+        let shown = shown(rt, &station);
+        same_in(rt, &named, shown.as_slice(), text.as_bytes());
+        let statements = progress.statements_on_disk(crash.image);
+        let left = files_left(rt, alloc, &mut station).expect(rt, "not recovered");
+        same_in(rt, &named, left.as_str(), self.case.files_after(statements));
+    }
+
+    fn named(&self, crash: &Crash) -> Named {
+        let layout = self.layout.name();
+        (layout, crash.how.name(), crash.call, crash.image)
+    }
+
+    /// Whatever a crash leaves, the run and what is left are what the text means.
     fn is_ended(&self, rt: &impl Abort, alloc: Global, how: Disturbance, call: u64) {
-        let calls = self.case.calls(self.layout);
-        let progress = Progress::at(calls, call);
-        let layout = self.layout;
-        let expected = match call <= number_of(calls) {
-            true => Ended::Refused(Refusal::Device),
-            false => Ended::Stopped,
-        };
+        let progress = Progress::at(self.case.calls(self.layout), call);
         for image in 0..progress.images() {
-            let crash = Crash {
-                layout,
-                how,
-                call,
-                image,
-            };
-            let seen = self.seen(rt, alloc, &crash);
-            same_in(rt, &crash, seen.ended, expected);
-            is_meant(rt, self.case, &crash, &progress, &seen);
+            self.is_meant(rt, alloc, &Crash { how, call, image }, &progress);
         }
     }
 }
 
-/// The run has made the calls up to that one and no others. What it showed and received and what a crash left is what the text means.
-fn is_meant(rt: &impl Abort, case: &Case, crash: &Crash, progress: &Progress, seen: &Seen) {
-    let counts = [progress.reads, progress.writes, progress.syncs];
-    same_in(rt, crash, seen.counts, counts);
-    let received = seen.received();
-    same_in(rt, crash, received.len(), progress.notes);
+/// Asserts how many statuses were received after these, and which.
+fn has_received(
+    rt: &impl Abort,
+    named: &Named,
+    station: &MemoryStation,
+    before: usize,
+    count: usize,
+    case: &Case,
+) {
+    let notes = notes(rt, station);
+    let received = notes.get(before..).unwrap_or(&[]);
+    same_in(rt, named, received.len(), count);
     for (note, (status, _)) in received.iter().zip(case.moments) {
-        same_in(rt, crash, note.file, 0);
-        same_in(rt, crash, note.status.as_slice(), status.as_bytes());
+        same_in(rt, named, note.file, 0);
+        same_in(rt, named, note.status.as_slice(), status.as_bytes());
     }
-    let text = case.shown.get(progress.texts).unwrap_or(&"?");
-    same_in(rt, crash, seen.shown.as_slice(), text.as_bytes());
-    let files = case.files_after(progress.statements_on_disk(crash.image));
-    same_in(rt, crash, seen.files.as_str(), files);
 }
 
 /// Each call is disturbed in turn, and at last none.
@@ -179,12 +177,15 @@ fn at_each_call(rt: &impl Abort, alloc: Global, prepared: &Prepared, how: Distur
 /// A failed sync of a root may have left it on the disk. A later stop, before the first sync of an opening, leaves the file with the row or
 /// without it.
 fn disturbed(rt: &impl Abort, alloc: Global, case: &Case) {
-    for layout in BOTH {
-        let prepared = prepare(rt, alloc, case, layout);
-        at_each_call(rt, alloc, &prepared, Disturbance::Stop);
-        at_each_call(rt, alloc, &prepared, Disturbance::Failure);
-        at_each_call(rt, alloc, &prepared, Disturbance::FailureAndStop);
-    }
+    disturbed_over(rt, alloc, case, Layout::Halves);
+    disturbed_over(rt, alloc, case, Layout::Trees);
+}
+
+fn disturbed_over(rt: &impl Abort, alloc: Global, case: &Case, layout: Layout) {
+    let prepared = prepare(rt, alloc, case, layout);
+    at_each_call(rt, alloc, &prepared, Disturbance::Stop);
+    at_each_call(rt, alloc, &prepared, Disturbance::Failure);
+    at_each_call(rt, alloc, &prepared, Disturbance::FailureAndStop);
 }
 
 // A sequential file is absent or has 0 to 3 rows.

@@ -2,16 +2,33 @@
 use file_recovery::{StoredFile, StoredRow, recover};
 use records::Organization;
 use station::MemoryStation;
-use std::alloc::{AllocError, Global};
+use std::alloc::Global;
 use std::process::Abort;
 
-/// The bytes without the spaces at their end.
-pub fn push_bytes(to: &mut String, bytes: &[u8]) -> Result<(), AllocError> {
-    to.push_str(str::from_utf8(bytes).unwrap_or("?").trim_end())
+/// What recovery finds on the volume, or the number by which it is refused.
+pub fn files_left(
+    rt: &impl Abort,
+    alloc: Global,
+    station: &mut MemoryStation,
+) -> Result<String, u8> {
+    match recover(alloc, station) {
+        Ok(files) => Ok(told(rt, alloc, files.as_slice())),
+        Err(fault) => Err(fault.number()),
+    }
 }
 
-pub fn push_number(to: &mut String, alloc: Global, number: u64) -> Result<(), AllocError> {
-    to.push_str(format!(in alloc; "{number}")?.as_str())
+fn push(rt: &impl Abort, to: &mut String, text: &str) {
+    to.push_str(text).expect(rt, "no memory");
+}
+
+/// The bytes without the spaces at their end.
+fn push_bytes(rt: &impl Abort, to: &mut String, bytes: &[u8]) {
+    push(rt, to, str::from_utf8(bytes).unwrap_or("?").trim_end());
+}
+
+fn push_number(rt: &impl Abort, alloc: Global, to: &mut String, number: u64) {
+    let digits = format!(in alloc; "{number}").expect(rt, "no memory");
+    push(rt, to, digits.as_str());
 }
 
 fn kind(organization: Organization) -> &'static str {
@@ -39,75 +56,62 @@ fn rank(rows: &[StoredRow], key: usize, arrival: u64) -> u64 {
 }
 
 fn push_ranks(
-    to: &mut String,
+    rt: &impl Abort,
     alloc: Global,
-    file: &StoredFile,
+    to: &mut String,
+    rows: &[StoredRow],
     row: &StoredRow,
-) -> Result<(), AllocError> {
+) {
     for (key, arrival) in row.arrivals.as_slice().iter().enumerate() {
-        to.push_str(" ")?;
-        push_number(to, alloc, rank(file.rows.as_slice(), key, *arrival))?;
+        push(rt, to, " ");
+        push_number(rt, alloc, to, rank(rows, key, *arrival));
     }
-    Ok(())
 }
 
-fn push_row(
-    to: &mut String,
+/// The number of a row of a relative file.
+fn push_place(
+    rt: &impl Abort,
     alloc: Global,
-    file: &StoredFile,
-    row: &StoredRow,
-) -> Result<(), AllocError> {
-    to.push_str("[")?;
-    if file.spec.organization == Organization::Relative {
-        push_number(to, alloc, row.number)?;
-        to.push_str(" ")?;
+    to: &mut String,
+    organization: Organization,
+    number: u64,
+) {
+    if matches!(organization, Organization::Relative) {
+        push_number(rt, alloc, to, number);
+        push(rt, to, " ");
     }
-    push_bytes(to, row.bytes.as_slice())?;
-    push_ranks(to, alloc, file, row)?;
-    to.push_str("]")
 }
 
-fn push_rows(to: &mut String, alloc: Global, file: &StoredFile) -> Result<(), AllocError> {
-    for row in file.rows.as_slice() {
-        push_row(to, alloc, file, row)?;
+fn push_rows(rt: &impl Abort, alloc: Global, to: &mut String, file: &StoredFile) {
+    let rows = file.rows.as_slice();
+    for row in rows {
+        push(rt, to, "[");
+        push_place(rt, alloc, to, file.spec.organization, row.number);
+        push_bytes(rt, to, row.bytes.as_slice());
+        push_ranks(rt, alloc, to, rows, row);
+        push(rt, to, "]");
     }
-    Ok(())
 }
 
 /// Its name, its organization, the bytes of a record, and its rows in order, each in brackets and without spaces at its end: before a row of
 /// a relative file its number, and after a row for each alternate key how many rows came to have their value of it before.
-fn push_file(to: &mut String, alloc: Global, file: &StoredFile) -> Result<(), AllocError> {
-    push_bytes(to, file.spec.name.as_slice())?;
-    to.push_str(kind(file.spec.organization))?;
-    push_number(to, alloc, u64::from(file.spec.record_length))?;
+fn push_file(rt: &impl Abort, alloc: Global, to: &mut String, file: &StoredFile) {
+    push_bytes(rt, to, file.spec.name.as_slice());
+    push(rt, to, kind(file.spec.organization));
+    push_number(rt, alloc, to, u64::from(file.spec.record_length));
     if !file.rows.is_empty() {
-        to.push_str(" ")?;
+        push(rt, to, " ");
     }
-    push_rows(to, alloc, file)
+    push_rows(rt, alloc, to, file);
 }
 
-fn told(alloc: Global, files: &[StoredFile]) -> Result<String, AllocError> {
+fn told(rt: &impl Abort, alloc: Global, files: &[StoredFile]) -> String {
     let mut text = String::new(alloc);
     for file in files {
         if !text.is_empty() {
-            text.push_str("; ")?;
+            push(rt, &mut text, "; ");
         }
-        push_file(&mut text, alloc, file)?;
+        push_file(rt, alloc, &mut text, file);
     }
-    Ok(text)
-}
-
-/// What recovery finds on the volume, or the number by which it is refused.
-pub fn files_left(
-    rt: &impl Abort,
-    alloc: Global,
-    station: &mut MemoryStation,
-) -> Result<String, u8> {
-    match recover(alloc, station) {
-        Ok(files) => match told(alloc, files.as_slice()) {
-            Ok(text) => Ok(text),
-            Err(_) => panic!(rt; "no memory"),
-        },
-        Err(fault) => Err(fault.number()),
-    }
+    text
 }
