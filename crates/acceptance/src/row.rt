@@ -101,18 +101,21 @@ fn number(digits: &[u8]) -> Option<u64> {
 /// Reads the files of a row: `NAME.cob`, `NAME.out`, `NAME.end` and, where there is one, `NAME.budget`, `NAME.in` with the
 /// lines of the console, `NAME.notes` with the statuses that it receives and `NAME.files` with the files that it leaves.
 pub fn read_row<R: Files + AllocGlobal>(rt: &R, name: &str) -> io::Result<Row> {
-    let alloc = rt.alloc();
-    let mut files = Vec::new(alloc);
+    let mut files = Vec::new(rt.alloc());
     for ending in &ENDINGS {
-        let path = format!(in alloc; "{name}.{ending}")?;
-        files.push(read_if_there(rt, path.as_str())?)?;
+        files.push(read_part(rt, name, ending)?)?;
     }
     Ok(Row { files })
 }
 
-/// The bytes of a file, if it is there.
-fn read_if_there<R: Files + AllocGlobal>(rt: &R, path: &str) -> io::Result<Option<Vec<u8>>> {
-    match fs::read(rt, path) {
+/// The bytes of the row's file with this ending, if it is there.
+fn read_part<R: Files + AllocGlobal>(
+    rt: &R,
+    name: &str,
+    ending: &str,
+) -> io::Result<Option<Vec<u8>>> {
+    let path = format!(in rt.alloc(); "{name}.{ending}")?;
+    match fs::read(rt, path.as_str()) {
         Ok(bytes) => Ok(Some(bytes)),
         Err(error) if error.kind() == io::ErrorKind::NotFound => Ok(None),
         Err(error) => Err(error),

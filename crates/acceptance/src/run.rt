@@ -4,7 +4,7 @@ use crate::ending::Ending;
 use crate::row::{Expected, Row};
 use crate::volume::{Layout, listed, new_volume, noted};
 use alternate_keys::PagedStore;
-use code_image::{from_bytes, verify};
+use code_image::{Verified, from_bytes, verify};
 use run_unit::{Ended, Refusal, compile, run_image, run_over, run_source};
 use station::MemoryStation;
 use std::alloc::{AllocError, Global};
@@ -189,12 +189,19 @@ fn run_with_one_page(
     station: &mut MemoryStation,
     budget: u64,
 ) -> Ended {
-    let Ok(code) = from_bytes(alloc, image) else {
-        return NOT_RUN;
-    };
-    let Ok(code) = verify(alloc, code) else {
-        return NOT_RUN;
-    };
+    match read_code(alloc, image) {
+        Some(code) => run_code(alloc, code, station, budget),
+        None => NOT_RUN,
+    }
+}
+
+fn read_code(alloc: Global, image: &[u8]) -> Option<Verified> {
+    let code = from_bytes(alloc, image).ok()?;
+    verify(alloc, code).ok()
+}
+
+/// Runs code with one page in memory.
+fn run_code(alloc: Global, code: Verified, station: &mut MemoryStation, budget: u64) -> Ended {
     match PagedStore::open(alloc, station, 1) {
         Ok(store) => run_over(alloc, code, station, store, DAY, budget),
         Err(_) => NOT_RUN,
@@ -214,7 +221,7 @@ fn told(
     };
     Ok(Seen {
         shown: station.shown()?,
-        end: format!(in alloc; "{ending}")?,
+        end: ending.in_words(alloc)?,
         notes: noted(alloc, station)?,
         files,
     })
