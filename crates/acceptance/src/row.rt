@@ -50,6 +50,13 @@ impl Row {
         }
     }
 
+    /// Whether it has the files that each row has: the program, what it shows, and how it ends.
+    pub fn is_whole(&self) -> bool {
+        self.part(Part::Source).is_some()
+            && self.part(Part::Shown).is_some()
+            && self.part(Part::End).is_some()
+    }
+
     /// The text of the program, which is empty if it has no file.
     pub fn source(&self) -> &[u8] {
         self.part(Part::Source).unwrap_or(b"")

@@ -8,7 +8,7 @@ use std::rt::Files;
 /// How many rows passed, and how many failed.
 #[derive(Clone, Copy, Default)]
 pub struct Counts {
-    pub passed: u32,
+    passed: u32,
     pub failed: u32,
 }
 

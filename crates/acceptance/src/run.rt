@@ -17,6 +17,9 @@ const WAYS: [Way; 3] = [Way::Image, Way::Halves, Way::OnePage];
 
 /// How a row differs from what its files say, or how a way of running it differs from another one, if any does.
 pub fn check_row(alloc: Global, row: &Row) -> Result<Option<String>, AllocError> {
+    if !row.is_whole() {
+        return Ok(Some("it lacks its source, its output or its end".to_string(alloc)?));
+    }
     match row.budget() {
         Some(budget) => check_with(alloc, row, budget),
         None => Ok(Some("its budget is no number".to_string(alloc)?)),
