@@ -68,13 +68,17 @@ into_reader first = do
   to ← target_reader
   divided_into first to
 
+abbrev pub giving_of : Operand → Operand → Parser Operation
+giving_of first second = do
+  expect w.Giving
+  all ← receivers_reader
+  given_reader first By second all
+
 unfoldable pub by_reader : Operand → Parser Operation
 by_reader first = do
   expect w.By
   second ← number_operand_reader
-  expect w.Giving
-  all ← receivers_reader
-  given_reader first By second all
+  giving_of first second
 
 unfoldable pub divided_reader : Operand → Parser Operation
 divided_reader first i = if begins_word w.By i then by_reader first i else into_reader first i

@@ -1,8 +1,8 @@
 //! ACCEPT.
 
-ghost use Rattle.std.specs.Prelude.{◌≡◌};
+ghost use Rattle.std.specs.Prelude.{◌≡◌, Ok};
 ghost use Rattle.std.specs.Option.{option_copied};
-ghost use Rattle.grammar.specs.Reading.{Reads};
+ghost use Rattle.grammar.specs.Reading.{Reads, left_out};
 ghost use Rattle.statements.specs.Accepting as spec;
 
 use expressions::reference;
@@ -12,18 +12,26 @@ use std::alloc::Global;
 use tokens::{Reserved, Token};
 
 /// From the verb on.
-#[tactic(auto, unfolding(crate::specs::Accepting::accept_reader, grammar::specs::Reading::left_out))]
+#[tactic(auto, unfolding(crate::specs::Accepting::accept_reader))]
 pub fn read_accept(alloc: Global, tokens: &mut Tokens<'_>) -> Result<Verb<Statement>, ReadFault>
     ensures { Reads (spec.accept_reader tokens.old) result tokens.new }
 {
     tokens.expect(Reserved::Accept)?;
     let receiver = reference(alloc, tokens)?;
-    let console = tokens.is_left_out(after_from_date(tokens.rest()));
+    let console = is_from_console(tokens);
     Ok(Verb::TextStatement(if console {
         TextStatement::Accept { receiver }
     } else {
         TextStatement::AcceptDate { receiver }
     }))
+}
+
+/// Whether FROM DATE is left out. Where it comes next it is passed.
+#[tactic(auto, unfolding(grammar::specs::Reading::left_out))]
+fn is_from_console(tokens: &mut Tokens<'_>) -> bool
+    ensures { left_out spec.after_from_date tokens.old ≡ Ok (result, tokens.new) }
+{
+    tokens.is_left_out(after_from_date(tokens.rest()))
 }
 
 /// The tokens after FROM DATE, where that comes first.

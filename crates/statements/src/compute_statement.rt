@@ -1,7 +1,6 @@
 //! COMPUTE.
 
 ghost use Rattle.std.specs.Prelude.{◌≡◌};
-ghost use Rattle.grammar.specs.Parts.{is_told};
 ghost use Rattle.grammar.specs.Reading as read;
 ghost use Rattle.grammar.specs.Reading.{Reads};
 ghost use Rattle.statements.specs.Computing as spec;
@@ -29,13 +28,14 @@ pub fn read_compute(
     Ok(Operation::Compute { receivers, value })
 }
 
-fn is_equal(token: &Token) -> bool
-    ensures { result ≡ is_told (spec.equal_in token.now) }
+/// `=` or EQUAL, if a token is one of them.
+fn equal_in(token: &Token) -> Option<()>
+    ensures { result ≡ spec.equal_in token.now }
 {
     match token.kind {
-        Kind::Operator(Operator::Equal) => true,
-        Kind::Reserved(Reserved::Equal) => true,
-        _ => false,
+        Kind::Operator(Operator::Equal) => Some(()),
+        Kind::Reserved(Reserved::Equal) => Some(()),
+        _ => None,
     }
 }
 
@@ -44,11 +44,12 @@ fn is_equal(token: &Token) -> bool
 fn equal(tokens: &mut Tokens<'_>) -> Result<(), ReadFault>
     ensures { Reads (read.one_token spec.equal_in tokens.old) result tokens.new }
 {
-    match tokens.rest() {
-        [next, rest @ ..] if is_equal(next) => {
-            tokens.go_to(rest);
-            Ok(())
-        }
-        _ => Err(tokens.refuse()),
-    }
+    let [next, rest @ ..] = tokens.rest() else {
+        return Err(tokens.refuse());
+    };
+    let Some(()) = equal_in(next) else {
+        return Err(tokens.refuse());
+    };
+    tokens.go_to(rest);
+    Ok(())
 }

@@ -1,8 +1,8 @@
 //! DISPLAY.
 
-ghost use Rattle.std.specs.Prelude.{◌≡◌};
+ghost use Rattle.std.specs.Prelude.{◌≡◌, Ok};
 ghost use Rattle.std.specs.Option.{option_copied};
-ghost use Rattle.grammar.specs.Reading.{Reads};
+ghost use Rattle.grammar.specs.Reading.{Reads, left_out};
 ghost use Rattle.statements.specs.Display as spec;
 
 use expressions::Operands;
@@ -12,17 +12,25 @@ use std::alloc::Global;
 use tokens::{Reserved, Token};
 
 /// From the verb on.
-#[tactic(auto, unfolding(crate::specs::Display::display_reader, grammar::specs::Reading::left_out))]
+#[tactic(auto, unfolding(crate::specs::Display::display_reader))]
 pub fn display(alloc: Global, tokens: &mut Tokens<'_>) -> Result<Verb<Statement>, ReadFault>
     ensures { Reads (spec.display_reader tokens.old) result tokens.new }
 {
     tokens.expect(Reserved::Display)?;
     let operands = several(&Operands, alloc, tokens)?;
-    let advancing = tokens.is_left_out(after_no_advancing(tokens.rest()));
+    let advancing = is_advancing(tokens);
     Ok(Verb::TextStatement(TextStatement::Display {
         operands,
         advancing,
     }))
+}
+
+/// Whether `[WITH] NO ADVANCING` is left out. Where it comes next it is passed.
+#[tactic(auto, unfolding(grammar::specs::Reading::left_out))]
+fn is_advancing(tokens: &mut Tokens<'_>) -> bool
+    ensures { left_out spec.after_no_advancing tokens.old ≡ Ok (result, tokens.new) }
+{
+    tokens.is_left_out(after_no_advancing(tokens.rest()))
 }
 
 /// The tokens after `[WITH] NO ADVANCING`, where that comes first.

@@ -1,6 +1,6 @@
 //! DIVIDE.
 
-ghost use Rattle.std.specs.Prelude.{◌≡◌};
+ghost use Rattle.std.specs.Prelude.{◌≡◌, Some};
 ghost use Rattle.grammar.specs.Reading.{Reads};
 ghost use Rattle.statements.specs.Dividing as spec;
 
@@ -45,15 +45,14 @@ fn remainder_of(
     first: Operand,
     order: DivisionOrder,
     second: Operand,
-    quotient: Option<Receiver>,
+    quotient: Receiver,
     tokens: &mut Tokens<'_>,
 ) -> Result<Operation, ReadFault>
-    ensures { Reads (spec.remainder_of first order second quotient tokens.old) result tokens.new }
+    ensures { Reads (spec.remainder_of first order second (Some quotient) tokens.old) result tokens.new }
 {
-    let quotient = quotient.ok_or(tokens.refuse());
-    let divided = beside((first, second), quotient)?;
+    let divided = (first, second, quotient);
     let (divided, ()) = beside(divided, tokens.expect(Reserved::Remainder))?;
-    let (((first, second), quotient), remainder) = beside(divided, reference(alloc, tokens))?;
+    let ((first, second, quotient), remainder) = beside(divided, reference(alloc, tokens))?;
     Ok(Operation::DivideRemainder {
         first,
         order,
@@ -75,15 +74,17 @@ fn given(
 ) -> Result<Operation, ReadFault>
     ensures { Reads (spec.given_reader first order second receivers tokens.old) result tokens.new }
 {
-    if tokens.at_word(Reserved::Remainder) {
-        remainder_of(alloc, first, order, second, only(receivers), tokens)
-    } else {
-        Ok(Operation::DivideGiving {
+    if !tokens.at_word(Reserved::Remainder) {
+        return Ok(Operation::DivideGiving {
             first,
             order,
             second,
             receivers,
-        })
+        });
+    }
+    match only(receivers) {
+        Some(quotient) => remainder_of(alloc, first, order, second, quotient, tokens),
+        None => Err(tokens.refuse()),
     }
 }
 
@@ -117,8 +118,20 @@ fn into(alloc: Global, first: Operand, tokens: &mut Tokens<'_>) -> Result<Operat
 fn by(alloc: Global, first: Operand, tokens: &mut Tokens<'_>) -> Result<Operation, ReadFault>
     ensures { Reads (spec.by_reader first tokens.old) result tokens.new }
 {
-    tokens.expect(Reserved::By)?;
-    let second = number_operand(alloc, tokens)?;
+    let (first, ()) = beside(first, tokens.expect(Reserved::By))?;
+    let (first, second) = beside(first, number_operand(alloc, tokens))?;
+    by_giving(alloc, first, second, tokens)
+}
+
+/// From GIVING on, after BY and an operand.
+fn by_giving(
+    alloc: Global,
+    first: Operand,
+    second: Operand,
+    tokens: &mut Tokens<'_>,
+) -> Result<Operation, ReadFault>
+    ensures { Reads (spec.giving_of first second tokens.old) result tokens.new }
+{
     let (operands, ()) = beside((first, second), tokens.expect(Reserved::Giving))?;
     let ((first, second), receivers) = beside(operands, all_receivers(alloc, tokens))?;
     given(alloc, first, DivisionOrder::By, second, receivers, tokens)

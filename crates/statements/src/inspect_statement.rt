@@ -49,7 +49,7 @@ fn inspected(
     }
 }
 
-/// CONVERTING, a text, TO, and the text whose characters come in its place.
+/// CONVERTING, a text, TO, and the text whose characters replace its own.
 #[tactic(auto, unfolding(crate::specs::Inspecting::converted_texts_reader, crate::specs::Inspecting::replacement_reader))]
 fn converted_texts(alloc: Global, tokens: &mut Tokens<'_>) -> Result<ReplacedText, ReadFault>
     ensures { Reads (rule.converted_texts_reader tokens.old) result tokens.new }
