@@ -1,11 +1,12 @@
 -- The neighbour of a lone child as it is read, and what the two become.
-use Rattle.std.proofs.Common.{◌≡◌, ◌≢◌, ◌-◌, ◌++◌, ℕ, List, [], refl, sym, ◌∙◌, subst}
-use Rattle.std.specs.Prelude.{Option, Result, Some, Err, slice_index_or}
+use Rattle.std.proofs.Common.{◌≡◌, ◌≢◌, ◌⊎◌, ⊎_elim, ap, inl, inr, ◌-◌, ◌++◌, ℕ, zero, suc, List, [], refl, sym, ◌∙◌}
+use Rattle.std.proofs.Common.{subst, arith}
+use Rattle.std.specs.Prelude.{Option, Result, Some, Ok, Err, IfErr, slice_index_or}
 use Rattle.station.specs.Disk.{Sector}
 use Rattle.pages.specs.Pages.{page_count, IsUnchanged}
 use Rattle.pages.specs.declared.page_map.PageMap.{PageMap}
 use Rattle.pages.specs.declared.error.PagesError.{PagesError}
-use Rattle.pages.specs.declared.error.PagesError.TheVariants.{Spent}
+use Rattle.pages.specs.declared.error.PagesError.TheVariants.{Device, Full, ForeignMark, Spent}
 use Rattle.btree_pages.specs.declared.row_layout.RowLayout.{RowLayout}
 use Rattle.btree_pages.specs.declared.row_layout.Kind.{Kind}
 use Rattle.btree_pages.specs.declared.row_layout.Kind.TheVariants.{Inner}
@@ -16,11 +17,31 @@ use Rattle.btree.specs.declared.removal_outcome.Child.{Child}
 use Rattle.btree.specs.declared.removal_outcome.RemovalOutcome.{RemovalOutcome}
 use Rattle.btree.specs.Tree.{TreeNode, IsOnPage, node_at}
 use Rattle.btree.specs.Changes.{pages_of_map, CountsPages, FewNumbers}
-use Rattle.btree.specs.Outcomes.{Joins, RebalancesNeighbours}
+use Rattle.btree.specs.Outcomes.{IsPair, Joins, RebalancesNeighbours}
 use Rattle.btree.specs.Puts.{JoinsPair}
+use Rattle.btree.specs.Refusals.{IsRestRefusal}
 use Rattle.btree.specs.Results.{ExactlyIfSpent}
-use Rattle.btree.proofs.Pairing.{Above, IsNear, rows_read, rebalanced_so, together_first, together_other}
+use Rattle.btree.proofs.Passing.{never_ok, same_error}
+use Rattle.btree.proofs.Pairing.{Above, IsNear, first_near, other_near, rows_read, rebalanced_so, together_first}
+use Rattle.btree.proofs.Pairing.{together_other}
 use Rattle.btree.proofs.ReadMaps.{live_unless, small_map, pages_same}
+
+pub zero_or_more : (n : ℕ) → (n ≡ 0) ⊎ (n ≢ 0)
+zero_or_more zero = inl refl
+zero_or_more (suc n) = inr (λ is. omega (arith, is))
+
+-- A page that is written is refused for these reasons alone.
+rest_alone : {T : Type 0} (r : Result T PagesError) (e : PagesError) → IfErr r IsRestRefusal → r ≡ Err e
+    → IsRestRefusal e
+rest_alone (Ok x) e why is = never_ok is
+rest_alone (Err y) e why is = subst IsRestRefusal (same_error is) why
+
+pub rest_no_device : {T : Type 0} (r : Result T PagesError) → IfErr r IsRestRefusal → r ≡ Err Device → ⊥
+rest_no_device r why is = rest_alone r Device why is
+
+pub rest_no_full : {T : Type 0} (r : Result T PagesError) → IfErr r IsRestRefusal
+    → (r ≢ Err Full) × (r ≢ Err ForeignMark)
+rest_no_full r why = (λ is. rest_alone r Full why is, λ is. rest_alone r ForeignMark why is)
 
 -- The page above is in a map on which a call was not refused as spent.
 pub above_at : {T : Type 0} (result : Result T PagesError) (pages : PageMap) (image : List Sector) (layout : RowLayout)
@@ -35,6 +56,12 @@ above_at result pages image layout node counts few exactly unspent layout_is inn
       is_node = is_node;
     }
 
+-- a page that the row at a place names, with another name for the place
+pub named_at : (node : Node) (near at number : ℕ) → number ≡ child_of node.layout (slice_index_or node.rows near [])
+    → near ≡ at → number ≡ child_of node.layout (slice_index_or node.rows at [])
+named_at node near at number number_is is =
+    number_is ∙ ap (λ (n : ℕ). child_of node.layout (slice_index_or node.rows n [])) is
+
 -- The page of a neighbour has a node of its kind.
 pub never_missing : (pages : List (Option Sector)) (layout : RowLayout) (kind found : Kind) (node : Node)
     (page place at next lone number : ℕ) (left right child neighbour : TreeNode)
@@ -45,6 +72,23 @@ never_missing pages layout kind found node page place at next lone number left r
     number_is none =
     none neighbour (sym (number_is ∙ near.near_is))
     (subst (λ (k : Kind). IsOnPage layout pages k neighbour) (sym found_is) near.stands)
+
+-- So it is with the neighbour to the right of the first child, and with that to the left of another one.
+pub never_beside : (pages : List (Option Sector)) (layout : RowLayout) (kind found : Kind) (node : Node)
+    (page place lone number near : ℕ) (left right : TreeNode) → Above pages layout node
+    → IsPair layout kind pages page node.rows place lone left right → found ≡ kind
+    → number ≡ child_of node.layout (slice_index_or node.rows near [])
+    → (place ≡ 0 → near ≡ 1) → (place ≢ 0 → near ≡ place - 1)
+    → ((other : TreeNode) → other.page ≡ number → IsOnPage layout pages found other → ⊥) → ⊥
+never_beside pages layout kind found node page place lone number near left right above pair found_is number_is to_right
+    to_left none = ⊎_elim
+    (λ first. never_missing pages layout kind found node page place 0 1 lone number left right left right
+    (first_near pages layout kind node page place lone left right above first pair) found_is
+    (named_at node near 1 number number_is (to_right first)) none)
+    (λ other. never_missing pages layout kind found node page place (place - 1) (place - 1) lone number left right right
+    left (other_near pages layout kind node page place lone left right above other pair) found_is
+    (named_at node near (place - 1) number number_is (to_left other)) none)
+    (zero_or_more place)
 
 -- What the first child and the neighbour to its right became.
 pub rebalanced_first : (old now new : PageMap) (image : List Sector) (layout : RowLayout) (node : Node)

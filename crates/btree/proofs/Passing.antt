@@ -1,7 +1,8 @@
 -- What is known after a refusal that is passed on, and after two calls.
-use Rattle.std.proofs.Common.{◌≡◌, ◌↔◌, ◌*◌, Bool, true, false, ◌⊎◌, ⊎_elim, ◌<◌, ◌≤◌, ◌+◌, ℕ, List, length, sym, ap}
+use Rattle.std.proofs.Common.{◌≡◌, ◌↔◌, ◌*◌, Bool, true, false, ◌⊎◌, ⊎_elim, ◌<◌, ◌≤◌, ◌+◌, ℕ, suc, List, length, sym}
+use Rattle.std.proofs.Common.{ap}
 use Rattle.std.proofs.Common.{subst, ◌∙◌, arith}
-use Rattle.std.specs.Prelude.{Result, Option, Some, None, Ok, Err, OnErr, IfErr}
+use Rattle.std.specs.Prelude.{Result, Option, Some, None, Ok, Err, OnErr, OnOk, IfErr, IfOk}
 use Rattle.std.specs.Result.{IsErrAnd}
 use Rattle.station.specs.Calls.{OnlyReads}
 use Rattle.station.specs.declared.device.Device.{Ghosts as Devices}
@@ -63,6 +64,16 @@ pub was_error : {T U E : Type 0} (r : Result T E) (s : Result U E) (x e : E) →
     → r ≡ Err e → s ≡ Err e
 was_error {U = U} {E = E} r s x e from was is =
     was ∙ passed r x from (λ q. q ≡ Err e → (◌≡◌ {A = Result U E} (Err x) (Err e))) (λ same. still_error same) is
+
+-- a refusal that is passed on has no value
+pub if_refused : {T E : Type 0} (r : Result T E) (x : E) → IsErrAnd r (λ e. e ≡ x) → (P : T → Type 0) → IfOk r P
+if_refused r x is P = passed r x is (λ r. IfOk r P) tt
+
+pub on_refused : {T E : Type 0} (r : Result T E) (x : E) → IsErrAnd r (λ e. e ≡ x) → (A : Type 0) → OnOk r A
+on_refused r x is A = passed r x is (λ r. OnOk r A) tt
+
+pub refused_never : {T E A : Type 0} (r : Result T E) (x : E) (y : T) → IsErrAnd r (λ e. e ≡ x) → r ≡ Ok y → A
+refused_never {A = A} r x y is same = passed r x is (λ r. r ≡ Ok y → A) (λ s. never_err s) same
 
 damaged_or_device : Damaged ≡ Device → ⊥
 damaged_or_device is = cc
@@ -311,6 +322,17 @@ few_two old one two n steps first second same = omega arith
 pub few_three : (old one two three n steps : ℕ) → one ≤ old + 2 → two ≤ one + 2 * n → n ≡ steps → three ≤ two + 1
     → three ≤ old + 2 * steps + 3
 few_three old one two three n steps first second same third = omega arith
+
+-- and of the pages above, with one step more
+pub few_more : (old n : ℕ) → old ≤ old + n
+few_more old n = omega arith
+
+pub few_below : (old new below steps : ℕ) → new ≤ old + 2 * below → steps ≡ suc below → new ≤ old + 2 * steps
+few_below old new below steps few more = omega arith
+
+pub few_above : (old mid seen new below steps : ℕ) → mid ≤ old + 2 * below → seen ≡ mid → new ≤ seen + 2
+    → steps ≡ suc below → new ≤ old + 2 * steps
+few_above old mid seen new below steps few same two more = omega arith
 
 -- a list of changed pages that stays, or stays after it grew
 pub few_equal : (old new : List ℕ) (m : ℕ) → new ≡ old → length new ≤ length old + m

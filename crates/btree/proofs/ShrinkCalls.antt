@@ -1,5 +1,5 @@
 -- What the page at a step becomes, by the call that made it so.
-use Rattle.std.proofs.Common.{◌≡◌, ◌<◌, ◌+◌, ◌++◌, length, List, [], ◌∷◌, take, drop, sym, subst}
+use Rattle.std.proofs.Common.{◌≡◌, ◌<◌, ◌≤◌, ◌+◌, ◌++◌, ℕ, arith, length, List, [], ◌∷◌, take, drop, sym, subst}
 use Rattle.std.specs.Prelude.{Option, Result, Some, IfOk, slice_index_or}
 use Rattle.std.proofs.lemmas.Result.{IfOk-weaker}
 use Rattle.byteorder.specs.Endian.{big_bytes}
@@ -18,7 +18,7 @@ use Rattle.btree.specs.declared.removal_outcome.RemovalOutcome.{RemovalOutcome}
 use Rattle.btree.specs.declared.removal_outcome.RemovalOutcome.TheVariants.{Renamed, Gone, Underfull}
 use Rattle.btree.specs.Calls.{IfAgrees, OnPages, OnChange, pages_on}
 use Rattle.btree.specs.Changes.{CanStand}
-use Rattle.btree.specs.Outcomes.{IsRemovalResult, IsPair}
+use Rattle.btree.specs.Outcomes.{IsRemovalResult, IsPair, spare}
 use Rattle.btree.specs.Path.{PathStep}
 use Rattle.btree.specs.Propagates.{node_with}
 use Rattle.btree.specs.Puts.{RenamesRow, LosesRow}
@@ -27,6 +27,12 @@ use Rattle.btree.specs.Tree.{TreeNode, node_at, row_of}
 use Rattle.btree.proofs.Downward.{Rebalances, renamed_on, gone_on, lone_on, never_rebalanced}
 use Rattle.btree.proofs.Passing.{pages_before}
 use Rattle.btree.proofs.ReadMaps.{change_at, change_before, pages_same}
+
+-- How many pages a step leaves, by what the call on its page leaves.
+pub leaves_then : (result : Result RemovalOutcome PagesError) (new now most more : ℕ) → now + more ≤ most
+    → IfOk result (λ up. new + spare up ≤ now + more) → IfOk result (λ up. new + spare up ≤ most)
+leaves_then result new now most more few left = IfOk-weaker result (λ up. new + spare up ≤ now + more)
+    (λ up. new + spare up ≤ most) (λ up less. omega (arith, few, less)) left
 
 -- A step leads to no child that has a neighbour.
 abbrev pub NeverPairs : RowLayout → PathStep → Child → Node → List (Option Sector) → Type 0

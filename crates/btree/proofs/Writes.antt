@@ -15,7 +15,7 @@ use Rattle.btree_pages.specs.RowLayouts.{rest_length, row_length}
 use Rattle.btree_pages.specs.Node.{Node, node_in}
 use Rattle.btree_pages.specs.Edits.{node_with_row}
 use Rattle.btree.specs.Nodes.{SameNode}
-use Rattle.btree.specs.Changes.{IsIn, CanTake}
+use Rattle.btree.specs.Changes.{IsIn, IsLike, CanTake}
 use Rattle.btree.specs.Tree.{node_of, node_on, fewest, IsOnPage}
 use Rattle.btree.specs.Moves.{Once, ReplacesNodes}
 use Rattle.btree.specs.Propagates.{node_with}
@@ -194,6 +194,14 @@ insert_lengths node place key rest key_is rest_is all =
     All-append P (take place node.rows) ((key ++ rest) ∷ drop place node.rows) (All-take P place node.rows all)
     (All-cons P (key ++ rest) (drop place node.rows) (omega (arith, length-append key rest, key_is, rest_is))
     (All-drop P place node.rows all))
+
+-- a page that a row came to is like the one before, and has a row
+pub inserted_like : (node new : Node) (place : ℕ) (row : List ℕ) → place ≤ length node.rows
+    → new ≡ node_with_row node place row → IsLike node new
+inserted_like node new place row low is = record {
+  same = record { layout = ap (λ (n : Node). n.layout) is; kind = ap (λ (n : Node). n.kind) is };
+  some = omega (arith, ap (λ (n : Node). length n.rows) is, length-insert node.rows place row low);
+}
 
 -- a row came into a page with room
 pub spells_inserted : (pages : List (Option Sector)) (page : ℕ) (node new : Node) (place : ℕ) (key rest bytes : List ℕ)

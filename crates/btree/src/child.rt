@@ -8,7 +8,7 @@ use btree_pages::NodeView;
 use std::alloc::{AllocError, Global};
 
 /// The child that a row of an inner page names: the row's place, and the child's page.
-#[derive(Clone, Copy, PartialEq, Eq)]
+#[derive(Clone, Copy)]
 pub(crate) struct Child {
     pub place: usize,
     pub page: u32,

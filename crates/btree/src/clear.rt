@@ -2,7 +2,7 @@
 ghost use Rattle.std.specs.Prelude.{◌≡◌, ◌≤◌, ◌<◌, ◌++◌, Err, true, List, [], length, map, IfOk, IfErr, OnOk};
 ghost use Rattle.std.specs.List.{All};
 ghost use Rattle.station.specs.Disk.{Sector};
-ghost use Rattle.pages.specs.Pages.{is_spent, page_count, SameCommitted, KeepsCommitted, IsUnchanged};
+ghost use Rattle.pages.specs.Pages.{is_spent, page_count, KeepsCommitted, IsUnchanged};
 ghost use Rattle.pages.specs.Devices.{FitsDevice};
 ghost use Rattle.btree_pages.specs.RowLayouts.{IsRowLayout};
 ghost use Rattle.btree_pages.specs.Keys.{child_of};
@@ -13,11 +13,11 @@ ghost use Rattle.btree.specs.Changes.{pages_of_map};
 ghost use Rattle.btree.specs.Clears.{HasPages, IsDown, levels_below};
 ghost use Rattle.btree.specs.Refusals.{IsRestRefusal, ErrOnlyIfChangeRefusal};
 ghost use Rattle.btree.specs.Calls.{OnPages, OnChange, OnlyReadsFor, EditsPagesFor, KeepsAgreement, DamagedOnlyIfNoTree};
-ghost use Rattle.btree.specs.Results.{OnlyIfSpent, ExactlyIfSpent, OnlyIfSpentAt, ErrOnlyIfSame, OkOnlyIfEmpty, SameLayout, SameCatalog, FillsNoMore};
+ghost use Rattle.btree.specs.Results.{OnlyIfSpent, ExactlyIfSpent, OnlyIfSpentAt, ErrOnlyIfSame, OkOnlyIfEmpty, SameLayout, FillsNoMore};
 ghost use Rattle.btree.specs.TreeEdits.{OkOnlyIfCleared};
 
 use crate::descend::LEVELS;
-use crate::node::read_node;
+use crate::node::{read_kind, read_node};
 use crate::tree::Tree;
 use btree_pages::{Kind, RowLayout, TreePage};
 use pages::{PageMap, PagesError};
@@ -55,9 +55,8 @@ impl Tree {
         }
         // How many page numbers there are is needed below.
         let _page_count = pages.page_count();
-        let mut numbers = Vec::new(alloc);
-        numbers.push(top)?;
-        clear_levels(alloc, pages, device, layout, numbers, LEVELS)?;
+        let numbers = [top];
+        clear_levels(alloc, pages, device, layout, &numbers, LEVELS)?;
         self.set_root(0);
         Ok(())
     }
@@ -129,10 +128,7 @@ fn children_of<D: Device>(
     let room = pages.page_count();
     let mut children = Vec::new(alloc);
     for place in 0..numbers.len() {
-        let node = read_node(pages, device, layout, numbers[place])?;
-        if node.kind() != Kind::Inner {
-            return Err(PagesError::Damaged);
-        }
+        let node = read_kind(pages, device, layout, Kind::Inner, numbers[place])?;
         push_children(&mut children, &node)?;
         if room < children.len() {
             return Err(PagesError::Damaged);
@@ -180,24 +176,21 @@ fn clear_levels<D: Device>(
     pages: &mut PageMap,
     device: &mut D,
     layout: RowLayout,
-    numbers: Vec<u32>,
+    numbers: &[u32],
     depth: usize,
 ) -> Result<(), PagesError>
     requires sectors { FitsDevice D.Device pages.old device.old }
     requires layout { IsRowLayout layout }
-    ensures only { OnlyReadsFor D.Device device.old device.new result }
+    ensures edits { EditsPagesFor D.Device pages.old device.old pages.new device.new result }
     ensures cleared { OnChange D.Device pages.old pages.new device.old
         (λ before after. (levels : List (List TreeNode)) → IsSmall before → IsDown layout before
-        numbers.items levels → OnOk result (Moves before (pages_of levels) after [])) }
+        numbers.now levels → OnOk result (Moves before (pages_of levels) after [])) }
     ensures damaged { OnPages D.Device pages.old device.old
         (λ before. result ≡ Err PagesError.Damaged → (levels : List (List TreeNode)) → IsSmall
-        before → IsDown layout before numbers.items levels → length levels ≤ depth → ⊥) }
+        before → IsDown layout before numbers.now levels → length levels ≤ depth → ⊥) }
     ensures filled { FillsNoMore pages.old pages.new }
-    ensures committed { SameCommitted pages.old pages.new }
-    ensures catalog { SameCatalog pages.old pages.new }
-    ensures agrees { KeepsAgreement D.Device pages.old device.old pages.new device.new }
     ensures spent { OnlyIfSpent pages.old result }
-    ensures told { is_spent pages.old ≡ true → 0 < length numbers.items → 0 < depth
+    ensures told { is_spent pages.old ≡ true → 0 < length numbers.now → 0 < depth
         → result ≡ Err PagesError.Spent }
     ensures cause { ErrOnlyIfChangeRefusal result }
 {
@@ -207,7 +200,7 @@ fn clear_levels<D: Device>(
     if depth == 0 {
         return Err(PagesError::Damaged);
     }
-    let children = below(alloc, pages, device, layout, numbers.as_slice())?;
-    release_pages(pages, numbers.as_slice())?;
-    clear_levels(alloc, pages, device, layout, children, depth - 1)
+    let children = below(alloc, pages, device, layout, numbers)?;
+    release_pages(pages, numbers)?;
+    clear_levels(alloc, pages, device, layout, children.as_slice(), depth - 1)
 }

@@ -15,7 +15,7 @@ ghost use Rattle.btree.specs.Results.{OnlyIfSpent, OnlyIfSpentAt};
 
 use crate::clear::below;
 use crate::descend::LEVELS;
-use crate::node::read_node;
+use crate::node::read_kind;
 use crate::tree::Tree;
 use btree_pages::{Kind, RowLayout};
 use pages::{PageMap, PagesError};
@@ -43,9 +43,8 @@ impl Tree {
         let alloc = self.alloc;
         // A clause of `page_count` says how many page numbers there are.
         let _page_count = pages.page_count();
-        let mut numbers = Vec::new(alloc);
-        numbers.push(self.root)?;
-        count_levels(alloc, pages, device, self.layout, numbers, LEVELS)
+        let numbers = [self.root];
+        count_levels(alloc, pages, device, self.layout, &numbers, LEVELS)
     }
 }
 
@@ -76,10 +75,7 @@ fn count_rows<D: Device>(
     let _page_count = pages.page_count();
     let mut count = 0;
     for place in 0..numbers.len() {
-        let node = read_node(pages, device, layout, numbers[place])?;
-        if node.kind() != Kind::Leaf {
-            return Err(PagesError::Damaged);
-        }
+        let node = read_kind(pages, device, layout, Kind::Leaf, numbers[place])?;
         count += node.count() as u64;
     }
     Ok(count)
@@ -91,24 +87,24 @@ fn count_levels<D: Device>(
     pages: &mut PageMap,
     device: &mut D,
     layout: RowLayout,
-    numbers: Vec<u32>,
+    numbers: &[u32],
     depth: usize,
 ) -> Result<u64, PagesError>
     requires sectors { FitsDevice D.Device pages.old device.old }
     requires layout { IsRowLayout layout }
-    requires few { length numbers.items ≤ page_count pages.old + 1 }
+    requires few { length numbers.now ≤ page_count pages.old + 1 }
     ensures only { OnlyReadsFor D.Device device.old device.new result }
     ensures unchanged { IsUnchanged pages.old pages.new }
     ensures agrees { KeepsAgreement D.Device pages.old device.old pages.new device.new }
     ensures count { OnPages D.Device pages.old device.old
         (λ before. (levels : List (List TreeNode)) → IsSmall before
-        → IsDown layout before numbers.items levels
+        → IsDown layout before numbers.now levels
         → IfOk result (λ count. count ≡ length (rows_in_order levels))) }
     ensures damaged { OnPages D.Device pages.old device.old
         (λ before. result ≡ Err PagesError.Damaged → (levels : List (List TreeNode)) → IsSmall
-        before → IsDown layout before numbers.items levels → length levels ≤ depth → ⊥) }
+        before → IsDown layout before numbers.now levels → length levels ≤ depth → ⊥) }
     ensures spent { OnlyIfSpent pages.old result }
-    ensures told { is_spent pages.old ≡ true → 0 < length numbers.items → 0 < depth
+    ensures told { is_spent pages.old ≡ true → 0 < length numbers.now → 0 < depth
         → result ≡ Err PagesError.Spent }
     ensures cause { ErrOnlyIfChangeRefusal result }
 {
@@ -118,9 +114,9 @@ fn count_levels<D: Device>(
     if depth == 0 {
         return Err(PagesError::Damaged);
     }
-    let children = below(alloc, pages, device, layout, numbers.as_slice())?;
+    let children = below(alloc, pages, device, layout, numbers)?;
     if children.is_empty() {
-        return count_rows(pages, device, layout, numbers.as_slice());
+        return count_rows(pages, device, layout, numbers);
     }
-    count_levels(alloc, pages, device, layout, children, depth - 1)
+    count_levels(alloc, pages, device, layout, children.as_slice(), depth - 1)
 }

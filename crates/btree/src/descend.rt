@@ -12,7 +12,7 @@ ghost use Rattle.btree.specs.Calls.{OnPages, OnlyReadsFor, KeepsAgreement};
 ghost use Rattle.btree.specs.Results.{ReturnsDamaged, ExactlyIfSpent};
 
 use crate::key::Key;
-use crate::node::read_node;
+use crate::node::read_kind;
 use crate::path_step::PathStep;
 use crate::step::step_at;
 use btree_pages::{Kind, RowLayout, TreePage};
@@ -24,21 +24,19 @@ use std::alloc::Global;
 /// How many levels a tree has at most.
 pub const LEVELS: usize = 21;
 
-/// The leaf that a key leads to, with the steps on the way, and the first key to the right of the leaf.
-#[derive(Drop)]
-pub(crate) struct Descent {
-    pub path: SmallVec<PathStep, LEVELS>,
-    pub page: u32,
-    pub leaf: TreePage,
-    pub right: Option<Key>,
-}
-
 /// The page of the leaf that a key leads to, with the steps on the way, and the first key to the right of the leaf.
 #[derive(Drop)]
 pub(crate) struct Way {
     pub path: SmallVec<PathStep, LEVELS>,
     pub page: u32,
     pub right: Option<Key>,
+}
+
+/// The way of a key to a leaf, and the leaf.
+#[derive(Drop)]
+pub(crate) struct Descent {
+    pub way: Way,
+    pub leaf: TreePage,
 }
 
 /// Goes down from a page to the leaf where the key belongs. `Damaged` means that the page is no tree's root. `Memory` comes only
@@ -100,8 +98,8 @@ pub(crate) fn descend<D: Device>(
     ensures agrees { KeepsAgreement D.Device pages.old device.old pages.new device.new }
     ensures way { OnPages D.Device pages.old device.old
         (λ before. (levels : List (List TreeNode)) → IsTree layout before root levels
-        → IfOk result (λ descent. EndsAt layout key.now levels descent.path.items descent.page
-        descent.leaf.rows descent.right)) }
+        → IfOk result (λ descent. EndsAt layout key.now levels descent.way.path.items
+        descent.way.page descent.leaf.rows descent.way.right)) }
     ensures damaged { OnPages D.Device pages.old device.old
         (NoTree layout root (ReturnsDamaged result)) }
     ensures leaf { IfOk result (λ descent. (descent.leaf.layout ≡ layout)
@@ -110,15 +108,7 @@ pub(crate) fn descend<D: Device>(
     ensures spent { ExactlyIfSpent pages.old result }
     ensures cause { IfErr result (IsSearchRefusal layout) }
 {
-    let Way { path, page, right } = follow(alloc, pages, device, layout, root, key)?;
-    let leaf = read_node(pages, device, layout, page)?;
-    if leaf.kind() != Kind::Leaf {
-        return Err(PagesError::Damaged);
-    }
-    Ok(Descent {
-        path,
-        page,
-        leaf,
-        right,
-    })
+    let way = follow(alloc, pages, device, layout, root, key)?;
+    let leaf = read_kind(pages, device, layout, Kind::Leaf, way.page)?;
+    Ok(Descent { way, leaf })
 }

@@ -9,7 +9,7 @@ ghost use Rattle.btree.specs.Calls.{OnNoTree, OnTree, OnTreeChange, OnlyReadsFor
 ghost use Rattle.btree.specs.Results.{ReturnsDamaged, ExactlyIfSpent, FullIfUsed, FewChanged, FewFilled, FalseOnlyIfSame, ErrOnlyIfSame, SameLayout, SameCatalog};
 ghost use Rattle.btree.specs.TreeEdits.{FalseOnlyIfPresent, TrueOnlyIfInserted, TakesFewPages};
 
-use crate::descend::{descend, follow};
+use crate::descend::{Descent, descend, follow};
 use crate::enter_leaf::enter_leaf;
 use crate::insert_into_leaf::{NewRow, insert_into_leaf};
 use crate::put_new::first_leaf;
@@ -94,6 +94,9 @@ fn insert_slowly<D: Device>(
     requires key { length key.now ≡ layout.key_length }
     requires value { length value.now ≡ layout.value_length }
     ensures edits { EditsPagesFor D.Device pages.old device.old pages.new device.new result }
+    ensures full { FullIfUsed pages.new result }
+    ensures spent { ExactlyIfSpent pages.old result }
+    ensures cause { ErrOnlyIfInsertRefusal result }
     ensures inserted { OnTreeChange D.Device layout root pages.old pages.new device.old
         (λ before levels after.
         IfOk result (Inserts layout before levels after key.now value.now)) }
@@ -103,19 +106,16 @@ fn insert_slowly<D: Device>(
         (λ levels. FewChanged 42 pages.old pages.new) }
     ensures filled { OnTree D.Device layout root pages.old device.old
         (λ levels. FewFilled 42 pages.old pages.new) }
-    ensures full { FullIfUsed pages.new result }
-    ensures spent { ExactlyIfSpent pages.old result }
-    ensures cause { ErrOnlyIfInsertRefusal result }
 {
     // How many page numbers there are is needed below.
     let _page_count = pages.page_count();
-    let descent = descend(alloc, pages, device, layout, root, key)?;
-    let place = match descent.leaf.find(key) {
+    let Descent { way, leaf } = descend(alloc, pages, device, layout, root, key)?;
+    let place = match leaf.find(key) {
         Ok(_) => return Ok(None),
         Err(place) => place,
     };
-    let row = NewRow { key, value };
-    let entered = insert_into_leaf(pages, device, layout, root, descent, place, row)?;
+    let row = NewRow { place, key, value };
+    let entered = insert_into_leaf(pages, device, layout, root, &way, leaf, row)?;
     Ok(Some(entered))
 }
 
@@ -134,7 +134,7 @@ fn insert_entry<D: Device>(
     requires layout { IsRowLayout layout }
     requires key { length key.now ≡ layout.key_length }
     requires value { length value.now ≡ layout.value_length }
-    ensures only { OnlyReadsFor D.Device device.old device.new result }
+    ensures edits { EditsPagesFor D.Device pages.old device.old pages.new device.new result }
     ensures inserted { OnTreeChange D.Device layout root pages.old pages.new device.old
         (λ before levels after.
         IfOk result (Inserts layout before levels after key.now value.now)) }
@@ -144,9 +144,6 @@ fn insert_entry<D: Device>(
         (λ levels. FewChanged 42 pages.old pages.new) }
     ensures filled { OnTree D.Device layout root pages.old device.old
         (λ levels. FewFilled 42 pages.old pages.new) }
-    ensures committed { SameCommitted pages.old pages.new }
-    ensures catalog { SameCatalog pages.old pages.new }
-    ensures agrees { KeepsAgreement D.Device pages.old device.old pages.new device.new }
     ensures full { FullIfUsed pages.new result }
     ensures spent { ExactlyIfSpent pages.old result }
     ensures cause { ErrOnlyIfInsertRefusal result }

@@ -5,7 +5,7 @@ ghost use Rattle.pages.specs.Devices.{FitsDevice};
 ghost use Rattle.btree_pages.specs.RowLayouts.{IsRowLayout};
 ghost use Rattle.btree_pages.specs.Node.{IsNode, node_in};
 ghost use Rattle.btree.specs.Tree.{node_at, fewest};
-ghost use Rattle.btree.specs.Reading.{IsReadRefusal, SpellsNoNode, NoneStands, HasShape};
+ghost use Rattle.btree.specs.Reading.{IsReadRefusal, SpellsNoNode, NoneStands, NoneOfKind, HasShape, HasKindShape};
 ghost use Rattle.btree.specs.Calls.{OnPages, OnlyReadsFor, KeepsAgreement};
 ghost use Rattle.btree.specs.PageReads.{AnswersFromPage};
 ghost use Rattle.btree.specs.Results.{ReturnsDamaged, ExactlyIfSpent};
@@ -58,6 +58,35 @@ pub fn read_node<D: Device>(
         return copy_node(bytes, layout);
     }
     node_loaded(pages, device, layout, page)
+}
+
+/// The page of that number, which is of this kind. `Damaged` means that it is no such one of a tree.
+pub(crate) fn read_kind<D: Device>(
+    pages: &mut PageMap,
+    device: &mut D,
+    layout: RowLayout,
+    kind: Kind,
+    page: u32,
+) -> Result<TreePage, PagesError>
+    requires sectors { FitsDevice D.Device pages.old device.old }
+    requires layout { IsRowLayout layout }
+    ensures only { OnlyReadsFor D.Device device.old device.new result }
+    ensures unchanged { IsUnchanged pages.old pages.new }
+    ensures agrees { KeepsAgreement D.Device pages.old device.old pages.new device.new }
+    ensures node { OnPages D.Device pages.old device.old
+        (λ before. IfOk result (λ node. node_at layout before page ≡ Some node)) }
+    ensures shape { IfOk result (HasKindShape layout kind) }
+    ensures is_node { IfOk result IsNode }
+    ensures damaged { OnPages D.Device pages.old device.old
+        (NoneOfKind layout kind page (ReturnsDamaged result)) }
+    ensures spent { ExactlyIfSpent pages.old result }
+    ensures cause { IfErr result IsReadRefusal }
+{
+    let node = read_node(pages, device, layout, page)?;
+    if node.kind() != kind {
+        return Err(PagesError::Damaged);
+    }
+    Ok(node)
 }
 
 /// How many rows a page of a tree has at least.

@@ -1,7 +1,7 @@
 //! A step on the way down a tree.
 
 /// An inner page, and the place of the row that leads on.
-#[derive(Clone, Copy, PartialEq, Eq, Default)]
+#[derive(Clone, Copy, Default)]
 pub(crate) struct PathStep {
     pub page: u32,
     pub place: usize,

@@ -1,12 +1,12 @@
 //! A change goes up from a leaf, along the way that led down to it.
 ghost use Rattle.std.specs.Prelude.{◌≡◌, ◌*◌, Err, Some, length, IfOk, IfErr, IfSome};
-ghost use Rattle.pages.specs.Pages.{SameCommitted, KeepsCommitted};
+ghost use Rattle.pages.specs.Pages.{KeepsCommitted};
 ghost use Rattle.pages.specs.Devices.{FitsDevice};
 ghost use Rattle.btree_pages.specs.RowLayouts.{IsRowLayout};
 ghost use Rattle.btree.specs.Changes.{HasKeys, PropagatesBy, NeverPropagates};
 ghost use Rattle.btree.specs.Refusals.{IsParentRefusal, IsInsertRefusal};
-ghost use Rattle.btree.specs.Calls.{OnPages, OnChange, OnlyReadsFor, KeepsAgreement};
-ghost use Rattle.btree.specs.Results.{ReturnsDamaged, OnlyIfSpent, FullIfUsed, FewChanged, FewFilled, SameCatalog};
+ghost use Rattle.btree.specs.Calls.{OnPages, OnChange, EditsPagesFor};
+ghost use Rattle.btree.specs.Results.{ReturnsDamaged, OnlyIfSpent, FullIfUsed, FewChanged, FewFilled};
 ghost use Rattle.btree.specs.Puts.{PutsParent, NeverLeads};
 
 use crate::node::read_node;
@@ -29,7 +29,7 @@ pub(crate) fn propagate_split<D: Device>(
     requires sectors { FitsDevice D.Device pages.old device.old }
     requires layout { IsRowLayout layout }
     requires keys { HasKeys layout split }
-    ensures only { OnlyReadsFor D.Device device.old device.new result }
+    ensures edits { EditsPagesFor D.Device pages.old device.old pages.new device.new result }
     ensures propagates { OnChange D.Device pages.old pages.new device.old
         (λ before after.
         IfOk result (λ up. PropagatesBy layout path.now before after (Some split) up)) }
@@ -38,9 +38,6 @@ pub(crate) fn propagate_split<D: Device>(
     ensures keys { IfOk result (λ up. IfSome up (HasKeys layout)) }
     ensures changed_pages { FewChanged (2 * length path.now) pages.old pages.new }
     ensures filled { FewFilled (2 * length path.now) pages.old pages.new }
-    ensures committed { SameCommitted pages.old pages.new }
-    ensures catalog { SameCatalog pages.old pages.new }
-    ensures agrees { KeepsAgreement D.Device pages.old device.old pages.new device.new }
     ensures cause { IfErr result IsInsertRefusal }
     ensures full { FullIfUsed pages.new result }
     ensures spent { OnlyIfSpent pages.old result }

@@ -1,5 +1,5 @@
 //! A page that too few rows are left for is joined with a neighbour, or takes rows of it.
-ghost use Rattle.std.specs.Prelude.{◌≡◌, ◌≢◌, ◌≤◌, ◌<◌, ◌+◌, ◌++◌, Err, Some, None, [], List, length, map, set, take, drop, slice_index_or, IfSome, IfOk, IfErr, OnOk};
+ghost use Rattle.std.specs.Prelude.{◌≡◌, ◌≢◌, ◌≤◌, ◌<◌, ◌+◌, ◌-◌, ◌++◌, Err, Some, None, [], List, length, map, set, take, drop, slice_index_or, IfSome, IfOk, IfErr, OnOk};
 ghost use Rattle.byteorder.specs.Endian.{big_bytes};
 ghost use Rattle.station.specs.Disk.{Sector};
 ghost use Rattle.pages.specs.Pages.{IsPage, SameCommitted, KeepsCommitted, IsUnchanged};
@@ -18,7 +18,7 @@ ghost use Rattle.btree.specs.Calls.{OnPages, OnChange, OnlyReadsFor, KeepsAgreem
 ghost use Rattle.btree.specs.Results.{ReturnsDamaged, OnlyIfSpent, ExactlyIfSpent, FewChanged, FewFilled, LeavesFewChanged, LeavesFewFilled, SameCatalog};
 ghost use Rattle.btree.specs.Puts.{PutsTogether, JoinsPair, NeverTwo, HasBothRows};
 
-use crate::node::read_node;
+use crate::node::read_kind;
 use crate::path_step::PathStep;
 use crate::removal_outcome::{Child, RemovalOutcome};
 use crate::shrink_page::{is_page, leads, write_back};
@@ -68,15 +68,24 @@ pub(crate) fn rebalance_at<D: Device>(
         return Err(PagesError::Damaged);
     }
     let kind = lone.node.kind();
+    let page = node.child(near_place(step.place));
+    let beside = read_kind(pages, device, layout, kind, page)?;
+    let near = Child { page, node: beside };
     if step.place == 0 {
-        let right = neighbour(pages, device, layout, kind, node.child(1))?;
-        let first = rebalance_pair(pages, step.page, node, 0, lone, right)?;
-        return Ok(first);
+        return rebalance_pair(pages, step.page, node, 0, lone, near);
     }
-    let place = step.place - 1;
-    let left = neighbour(pages, device, layout, kind, node.child(place))?;
-    let outcome = rebalance_pair(pages, step.page, node, place, left, lone)?;
-    Ok(outcome)
+    rebalance_pair(pages, step.page, node, step.place - 1, near, lone)
+}
+
+/// The place of the neighbour that a child is joined with: the one before it, or the one after it where it is the first.
+fn near_place(place: usize) -> usize
+    ensures first { place ≡ 0 → result ≡ 1 }
+    ensures other { place ≢ 0 → result ≡ place - 1 }
+{
+    if place == 0 {
+        return 1;
+    }
+    place - 1
 }
 
 /// Two neighbours share their rows evenly.
@@ -296,35 +305,4 @@ fn rebalance_pair(
     name_pair(&mut node, place, &joined);
     let outcome = write_back(pages, page, node, place > 0)?;
     Ok(outcome)
-}
-
-/// The neighbour of a child, which is of the child's kind. `Damaged` means that its page is no such one of a tree.
-#[tactic(auto, using(crate::proofs::Pairing::same_catalog))]
-fn neighbour<D: Device>(
-    pages: &mut PageMap,
-    device: &mut D,
-    layout: RowLayout,
-    kind: Kind,
-    page: u32,
-) -> Result<Child, PagesError>
-    requires sectors { FitsDevice D.Device pages.old device.old }
-    requires layout { IsRowLayout layout }
-    ensures only { OnlyReadsFor D.Device device.old device.new result }
-    ensures unchanged { IsUnchanged pages.old pages.new }
-    ensures agrees { KeepsAgreement D.Device pages.old device.old pages.new device.new }
-    ensures catalog { SameCatalog pages.old pages.new }
-    ensures node { OnPages D.Device pages.old device.old
-        (λ before. IfOk result (λ child. node_at layout before page ≡ Some child.node)) }
-    ensures shape { IfOk result (λ child. (child.page ≡ page) × (child.node.layout ≡ layout)
-        × (child.node.kind ≡ kind) × (fewest kind ≤ length child.node.rows)) }
-    ensures damaged { OnPages D.Device pages.old device.old
-        (NoneOfKind layout kind page (ReturnsDamaged result)) }
-    ensures spent { ExactlyIfSpent pages.old result }
-    ensures cause { IfErr result IsReadRefusal }
-{
-    let node = read_node(pages, device, layout, page)?;
-    if node.kind() != kind {
-        return Err(PagesError::Damaged);
-    }
-    Ok(Child { page, node })
 }

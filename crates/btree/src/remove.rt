@@ -14,7 +14,7 @@ ghost use Rattle.btree.specs.Results.{ReturnsDamaged, OnlyIfSpent, ExactlyIfSpen
 ghost use Rattle.btree.specs.Puts.{NeverIn};
 ghost use Rattle.btree.specs.TreeEdits.{FalseOnlyIfAbsent, TrueOnlyIfRemoved, OkOnlyIfEditsFew};
 
-use crate::descend::descend;
+use crate::descend::{Descent, descend};
 use crate::removal_outcome::{Child, RemovalOutcome};
 use crate::shrink::shrink;
 use crate::shrink_page::{is_page, take_out};
@@ -147,7 +147,7 @@ fn remove_entry<D: Device>(
 ) -> Result<Option<u32>, PagesError>
     requires sectors { FitsDevice D.Device pages.old device.old }
     requires layout { IsRowLayout layout }
-    ensures only { OnlyReadsFor D.Device device.old device.new result }
+    ensures edits { EditsPagesFor D.Device pages.old device.old pages.new device.new result }
     ensures removed { OnTreeChange D.Device layout root pages.old pages.new device.old
         (λ before levels after. IfOk result (Removes layout before levels after key.now)) }
     ensures damaged { OnNoTree D.Device layout root pages.old device.old (ReturnsDamaged result) }
@@ -156,9 +156,6 @@ fn remove_entry<D: Device>(
         (λ levels. OnOk result (FewChanged 42 pages.old pages.new)) }
     ensures filled { OnTree D.Device layout root pages.old device.old
         (λ levels. OnOk result (FewFilled 42 pages.old pages.new)) }
-    ensures committed { SameCommitted pages.old pages.new }
-    ensures catalog { SameCatalog pages.old pages.new }
-    ensures agrees { KeepsAgreement D.Device pages.old device.old pages.new device.new }
     ensures spent { ExactlyIfSpentAt root pages.old result }
     ensures cause { ErrOnlyIfChangeRefusal result }
 {
@@ -167,16 +164,16 @@ fn remove_entry<D: Device>(
     }
     // How many page numbers there are is needed below.
     let _page_count = pages.page_count();
-    let descent = descend(alloc, pages, device, layout, root, key)?;
-    let place = match descent.leaf.find(key) {
+    let Descent { way, leaf } = descend(alloc, pages, device, layout, root, key)?;
+    let place = match leaf.find(key) {
         Ok(place) => place,
         Err(_) => return Ok(None),
     };
-    if !is_page(pages, descent.page) {
+    if !is_page(pages, way.page) {
         return Err(PagesError::Damaged);
     }
-    let out = take_out(pages, descent.page, descent.leaf, place)?;
-    let outcome = shrink(pages, device, layout, descent.path.as_slice(), out)?;
+    let out = take_out(pages, way.page, leaf, place)?;
+    let outcome = shrink(pages, device, layout, way.path.as_slice(), out)?;
     let new = root_after_removal(pages, root, outcome)?;
     Ok(Some(new))
 }

@@ -9,8 +9,9 @@ ghost use Rattle.btree.specs.Results.{ReturnsDamaged, OnlyIfSpent, ExactlyIfSpen
 ghost use Rattle.btree.specs.Puts.{PutsRest, NeverIn};
 ghost use Rattle.btree.specs.TreeEdits.{FalseOnlyIfAbsent, TrueOnlyIfReplaced};
 
-use crate::descend::{descend, follow};
+use crate::descend::{Descent, descend, follow};
 use crate::set_value::set_value_in;
+use crate::shrink_page::is_page;
 use crate::tree::Tree;
 use crate::update_parent::put_back;
 use btree_pages::TreePage;
@@ -68,7 +69,12 @@ impl Tree {
     ) -> Result<bool, PagesError>
         requires sectors { FitsDevice D.Device pages.old device.old }
         requires value { length value.now ≡ self.old.layout.value_length }
-        ensures only { OnlyReadsFor D.Device device.old device.new result }
+        ensures edits { EditsPagesFor D.Device pages.old device.old pages.new device.new result }
+        ensures tree { self.new ≡ self.old }
+        ensures changed_pages { FewChanged 1 pages.old pages.new }
+        ensures filled { FewFilled 1 pages.old pages.new }
+        ensures spent { ExactlyIfSpentAt self.old.root pages.old result }
+        ensures cause { ErrOnlyIfChangeRefusal result }
 
         // The entry of the key has the new value, and the pages around the tree stay.
         ensures replaced { TrueOnlyIfReplaced D.Device self.old pages.old device.old key.now
@@ -76,14 +82,6 @@ impl Tree {
         ensures missing { FalseOnlyIfAbsent D.Device self.old pages.old device.old key.now result }
         ensures same { FalseOnlyIfUnchanged pages.old pages.new result }
         ensures damaged { DamagedOnlyIfNoTree D.Device self.old pages.old device.old result }
-        ensures tree { self.new ≡ self.old }
-        ensures changed_pages { FewChanged 1 pages.old pages.new }
-        ensures filled { FewFilled 1 pages.old pages.new }
-        ensures committed { SameCommitted pages.old pages.new }
-        ensures catalog { SameCatalog pages.old pages.new }
-        ensures agrees { KeepsAgreement D.Device pages.old device.old pages.new device.new }
-        ensures spent { ExactlyIfSpentAt self.old.root pages.old result }
-        ensures cause { ErrOnlyIfChangeRefusal result }
     {
         let alloc = self.alloc;
         let layout = self.layout();
@@ -91,12 +89,12 @@ impl Tree {
         if top == 0 {
             return Ok(false);
         }
-        let descent = descend(alloc, pages, device, layout, top, key)?;
-        let place = match descent.leaf.find(key) {
+        let Descent { way, leaf } = descend(alloc, pages, device, layout, top, key)?;
+        let place = match leaf.find(key) {
             Ok(place) => place,
             Err(_) => return Ok(false),
         };
-        put_rest(pages, descent.page, descent.leaf, place, value)?;
+        put_rest(pages, way.page, leaf, place, value)?;
         Ok(true)
     }
 }
@@ -119,10 +117,7 @@ fn put_rest(
     ensures cause { IfErr result IsRestRefusal }
     ensures spent { OnlyIfSpent pages.old result }
 {
-    if page == 0 {
-        return Err(PagesError::Damaged);
-    }
-    if pages.page_count() <= page as usize {
+    if !is_page(pages, page) {
         return Err(PagesError::Damaged);
     }
     node.set_rest(place, rest);

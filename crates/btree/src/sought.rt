@@ -22,7 +22,7 @@ use pages::{PageMap, PagesError};
 use station::Device;
 
 /// Which entry a search is for.
-#[derive(Clone, Copy, PartialEq, Eq)]
+#[derive(Clone, Copy)]
 pub(crate) enum Sought {
     /// The entry of the key.
     With,
@@ -33,7 +33,7 @@ pub(crate) enum Sought {
 }
 
 /// What a page answers a search.
-#[derive(Clone, Copy, PartialEq, Eq)]
+#[derive(Clone, Copy)]
 pub(crate) enum Look {
     /// A leaf that has the entry.
     Here,

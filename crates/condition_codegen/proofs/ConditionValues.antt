@@ -7,7 +7,6 @@ use Rattle.items.specs.declared.item.Item.{Item}
 use Rattle.source_tree.specs.declared.literal.Literal.{Literal}
 use Rattle.source_tree.specs.declared.entry.ValueRange.{ValueRange}
 use Rattle.source_tree.specs.declared.entry.ConditionEntry.{ConditionEntry}
-use Rattle.source_tree.specs.declared.entry.Entry.{Entry}
 use Rattle.source_tree.specs.declared.name.Name.{Name}
 use Rattle.source_tree.specs.declared.select.FileDescription.{FileDescription}
 use Rattle.source_tree.specs.declared.program.Program.{Program}

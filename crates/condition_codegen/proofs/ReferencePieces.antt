@@ -13,7 +13,7 @@ use Rattle.data_instructions.specs.declared.instruction.DataInstruction.TheVaria
 use Rattle.data_instructions.specs.PartForms.{part_form}
 use Rattle.data_instructions.specs.TextCodes.{new_byte, new_mark}
 use Rattle.code_image.specs.declared.code.Code.{Code}
-use Rattle.condition_codegen.specs.Fragments.{append, sequence}
+use Rattle.condition_codegen.specs.Fragments.{append}
 use Rattle.condition_codegen.specs.DataCode.{item_number, dimensions_of, work_fragment, works_fragment, place_fragment}
 use Rattle.condition_codegen.specs.DataCode.{subscripts_fragment, making_fragment, reference_fragment}
 use Rattle.condition_codegen.specs.ConditionCode.{condition_number, condition_item, values_named, values_fragment}

@@ -13,14 +13,11 @@ ghost use Rattle.declarations.specs.Named.{items_in};
 ghost use Rattle.declarations.specs.Resolved.{condition_meant, values_meant, question_meant};
 ghost use Rattle.condition_codegen.specs.Fragments.{append, sequence, in_order};
 ghost use Rattle.condition_codegen.specs.ConditionCode as spec;
-ghost use Rattle.condition_codegen.specs.EvaluateCode.{constant_fragment};
 
 use crate::branches::{emit_branch, emit_jump, emit_meeting};
-use crate::condition::emit_negation;
+use crate::condition::{emit_constant, emit_negation};
 use crate::emitter::Emitter;
-use crate::references::emit_works;
 use code_image::Code;
-use data_instructions::{DataInstruction, Test};
 use declarations::{AskedCondition, ObjectRange, Question};
 use source_tree::{Choice, Object, Relation, Side, Subject, When};
 use std::alloc::AllocError;
@@ -361,20 +358,4 @@ impl<'a> Emitter<'a> {
         self.emit_when(code, subjects, first.objects.as_slice())?;
         self.emit_each_when(code, subjects, more)
     }
-}
-
-/// What is always true, or always false.
-fn emit_constant(code: &mut Code, truth: bool) -> Result<(), AllocError>
-    ensures { OnOk result (code.new ≡ append code.old (constant_fragment truth code.old)) }
-{
-    if !truth {
-        return emit_works(code, &[DataInstruction::ClearTruth]);
-    }
-    emit_works(
-        code,
-        &[
-            DataInstruction::ClearTruth,
-            DataInstruction::Test(Test::Invert),
-        ],
-    )
 }

@@ -5,6 +5,7 @@ ghost use Rattle.condition_codegen.specs.Fragments.{append};
 ghost use Rattle.condition_codegen.specs.Meeting.{branch_code, jump_code};
 ghost use Rattle.condition_codegen.specs.Phrases.{patched_code};
 
+use crate::references::emit_instruction;
 use code_image::{Code, Instruction};
 use std::alloc::AllocError;
 
@@ -14,7 +15,7 @@ pub fn emit_branch(code: &mut Code) -> Result<usize, AllocError>
     ensures address { IfOk result (λ address. address ≡ length code.old.instructions) }
 {
     let address = code.instructions.len();
-    code.instructions.push(Instruction::Branch { to: 0 })?;
+    emit_instruction(code, Instruction::Branch { to: 0 })?;
     Ok(address)
 }
 
@@ -23,8 +24,8 @@ pub fn emit_jump(code: &mut Code) -> Result<usize, AllocError>
     ensures code { OnOk result (code.new ≡ append code.old (jump_code 0)) }
     ensures other { IfOk result (λ other. other ≡ length code.old.instructions + 2) }
 {
-    code.instructions.push(Instruction::Jump { to: 0 })?;
-    code.instructions.push(Instruction::Join)?;
+    emit_instruction(code, Instruction::Jump { to: 0 })?;
+    emit_instruction(code, Instruction::Join)?;
     Ok(code.instructions.len())
 }
 
@@ -35,7 +36,7 @@ pub fn emit_meeting(code: &mut Code, branch: usize, other: usize) -> Result<(), 
     requires other { other ≤ length code.old.instructions }
     ensures { OnOk result (code.new ≡ patched_code branch other code.old) }
 {
-    code.instructions.push(Instruction::Join)?;
+    emit_instruction(code, Instruction::Join)?;
     let end = code.instructions.len();
     code.instructions
         .set(branch, Instruction::Branch { to: other });

@@ -20,6 +20,7 @@ ghost use Rattle.condition_codegen.specs.Fragments.{append, sequence, in_order};
 ghost use Rattle.condition_codegen.specs.DataCode.{sender_fragment, work_fragment, works_fragment, number_fragment, take_fragment};
 ghost use Rattle.condition_codegen.specs.ArithmeticCode.{zero_number, value_fragment, expression_fragment};
 ghost use Rattle.condition_codegen.specs.ConditionCode as spec;
+ghost use Rattle.condition_codegen.specs.EvaluateCode.{constant_fragment};
 ghost use Rattle.condition_codegen.specs.Sides.{operand_of};
 
 use crate::branches::{emit_branch, emit_jump, emit_meeting};
@@ -93,6 +94,22 @@ pub(crate) fn emit_negation(code: &mut Code, negated: bool) -> Result<(), AllocE
         return Ok(());
     }
     emit_work(code, DataInstruction::Test(Test::Invert))
+}
+
+/// What is always true, or always false.
+pub(crate) fn emit_constant(code: &mut Code, truth: bool) -> Result<(), AllocError>
+    ensures { OnOk result (code.new ≡ append code.old (constant_fragment truth code.old)) }
+{
+    if !truth {
+        return emit_works(code, &[DataInstruction::ClearTruth]);
+    }
+    emit_works(
+        code,
+        &[
+            DataInstruction::ClearTruth,
+            DataInstruction::Test(Test::Invert),
+        ],
+    )
 }
 
 impl<'a> Emitter<'a> {
@@ -387,13 +404,7 @@ impl<'a> Emitter<'a> {
             (spec.condition_fragment (items_in self.now.declarations.now)) parts.now) code.old)) }
     {
         let Some((first, more)) = parts.split_first() else {
-            return emit_works(
-                code,
-                &[
-                    DataInstruction::ClearTruth,
-                    DataInstruction::Test(Test::Invert),
-                ],
-            );
+            return emit_constant(code, true);
         };
         self.emit_condition(code, first)?;
         self.emit_each_and(code, more)
@@ -409,7 +420,7 @@ impl<'a> Emitter<'a> {
             (spec.condition_fragment (items_in self.now.declarations.now)) parts.now) code.old)) }
     {
         let Some((first, more)) = parts.split_first() else {
-            return emit_works(code, &[DataInstruction::ClearTruth]);
+            return emit_constant(code, false);
         };
         self.emit_condition(code, first)?;
         self.emit_each_or(code, more)

@@ -166,9 +166,8 @@ fn emit_part_place(
     ensures { OnOk result (code.new ≡ append code.old
         (spec.entry_fragment (entries.entry_in one.now part.now) code.old)) }
 {
-    let entry = part_entry(one, part)?;
     let number = entry_number(code.tables.items.len())?;
-    code.tables.items.push(entry)?;
+    code.tables.items.push(part_entry(one, part)?)?;
     emit_work(
         code,
         DataInstruction::Place {
@@ -182,11 +181,12 @@ fn part_entry(one: &PlacedItem, part: &Option<BoxedPart>) -> Result<DataItem, Al
     ensures { IfOk result (λ entry. entry ≡ entries.entry_in one.now part.now) }
 {
     let before = bytes_before(one.item.length, part);
+    let offset = entry_number(one.offset as usize + before as usize)?;
     Ok(DataItem {
         item: item_seen(part, one.item),
         editing: None,
         area: one.area,
-        offset: entry_number(one.offset as usize + before as usize)?,
+        offset,
     })
 }
 

@@ -1,6 +1,6 @@
 //! What INITIALIZE and SET put into items (COBOL-85, Nucleus, "The INITIALIZE statement", "The SET statement").
 
-ghost use Rattle.std.specs.Prelude.{◌≡◌, [], map, replicate, slice_get, IfOk};
+ghost use Rattle.std.specs.Prelude.{◌≡◌, [], length, map, replicate, slice_get, IfOk};
 ghost use Rattle.items.specs.Texts.{space};
 ghost use Rattle.source_tree.specs.EntryRules.{entry_rules};
 ghost use Rattle.source_tree.specs.Initializing.{first_value};
@@ -47,15 +47,22 @@ fn all_marked(alloc: Global, count: usize) -> Result<Items<u8>, AllocError>
     Ok(Items::from_vec(vec![in alloc; 1; count]?))
 }
 
+/// Bytes of which each is new.
+fn marked_bytes(alloc: Global, bytes: Items<u8>) -> Result<Overlay, AllocError>
+    ensures bytes { IfOk result (λ made. made.bytes ≡ bytes) }
+    ensures marks { IfOk result (λ made. made.marks ≡ replicate (length bytes) 1) }
+{
+    let marks = all_marked(alloc, bytes.len())?;
+    Ok(Overlay { bytes, marks })
+}
+
 /// So many spaces.
 fn spaces(alloc: Global, count: u32) -> Result<Overlay, AllocError>
     ensures bytes { IfOk result (λ made. made.bytes ≡ replicate count space) }
     ensures marks { IfOk result (λ made. made.marks ≡ replicate count 1) }
 {
-    Ok(Overlay {
-        bytes: Items::from_vec(vec![in alloc; b' '; count as usize]?),
-        marks: all_marked(alloc, count as usize)?,
-    })
+    let bytes = Items::from_vec(vec![in alloc; b' '; count as usize]?);
+    marked_bytes(alloc, bytes)
 }
 
 /// What an item holds by the first of these values, each byte of it.
@@ -67,11 +74,7 @@ fn first_overlay(alloc: Global, item: Item, values: &[ValueRange]) -> Result<Ove
 {
     match values.first() {
         None => Ok(no_bytes(alloc)),
-        Some(one) => {
-            let bytes = set_value(alloc, item, &one.first)?;
-            let marks = all_marked(alloc, bytes.len())?;
-            Ok(Overlay { bytes, marks })
-        }
+        Some(one) => marked_bytes(alloc, set_value(alloc, item, &one.first)?),
     }
 }
 

@@ -1,12 +1,12 @@
 //! The code of references and their subscripts (COBOL-85, Nucleus, "Subscripting").
 
-ghost use Rattle.std.specs.Prelude.{◌≡◌, [], pos, OnOk, slice_get};
+ghost use Rattle.std.specs.Prelude.{◌≡◌, [], ◌∷◌, pos, OnOk, slice_get};
 ghost use Rattle.source_tree.specs.Broken.{each};
 ghost use Rattle.source_tree.specs.Integers as written;
 ghost use Rattle.source_tree.specs.NameRules.{integer_rules, adjustment_rules, subscript_rules, number_rules_of};
 ghost use Rattle.data_instructions.specs.Codes.{integer, index_code};
 ghost use Rattle.declarations.specs.Named.{items_in};
-ghost use Rattle.condition_codegen.specs.Fragments.{append, sequence};
+ghost use Rattle.condition_codegen.specs.Fragments.{append, plain_code, sequence};
 ghost use Rattle.condition_codegen.specs.DataCode as spec;
 
 use crate::emitter::{Emitter, entry_number};
@@ -20,8 +20,7 @@ use std::alloc::AllocError;
 pub fn emit_work(code: &mut Code, one: DataInstruction) -> Result<(), AllocError>
     ensures { OnOk result (code.new ≡ append code.old (spec.work_fragment one code.old)) }
 {
-    code.instructions.push(Instruction::Data(one))?;
-    Ok(())
+    emit_instruction(code, Instruction::Data(one))
 }
 
 /// Instructions on data, in order.
@@ -34,6 +33,13 @@ pub fn emit_works(code: &mut Code, all: &[DataInstruction]) -> Result<(), AllocE
     Ok(())
 }
 
+/// An instruction.
+pub(crate) fn emit_instruction(code: &mut Code, one: Instruction) -> Result<(), AllocError>
+    ensures { OnOk result (code.new ≡ append code.old (plain_code (one ∷ []))) }
+{
+    code.instructions.push(one)
+}
+
 /// A number, on the stack of numbers.
 pub(crate) fn emit_number(code: &mut Code, one: Dec) -> Result<(), AllocError>
     ensures { OnOk result (code.new ≡ append code.old (spec.number_fragment one code.old)) }
@@ -41,9 +47,7 @@ pub(crate) fn emit_number(code: &mut Code, one: Dec) -> Result<(), AllocError>
     let number = entry_number(code.tables.numbers.len())?;
     code.tables.numbers.push(one)?;
     let number = NumberIndex { number };
-    code.instructions
-        .push(Instruction::Data(DataInstruction::Literal { number }))?;
-    Ok(())
+    emit_work(code, DataInstruction::Literal { number })
 }
 
 /// The number that an integer is.

@@ -1,6 +1,6 @@
 //! What instructions on data work on.
 
-ghost use Rattle.std.specs.Prelude.{◌≡◌, ◌≤◌, ℕ, length, slice_get, IfOk, Some};
+ghost use Rattle.std.specs.Prelude.{◌≡◌, ◌≤◌, ℕ, [], length, slice_get, IfOk, Some};
 ghost use Rattle.data_instructions.specs.Scratch.{initial_scratch};
 ghost use Rattle.data_instructions.specs.Table as spec;
 ghost use Rattle.data_machine.specs.Data.{scratch_of};
@@ -99,6 +99,23 @@ fn inspect_room(alloc: Global, tables: &DataTables) -> Result<InspectRoom, Alloc
     InspectRoom::new(alloc, entries, longest_item(tables))
 }
 
+// The stacks of numbers and of places, and the line.
+type Rooms = (Stack<Option<Dec>>, Stack<Place>, Buffer);
+
+/// Stacks and a line with this room, and with nothing in them.
+fn rooms(alloc: Global, room: Room) -> Result<Rooms, AllocError>
+    ensures numbers { IfOk result (λ made. made.0
+        ≡ record { room = room.numbers; newest_first = [] }) }
+    ensures places { IfOk result (λ made. made.1
+        ≡ record { room = room.places; newest_first = [] }) }
+    ensures line { IfOk result (λ made. made.2 ≡ record { room = room.line; bytes = [] }) }
+{
+    let numbers = Stack::new(alloc, room.numbers, None)?;
+    let places = Stack::new(alloc, room.places, NO_PLACE)?;
+    let line = Buffer::new(alloc, room.line)?;
+    Ok((numbers, places, line))
+}
+
 impl Data {
     /// Data at the start of a run, with this room, and room for whatever is sent and inspected.
     pub fn new(alloc: Global, tables: &DataTables, room: Room) -> Result<Data, AllocError>
@@ -107,11 +124,9 @@ impl Data {
         ensures senders { IfOk result (λ d. HasSenderRoom tables.now d.sender.bytes.room) }
         ensures inspects { IfOk result (λ d. HasInspectRoom tables.now d.inspecting) }
     {
+        let (numbers, places, line) = rooms(alloc, room)?;
         let areas = Areas::new(alloc, tables.areas.as_slice())?;
-        let numbers = Stack::new(alloc, room.numbers, None)?;
-        let places = Stack::new(alloc, room.places, NO_PLACE)?;
         let sender = Sender::new(alloc, sender_room(tables))?;
-        let line = Buffer::new(alloc, room.line)?;
         let inspecting = inspect_room(alloc, tables)?;
         Ok(Data {
             areas,

@@ -6,6 +6,7 @@ ghost use Rattle.items.specs.Texts.{padded_text};
 ghost use Rattle.text_ops.specs.Strings.{delimited_characters};
 ghost use Rattle.source_tree.specs.Inspecting.{text_at};
 ghost use Rattle.source_tree.specs.References.{part_of as bytes_at};
+ghost use Rattle.data_instructions.specs.Scratch.{step_at};
 ghost use Rattle.data_instructions.specs.Table as spec;
 ghost use Rattle.data_instructions.specs.Tables.{item_place};
 ghost use Rattle.data_instructions.specs.declared.gather.Gather.TheVariants as gathers;
@@ -140,17 +141,32 @@ impl Data {
         ensures keeps { KeepsRoom self.old self.new }
     {
         let place = self.places.pop();
-        let next = self.places.below(0);
         let one = item_of(tables, place.item);
         let part = part_of(one, place.length);
+        self.gather_up_to_next(tables, seen(one, &part), place.offset)
+    }
+
+    /// The bytes of an item at an offset, up to those at the newest place, which stays.
+    #[inline(always)]
+    fn gather_up_to_next(
+        &mut self,
+        tables: &DataTables,
+        one: &DataItem,
+        offset: usize,
+    ) -> Result<(), ProgramFault>
+        requires item { IsAtOffset one.now self.old.areas offset }
+        requires delimiter { FindsItem tables.now self.old.areas self.old.places.newest_first }
+        requires room { length self.old.line.bytes + one.now.item.length ≤ self.old.line.room }
+        ensures does { IsStepOf result (scratch_of self.new) (step_at (spec.newest_place tables.now
+            self.old.places.newest_first) (λ next. spec.append_step (delimited_characters
+            (bytes_at self.old.areas next) (bytes_at self.old.areas (item_place one.now offset)))
+            (scratch_of self.old))) }
+        ensures keeps { KeepsRoom self.old self.new }
+    {
+        let next = self.places.below(0);
         let other = item_of(tables, next.item);
-        let other_part = part_of(other, next.length);
-        self.gather_between(
-            seen(one, &part),
-            place.offset,
-            seen(other, &other_part),
-            next.offset,
-        )
+        let part = part_of(other, next.length);
+        self.gather_between(one, offset, seen(other, &part), next.offset)
     }
 
     /// `gather up to text`: the bytes at the newest place, up to a text of the table.
@@ -220,15 +236,32 @@ impl Data {
     {
         let place = self.places.pop();
         let one = item_of(tables, place.item);
-        let start = self.line.bytes().len();
-        let end = start + one.item.length as usize;
         let part = part_of(one, place.length);
-        let one = seen(one, &part);
-        self.line
-            .append(sized(one, self.areas.bytes(one, place.offset)));
+        self.gather_measured_at(seen(one, &part), place.offset, one.item.length)
+    }
+
+    /// The same with an item at an offset and this size.
+    #[inline(always)]
+    fn gather_measured_at(
+        &mut self,
+        one: &DataItem,
+        offset: usize,
+        size: u32,
+    ) -> Result<(), ProgramFault>
+        requires item { IsAtOffset one.now self.old.areas offset }
+        requires short { one.now.item.length ≤ size }
+        requires line { length self.old.line.bytes + size ≤ self.old.line.room }
+        requires numbers { length self.old.numbers.newest_first + 2 ≤ self.old.numbers.room }
+        ensures does { IsStepOf result (scratch_of self.new)
+            (spec.append_measured size (item_place one.now offset) (scratch_of self.old)) }
+        ensures keeps { KeepsRoom self.old self.new }
+    {
+        let start = self.line.bytes().len();
+        let end = start + size as usize;
+        self.line.append(sized(one, self.areas.bytes(one, offset)));
         self.line.fit(end);
         self.numbers.push(Some(whole(start)));
-        self.numbers.push(Some(whole(place.length as usize)));
+        self.numbers.push(Some(whole(one.item.length as usize)));
         Ok(())
     }
 

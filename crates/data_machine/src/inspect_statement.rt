@@ -1,10 +1,10 @@
 //! INSPECT (COBOL-85, Nucleus, "The INSPECT statement").
 
-ghost use Rattle.std.specs.Prelude.{◌≡◌, ◌+◌, ◌≤◌, ◌<◌, ◌^◌, length, map, slice_index};
+ghost use Rattle.std.specs.Prelude.{◌≡◌, ◌+◌, ◌≤◌, ◌<◌, ◌^◌, length, map, slice_get, slice_index, Some};
 ghost use Rattle.source_tree.specs.Inspecting as meaning;
 ghost use Rattle.source_tree.specs.InspectLayout as layout;
 ghost use Rattle.data_instructions.specs.Table as spec;
-ghost use Rattle.data_instructions.specs.Tables.{item_place, total_length, IsInspection};
+ghost use Rattle.data_instructions.specs.Tables.{item_place, shortened_item, total_length, IsInspection};
 ghost use Rattle.data_instructions.specs.declared.instruction.DataInstruction.TheVariants as instructions;
 ghost use Rattle.data_machine.specs.Data.{scratch_of};
 ghost use Rattle.data_machine.specs.Comes.{IsStepOf, KeepsRoom};
@@ -49,28 +49,58 @@ impl Data {
             (spec.measured_inspection found one.now)) (scratch_of self.old)) }
         ensures keeps { KeepsRoom self.old self.new }
     {
-        let counters = one.counters.as_slice();
-        let subject = self.places.below(counters.len());
+        let subject = self.places.below(one.counters.len());
         let to = item_of(tables, subject.item);
         let part = part_of(to, subject.length);
-        let to = seen(to, &part);
+        self.inspect_at(tables, one, numbers, subject, to, seen(to, &part))
+    }
+
+    /// The same with the place below those of the counters, its item in the table, and that item as the place shows it.
+    #[inline(always)]
+    fn inspect_at(
+        &mut self,
+        tables: &DataTables,
+        one: &Inspection,
+        numbers: usize,
+        subject: Place,
+        whole: &DataItem,
+        to: &DataItem,
+    ) -> Result<(), ProgramFault>
+        requires form { IsInspection one.now }
+        requires places { FindsPlaces tables.now self.old.areas (length one.now.counters)
+            self.old.places.newest_first }
+        requires subject { slice_get self.old.places.newest_first (length one.now.counters)
+            ≡ Some subject }
+        requires whole { slice_get tables.now.items subject.item.number ≡ Some whole.now }
+        requires seen { to.now ≡ shortened_item whole.now subject.length }
+        requires item { IsAtOffset to.now self.old.areas subject.offset }
+        requires numbers { numbers ≤ length self.old.numbers.newest_first }
+        requires line { one.now.size ≤ self.old.line.room }
+        requires tallied { length one.now.tallying ≤ length self.old.inspecting.entries.items }
+        requires replaced { length one.now.replacing ≤ length self.old.inspecting.entries.items }
+        requires tallying { length one.now.tallying ≤ length self.old.inspecting.progress.items }
+        requires replacing { length one.now.replacing ≤ length self.old.inspecting.progress.items }
+        requires counts { length one.now.tallying ≤ length self.old.inspecting.counts.items }
+        requires text { to.now.item.length ≤ self.old.inspecting.text.room }
+        ensures does { IsStepOf result (scratch_of self.new)
+            (spec.at_numbers numbers (λ found. spec.inspected_with tables.now
+            (spec.measured_inspection found one.now)) (scratch_of self.old)) }
+        ensures keeps { KeepsRoom self.old self.new }
+    {
         self.line.fit(one.size as usize);
         let found = self.numbers.newest(numbers);
-        self.inspecting.inspect(
-            one,
-            found,
-            self.line.bytes(),
-            self.areas.bytes(to, subject.offset),
-        );
+        let bytes = self.areas.bytes(to, subject.offset);
+        self.inspecting
+            .inspect(one, found, self.line.bytes(), bytes);
         self.numbers.leave(numbers);
         self.line.clear();
-        let places = self.places.newest(counters.len());
+        let places = self.places.newest(one.counters.len());
         let counts = self.inspecting.counts.as_slice();
         let text = self.inspecting.text.bytes();
         let inspected = InspectionResult { counts, text };
         let areas = &mut self.areas;
         let done = add_and_store(areas, tables, one, places, to, subject.offset, inspected);
-        self.places.leave(counters.len() + 1);
+        self.places.leave(one.counters.len() + 1);
         done
     }
 

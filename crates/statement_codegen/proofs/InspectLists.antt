@@ -1,22 +1,16 @@
 -- The texts and entries of INSPECT, list after list.
-use Rattle.std.proofs.Common.{◌≡◌, ℕ, suc, ◌+◌, ◌<◌, ◌≤◌, List, [], ◌∷◌, ◌++◌, length, map, take, get_or, refl, sym, ap}
-use Rattle.std.proofs.Common.{subst, ◌∙◌, arith, append_assoc, length-append}
-use Rattle.std.proofs.lemmas.List.{take_more, take_all, append-nil}
-use Rattle.text_ops.specs.declared.entry.Entry.{Entry}
+use Rattle.std.proofs.Common.{◌≡◌, ℕ, suc, ◌+◌, List, [], ◌∷◌, ◌++◌, length, map, refl, sym, ap}
+use Rattle.std.proofs.Common.{◌∙◌, arith, append_assoc, length-append}
 use Rattle.source_tree.specs.declared.inspect_statement.Tallying.{Tallying}
 use Rattle.source_tree.specs.declared.inspect_statement.InspectStatement.{InspectStatement}
 use Rattle.source_tree.specs.Places.{LocatedItem}
 use Rattle.source_tree.specs.InspectLayout.{Source, Bytes, Characters, InspectArgument, Counter, Text, InspectEntry}
-use Rattle.source_tree.specs.InspectLayout.{text_size, text_sizes}
+use Rattle.source_tree.specs.InspectLayout.{text_sizes}
 use Rattle.source_tree.specs.InspectLayout.{taken_size, entry_texts, entries_texts, entry_at, entries_at}
-use Rattle.source_tree.specs.InspectLayout.{counter_entries, tallying_takings, all_inspected, entry_counts, all_tallied}
+use Rattle.source_tree.specs.InspectLayout.{counter_entries, tallying_takings, all_inspected, entry_counts}
 use Rattle.source_tree.specs.InspectLayout.{all_replaced, takings, tallied_size, inspected_size, measured_texts}
 use Rattle.data_instructions.specs.Tables.{total_length}
-use Rattle.code_image.specs.declared.code.Code.{Code}
-use Rattle.condition_codegen.specs.Fragments.{Fragment, append, in_order}
-use Rattle.statement_codegen.specs.InspectCode.{takings_fragment, Takes, TakesTexts}
 use Rattle.condition_codegen.proofs.Lists.{map_both}
-use Rattle.condition_codegen.proofs.Fragments.{joined_assoc, joined_nothing, in_order-append}
 
 -- ---- lists
 

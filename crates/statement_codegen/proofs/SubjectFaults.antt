@@ -10,14 +10,13 @@ use Rattle.items.specs.declared.numeric.Numeric.{Numeric}
 use Rattle.items.specs.Texts.{characters}
 use Rattle.items.specs.Values.{value_of, digits_of}
 use Rattle.std.specs.Option.{option_map}
-use Rattle.decimal18.specs.Fraction.{Fraction}
 use Rattle.text_ops.specs.Compare as compare
 use Rattle.source_tree.specs.declared.expression.Operand.{Operand}
 use Rattle.source_tree.specs.declared.expression.Operand.TheVariants as operand
 use Rattle.source_tree.specs.declared.expression.Expression.{Expression, out-Expression, roll-Expression}
 use Rattle.source_tree.specs.declared.expression.Expression.{roll-out-Expression}
 use Rattle.source_tree.specs.declared.expression.Expression.TheOpen.{Expression-F}
-use Rattle.source_tree.specs.declared.expression.Expression.TheFolds.{map-Expression, fold-roll-Expression}
+use Rattle.source_tree.specs.declared.expression.Expression.TheFolds.{fold-roll-Expression}
 use Rattle.source_tree.specs.declared.condition.Relation.{Relation}
 use Rattle.source_tree.specs.declared.condition.Relation.TheVariants as relation
 use Rattle.source_tree.specs.declared.condition.Side.{Side}

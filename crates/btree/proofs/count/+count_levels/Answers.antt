@@ -1,4 +1,4 @@
-use Rattle.std.proofs.Common.{◌≡◌, ◌≤◌, ◌-◌, List, length, sym, ap, ◌∙◌, arith, rules, true}
+use Rattle.std.proofs.Common.{◌≡◌, ◌≤◌, ◌-◌, ◌<◌, ℕ, List, length, refl, sym, ap, subst, ◌∙◌, arith, rules, true}
 use Rattle.std.proofs.Common.{inr}
 use Rattle.std.specs.Prelude.{IfErr, IfOk, Err}
 use Rattle.std.specs.Vec.{vec_len}
@@ -10,6 +10,7 @@ use Rattle.pages.specs.Pages.{is_spent}
 use Rattle.pages.specs.declared.error.PagesError.TheVariants.{Device, Spent}
 use Rattle.btree.specs.Tree.{TreeNode, rows_of, rows_in_order}
 use Rattle.btree.specs.Changes.{pages_of_map}
+use Rattle.btree.specs.Clears.{HasPages, levels_below}
 use Rattle.btree.specs.Refusals.{IsChangeRefusal}
 use Rattle.btree.proofs.Clearing.{no_levels, fewer_levels}
 use Rattle.btree.proofs.Counting.{some_in, alone_rows, same_leaves}
@@ -22,38 +23,34 @@ use Rattle.btree.proofs.count.+count_levels.Goals as goal
 pub returns-then-is_empty-clause-count : goal.returns-then-is_empty-clause-count
 returns-then-is_empty-clause-count g t c = λ honest agrees levels few down.
     let pages = pages_of_map c.args.pages.now (g.D.Device.state c.args.device.now).disk.present in
-    let zero : length c.args.numbers.items ≡ 0 = search rules in
-    let empty = nil_from_length c.args.numbers.items zero in
-    let none = no_levels c.args.layout pages c.args.numbers.items levels empty down in
+    let zero : length c.args.numbers.now ≡ 0 = search rules in
+    let empty = nil_from_length c.args.numbers.now zero in
+    let none = no_levels c.args.layout pages c.args.numbers.now levels empty down in
     sym (ap (λ (l : List (List TreeNode)). length (rows_in_order l)) none)
 
 -- No pages are below: the level is one of leaves.
 pub returns-then-is_empty-2-clause-count : goal.returns-then-is_empty-2-clause-count
 returns-then-is_empty-2-clause-count g t c = λ honest agrees levels few down.
-    let full : vec_len c.args.numbers ≡ length c.args.numbers.items = search rules in
+    let some = some_in _ c.args.numbers.now refl (sym c.is_empty.ensures ∙ c.if-is_empty.false) in
     let zero : length c.in_ok-children.children.items ≡ 0 = search rules in
     let found = of_leaves g.D.Device _ c.args.pages.now c.below.new.pages c.args.device.now
-    c.below.new.device c.args.layout c.args.numbers.items c.as_slice.result.now c.as_slice-then-is_empty-2.result.now
+    c.below.new.device c.args.layout c.args.numbers.now c.args.numbers.now c.args.numbers.now
     c.in_ok-children.children.items
     (λ level. IfOk c.count_rows.result (λ n. n ≡ length (rows_of level)))
-    c.below.ensures.unchanged c.below.ensures.only c.below.ensures.agrees c.as_slice.ensures.value
-    c.as_slice-then-is_empty-2.ensures.value
-    (some_in (vec_len c.args.numbers) c.args.numbers.items full (sym c.is_empty.ensures ∙ c.if-is_empty.false))
+    c.below.ensures.unchanged c.below.ensures.only c.below.ensures.agrees refl refl some
     (nil_from_length c.in_ok-children.children.items zero) c.in_ok-children.ensures.below
     c.count_rows.ensures.count honest agrees levels few down in
     IfOk-weaker c.count_rows.result _ _ (λ n is. is ∙ alone_rows _ _ _ levels found.0) found.1
 
 pub returns-then-is_empty-2-clause-damaged : goal.returns-then-is_empty-2-clause-damaged
 returns-then-is_empty-2-clause-damaged g t c = λ honest agrees is levels few down deep.
-    let full : vec_len c.args.numbers ≡ length c.args.numbers.items = search rules in
+    let some = some_in _ c.args.numbers.now refl (sym c.is_empty.ensures ∙ c.if-is_empty.false) in
     let zero : length c.in_ok-children.children.items ≡ 0 = search rules in
     (of_leaves g.D.Device _ c.args.pages.now c.below.new.pages c.args.device.now
-    c.below.new.device c.args.layout c.args.numbers.items c.as_slice.result.now c.as_slice-then-is_empty-2.result.now
+    c.below.new.device c.args.layout c.args.numbers.now c.args.numbers.now c.args.numbers.now
     c.in_ok-children.children.items
     (λ level. ⊥)
-    c.below.ensures.unchanged c.below.ensures.only c.below.ensures.agrees c.as_slice.ensures.value
-    c.as_slice-then-is_empty-2.ensures.value
-    (some_in (vec_len c.args.numbers) c.args.numbers.items full (sym c.is_empty.ensures ∙ c.if-is_empty.false))
+    c.below.ensures.unchanged c.below.ensures.only c.below.ensures.agrees refl refl some
     (nil_from_length c.in_ok-children.children.items zero) c.in_ok-children.ensures.below
     (λ h a. c.count_rows.ensures.damaged h a is) honest agrees levels few down).1
 
@@ -63,24 +60,28 @@ returns-clause-count g t c = λ honest agrees levels few down.
     let full : vec_len children ≡ length children.items = search rules in
     let some = some_in (vec_len children) children.items full (sym c.is_empty-2.ensures ∙ c.if-is_empty-2.false) in
     let lower = of_lower g.D.Device _ c.args.pages.now c.below.new.pages c.args.device.now
-    c.below.new.device c.args.layout c.args.numbers.items c.as_slice.result.now c.in_ok-children.children.items
+    c.below.new.device c.args.layout c.args.numbers.now c.args.numbers.now c.as_slice.result.now
     (λ levels. IfOk c.count_levels.result (λ n. n ≡ length (rows_in_order levels)))
-    c.below.ensures.unchanged c.below.ensures.only c.below.ensures.agrees c.as_slice.ensures.value
-    c.in_ok-children.ensures.below c.count_levels.ensures.count honest agrees levels few down in
+    c.below.ensures.unchanged c.below.ensures.only c.below.ensures.agrees refl
+    (λ h a l small down. subst (λ (n : List ℕ). HasPages n (levels_below l)) (sym c.as_slice.ensures.value)
+    (c.in_ok-children.ensures.below h a l small down))
+    c.count_levels.ensures.count honest agrees levels few down in
     IfOk-weaker c.count_levels.result _ _
-    (λ n is. is ∙ ap length (same_leaves levels children.items lower.0 some)) lower.1
+    (λ n is. is ∙ ap length (same_leaves levels c.as_slice.result.now lower.0
+    (subst (λ (n : List ℕ). 0 < length n) (sym c.as_slice.ensures.value) some))) lower.1
 
 pub returns-clause-damaged : goal.returns-clause-damaged
 returns-clause-damaged g t c = λ honest agrees is levels few down deep.
-    let full : vec_len c.args.numbers ≡ length c.args.numbers.items = search rules in
-    let some = some_in _ c.args.numbers.items full (sym c.is_empty.ensures ∙ c.if-is_empty.false) in
+    let some = some_in _ c.args.numbers.now refl (sym c.is_empty.ensures ∙ c.if-is_empty.false) in
     let count = fewer_levels c.args.layout (pages_on g.D.Device c.args.pages.now c.args.device.now)
-    c.args.numbers.items levels some down in
+    c.args.numbers.now levels some down in
     let lower = of_lower g.D.Device _ c.args.pages.now c.below.new.pages c.args.device.now
-    c.below.new.device c.args.layout c.args.numbers.items c.as_slice.result.now c.in_ok-children.children.items
+    c.below.new.device c.args.layout c.args.numbers.now c.args.numbers.now c.as_slice.result.now
     (λ levels. length levels ≤ c.args.depth - 1 → ⊥)
-    c.below.ensures.unchanged c.below.ensures.only c.below.ensures.agrees c.as_slice.ensures.value
-    c.in_ok-children.ensures.below (λ h a. c.count_levels.ensures.damaged h a is) honest agrees levels few down in
+    c.below.ensures.unchanged c.below.ensures.only c.below.ensures.agrees refl
+    (λ h a l small down. subst (λ (n : List ℕ). HasPages n (levels_below l)) (sym c.as_slice.ensures.value)
+    (c.in_ok-children.ensures.below h a l small down))
+    (λ h a. c.count_levels.ensures.damaged h a is) honest agrees levels few down in
     lower.1 (omega arith)
 
 pub returns-then-is_empty-clause-only : goal.returns-then-is_empty-clause-only

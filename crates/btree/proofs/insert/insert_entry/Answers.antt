@@ -1,20 +1,17 @@
-use Rattle.std.proofs.Common.{◌≡◌, List, [], length, sym, ap, subst, ◌∙◌, arith, true}
+use Rattle.std.proofs.Common.{◌≡◌, List, length, sym, ap, subst, ◌∙◌, arith, true}
 use Rattle.std.specs.Prelude.{Option, Ok, IfOk}
 use Rattle.station.specs.Disk.{Sector}
-use Rattle.pages.specs.Image.{Map}
 use Rattle.pages.specs.declared.page_map.PageMap.{PageMap}
 use Rattle.pages.specs.Pages.{IsUnchanged, changed_pages_of, filled_of}
 use Rattle.btree.specs.Tree.{TreeNode, IsTreeOrEmpty}
 use Rattle.btree.specs.Changes.{Inserts}
-use Rattle.btree.specs.Calls.{OnChange}
+use Rattle.btree.specs.Calls.{OnChange, EditsPages}
 use Rattle.btree.specs.Entering.{EntersOn}
 use Rattle.btree.proofs.Changing.{change_read}
 use Rattle.btree.proofs.Frames.{holds_tree, pages_yet, unchanged_on}
 use Rattle.btree.proofs.InPlace.{came_in_place}
 use Rattle.std.specs.Prelude.{IfErr, Err}
-use Rattle.std.proofs.Common.{◌↔◌, inr}
-use Rattle.station.specs.Calls.{OnlyReads}
-use Rattle.station.proofs.Calls.{reads_then}
+use Rattle.std.proofs.Common.{◌↔◌}
 use Rattle.pages.specs.Pages.{is_spent}
 use Rattle.pages.specs.declared.error.PagesError.TheVariants.{Device, Spent, Full}
 use Rattle.btree.specs.Refusals.{IsPutRefusal, IsInsertRefusal}
@@ -22,30 +19,15 @@ use Rattle.btree.specs.Reading.{IsSearchRefusal}
 use Rattle.btree.proofs.Passing.{passed, never_ok, never_err, some_not_none, same_error, still_error}
 use Rattle.btree.proofs.Passing.{put_not_device}
 use Rattle.btree.proofs.Passing.{search_is_insert, put_is_insert}
-use Rattle.btree.proofs.Passing.{reads_where, committed_on, sectors_on}
+use Rattle.btree.proofs.Passing.{sectors_on}
 use Rattle.pages.specs.Pages.{HasEachPage}
 use Rattle.std.specs.Prelude.{None}
 use Rattle.btree.specs.Changes.{pages_of_map}
 use Rattle.btree.proofs.Inserting.{planted}
-use Rattle.station.proofs.Calls.{reads_nothing}
 use Rattle.btree.proofs.Passing.{write_not_device, write_is_insert}
 use Rattle.btree.proofs.Passing.{few_weaker}
+use Rattle.btree.proofs.EditedPages.{edits_kept, edits_last, edits_none, edits_read, edits_where}
 use Rattle.btree.proofs.insert.insert_entry.Goals as goal
-
-pub returns-in_err-way-clause-catalog : goal.returns-in_err-way-clause-catalog
-returns-in_err-way-clause-catalog g c = ap (λ (m : Map). m.catalog) (c.follow.ensures.unchanged.map [])
-
-pub returns-in_err-enter_leaf-clause-catalog : goal.returns-in_err-enter_leaf-clause-catalog
-returns-in_err-enter_leaf-clause-catalog g c =
-    c.enter_leaf.ensures.keeps.catalog ∙ ap (λ (m : Map). m.catalog) (c.follow.ensures.unchanged.map [])
-
-pub returns-then-branch-clause-catalog : goal.returns-then-branch-clause-catalog
-returns-then-branch-clause-catalog g c =
-    c.enter_leaf.ensures.keeps.catalog ∙ ap (λ (m : Map). m.catalog) (c.follow.ensures.unchanged.map [])
-
-pub returns-clause-catalog : goal.returns-clause-catalog
-returns-clause-catalog g c = c.insert_slowly.ensures.edits.catalog ∙ c.enter_leaf.ensures.keeps.catalog
-    ∙ ap (λ (m : Map). m.catalog) (c.follow.ensures.unchanged.map [])
 
 pub returns-then-branch-clause-inserted : goal.returns-then-branch-clause-inserted
 returns-then-branch-clause-inserted g c = λ honest agrees levels holds.
@@ -124,56 +106,6 @@ returns-clause-filled g c = λ honest agrees levels holds.
     let count = ap (λ (p : PageMap). filled_of p) same in
     let still = c.follow.ensures.unchanged.filled in
     omega (arith, few, count, still)
-
-pub returns-in_err-way-clause-only : goal.returns-in_err-way-clause-only
-returns-in_err-way-clause-only g c =
-    passed c.from_residual-in_err-way.result c.in_err-way.field-0.0 c.from_residual-in_err-way.ensures.1
-    (λ r. OnlyReads g.D.Device (r ≡ Err Device) c.args.device.now c.follow.new.device)
-    (reads_where g.D.Device _ _ _ _ (λ is. still_error is) c.in_err-way.ensures.only)
-
-pub returns-in_err-enter_leaf-clause-only : goal.returns-in_err-enter_leaf-clause-only
-returns-in_err-enter_leaf-clause-only g c = passed c.from_residual-in_err-enter_leaf.result
-    c.in_err-enter_leaf.field-0.0 c.from_residual-in_err-enter_leaf.ensures.1
-    (λ r. OnlyReads g.D.Device (r ≡ Err Device) c.args.device.now c.follow.new.device)
-    (reads_where g.D.Device _ _ _ _
-    (λ is. put_not_device c.in_err-enter_leaf.field-0.0 c.in_err-enter_leaf.ensures.cause is) c.follow.ensures.only)
-
-pub returns-then-branch-clause-only : goal.returns-then-branch-clause-only
-returns-then-branch-clause-only g c = reads_where g.D.Device _ _ _ _ (λ is. never_ok is) c.follow.ensures.only
-
-pub returns-clause-only : goal.returns-clause-only
-returns-clause-only g c = reads_then g.D.Device _ _ _ _ _ _ (λ is. inr is) c.follow.ensures.only
-    c.insert_slowly.ensures.edits.only
-
-pub returns-in_err-enter_leaf-clause-committed : goal.returns-in_err-enter_leaf-clause-committed
-returns-in_err-enter_leaf-clause-committed g c = committed_on c.args.pages.now c.follow.new.pages c.enter_leaf.new.pages
-    c.follow.ensures.unchanged.committed c.enter_leaf.ensures.keeps.committed
-
-pub returns-then-branch-clause-committed : goal.returns-then-branch-clause-committed
-returns-then-branch-clause-committed g c = committed_on c.args.pages.now c.follow.new.pages c.enter_leaf.new.pages
-    c.follow.ensures.unchanged.committed c.enter_leaf.ensures.keeps.committed
-
-pub returns-clause-committed : goal.returns-clause-committed
-returns-clause-committed g c = committed_on c.args.pages.now c.enter_leaf.new.pages c.insert_slowly.new.pages
-    (committed_on c.args.pages.now c.follow.new.pages c.enter_leaf.new.pages c.follow.ensures.unchanged.committed
-    c.enter_leaf.ensures.keeps.committed)
-    c.insert_slowly.ensures.edits.committed
-
-pub returns-in_err-enter_leaf-clause-agrees : goal.returns-in_err-enter_leaf-clause-agrees
-returns-in_err-enter_leaf-clause-agrees g c =
-    λ honest agrees. c.enter_leaf.ensures.keeps.agrees (g.D.Device.state c.follow.new.device).disk
-    (c.follow.ensures.agrees honest agrees)
-
-pub returns-then-branch-clause-agrees : goal.returns-then-branch-clause-agrees
-returns-then-branch-clause-agrees g c =
-    λ honest agrees. c.enter_leaf.ensures.keeps.agrees (g.D.Device.state c.follow.new.device).disk
-    (c.follow.ensures.agrees honest agrees)
-
-pub returns-clause-agrees : goal.returns-clause-agrees
-returns-clause-agrees g c =
-    λ honest agrees. c.insert_slowly.ensures.edits.agrees (c.follow.ensures.only.honest.0 honest)
-    (c.enter_leaf.ensures.keeps.agrees (g.D.Device.state c.follow.new.device).disk
-    (c.follow.ensures.agrees honest agrees))
 
 pub insert_slowly-requires-clause-sectors : goal.insert_slowly-requires-clause-sectors
 insert_slowly-requires-clause-sectors g c = sectors_on c.args.pages.now c.enter_leaf.new.pages _ _
@@ -259,24 +191,6 @@ returns-in_err-new-clause-full g c = λ is.
     let told = rw is at c.from_residual.ensures.1 in
     c.in_err-new.ensures.full (cc told)
 
-pub returns-in_err-new-clause-only : goal.returns-in_err-new-clause-only
-returns-in_err-new-clause-only g c = passed c.from_residual.result c.in_err-new.field-0.0 c.from_residual.ensures.1
-    (λ r. OnlyReads g.D.Device (r ≡ Err Device) c.args.device.now c.args.device.now)
-    (reads_where g.D.Device _ _ _ _ (λ is. write_not_device c.in_err-new.field-0.0 c.in_err-new.ensures.cause is)
-    (reads_nothing g.D.Device c.args.device.now))
-
-pub returns-then-root-eq0-clause-only : goal.returns-then-root-eq0-clause-only
-returns-then-root-eq0-clause-only g c =
-    reads_where g.D.Device _ _ _ _ (λ is. never_ok is) (reads_nothing g.D.Device c.args.device.now)
-
-pub returns-in_err-new-clause-agrees : goal.returns-in_err-new-clause-agrees
-returns-in_err-new-clause-agrees g c =
-    λ honest agrees. c.first_leaf.ensures.keeps.agrees (g.D.Device.state c.args.device.now).disk agrees
-
-pub returns-then-root-eq0-clause-agrees : goal.returns-then-root-eq0-clause-agrees
-returns-then-root-eq0-clause-agrees g c =
-    λ honest agrees. c.first_leaf.ensures.keeps.agrees (g.D.Device.state c.args.device.now).disk agrees
-
 pub returns-in_err-new-clause-spent : goal.returns-in_err-new-clause-spent
 returns-in_err-new-clause-spent g c = passed c.from_residual.result c.in_err-new.field-0.0 c.from_residual.ensures.1
     (λ r. (r ≡ Err Spent) ↔ (is_spent c.args.pages.now ≡ true))
@@ -321,3 +235,50 @@ pub returns-then-root-eq0-clause-filled : goal.returns-then-root-eq0-clause-fill
 returns-then-root-eq0-clause-filled g c =
     λ honest agrees levels holds. few_weaker (filled_of c.args.pages.now) (filled_of c.first_leaf.new.pages) 1 41
     c.first_leaf.ensures.filled
+
+pub returns-then-root-eq0-clause-edits : goal.returns-then-root-eq0-clause-edits
+returns-then-root-eq0-clause-edits g c = edits_kept g.D.Device _ _ _ _ _ _ _ (λ is. never_ok is)
+    (edits_none g.D.Device c.args.pages.now c.args.device.now) c.first_leaf.ensures.keeps
+
+pub returns-in_err-new-clause-edits : goal.returns-in_err-new-clause-edits
+returns-in_err-new-clause-edits g c =
+    passed c.from_residual.result c.in_err-new.field-0.0 c.from_residual.ensures.1
+    (λ r. EditsPages g.D.Device (r ≡ Err Device) c.args.pages.now c.args.device.now c.first_leaf.new.pages
+    c.args.device.now)
+    (edits_kept g.D.Device _ _ _ _ _ _ _
+    (λ is. write_not_device c.in_err-new.field-0.0 c.in_err-new.ensures.cause is)
+    (edits_none g.D.Device c.args.pages.now c.args.device.now) c.first_leaf.ensures.keeps)
+
+pub returns-in_err-way-clause-edits : goal.returns-in_err-way-clause-edits
+returns-in_err-way-clause-edits g c =
+    let way = c.in_err-way.ensures in
+    passed c.from_residual-in_err-way.result c.in_err-way.field-0.0 c.from_residual-in_err-way.ensures.1
+    (λ r. EditsPages g.D.Device (r ≡ Err Device) c.args.pages.now c.args.device.now c.follow.new.pages
+    c.follow.new.device)
+    (edits_where g.D.Device _ _ _ _ _ _ (λ is. still_error is)
+    (edits_read g.D.Device _ _ _ _ _ way.only way.unchanged way.agrees))
+
+pub returns-in_err-enter_leaf-clause-edits : goal.returns-in_err-enter_leaf-clause-edits
+returns-in_err-enter_leaf-clause-edits g c =
+    let way = c.follow.ensures in
+    passed c.from_residual-in_err-enter_leaf.result c.in_err-enter_leaf.field-0.0
+    c.from_residual-in_err-enter_leaf.ensures.1
+    (λ r. EditsPages g.D.Device (r ≡ Err Device) c.args.pages.now c.args.device.now c.enter_leaf.new.pages
+    c.follow.new.device)
+    (edits_kept g.D.Device _ _ _ _ _ _ _
+    (λ is. put_not_device c.in_err-enter_leaf.field-0.0 c.in_err-enter_leaf.ensures.cause is)
+    (edits_read g.D.Device _ _ _ _ _ way.only way.unchanged way.agrees) c.enter_leaf.ensures.keeps)
+
+pub returns-then-branch-clause-edits : goal.returns-then-branch-clause-edits
+returns-then-branch-clause-edits g c =
+    let way = c.follow.ensures in
+    edits_kept g.D.Device _ _ _ _ _ _ _ (λ is. never_ok is)
+    (edits_read g.D.Device _ _ _ _ _ way.only way.unchanged way.agrees) c.enter_leaf.ensures.keeps
+
+pub returns-clause-edits : goal.returns-clause-edits
+returns-clause-edits g c =
+    let way = c.follow.ensures in
+    edits_last g.D.Device _ _ _ _ _ _ _ _ _ (λ is. is)
+    (edits_kept g.D.Device _ ⊥ _ _ _ _ _ (λ never. absurd never)
+    (edits_read g.D.Device _ _ _ _ _ way.only way.unchanged way.agrees) c.enter_leaf.ensures.keeps)
+    c.insert_slowly.ensures.edits

@@ -1,5 +1,5 @@
 use Rattle.btree.specs.Changes.{pages_of_map}
-use Rattle.btree.proofs.Writes.{write_one, is_low, spells_inserted}
+use Rattle.btree.proofs.Writes.{write_one, is_low, spells_inserted, inserted_like}
 use Rattle.std.specs.Prelude.{IfErr, Err}
 use Rattle.std.proofs.Common.{◌≡◌, ◌↔◌, true, sym, ◌∙◌}
 use Rattle.pages.specs.Pages.{is_spent, changed_pages_of}
@@ -9,6 +9,9 @@ use Rattle.btree.proofs.Passing.{passed, never_ok, still_error}
 use Rattle.btree.proofs.Passing.{edit_is_put}
 use Rattle.btree.proofs.Passing.{few_equal}
 use Rattle.btree.proofs.ChangedPages.{changes_count}
+use Rattle.std.proofs.Common.{◌++◌, ap, refl}
+use Rattle.std.proofs.lemmas.List.{append-nil}
+use Rattle.btree_pages.specs.Node.{Node}
 use Rattle.btree.proofs.put_row.put_in_one.Goals as goal
 
 pub returns-clause-pages : goal.returns-clause-pages
@@ -41,3 +44,14 @@ pub returns-in_err-edit-clause-cause : goal.returns-in_err-edit-clause-cause
 returns-in_err-edit-clause-cause c = passed c.from_residual.result c.in_err-edit.field-0.0 c.from_residual.ensures.1
     (λ r. IfErr r IsPutRefusal)
     (edit_is_put c.in_err-edit.field-0.0 c.in_err-edit.ensures.cause)
+
+pub returns-clause-rows : goal.returns-clause-rows
+returns-clause-rows c = append-nil c.insert.new.self.rows ∙ ap (λ (node : Node). node.rows) c.insert.ensures
+
+pub returns-clause-split : goal.returns-clause-split
+returns-clause-split c = record {
+  page_is = refl;
+  left = inserted_like c.args.node c.insert.new.self c.args.place (c.args.key.now ++ c.args.rest.now)
+      c.requires.place c.insert.ensures;
+  right = tt;
+}

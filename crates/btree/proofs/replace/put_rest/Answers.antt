@@ -1,18 +1,13 @@
-use Rattle.std.proofs.Common.{arith}
 use Rattle.btree.specs.Changes.{pages_of_map}
-use Rattle.btree.proofs.Writes.{is_low}
+use Rattle.pages.specs.Pages.{page_count}
+use Rattle.btree.proofs.Lessening.{has_room, true_or_false}
 use Rattle.btree.proofs.Revalued.{put_revalued}
 use Rattle.btree.proofs.replace.put_rest.Goals as goal
 
-pub returns-then-page_count-page-clause-damaged : goal.returns-then-page_count-page-clause-damaged
-returns-then-page_count-page-clause-damaged c = λ is image some is_in.
-    omega (
-      arith,
-      is_low (pages_of_map c.args.pages.now image) c.args.page is_in,
-      c.page_count.ensures.pages image,
-      c.page_count.ensures.count,
-      c.if-page_count-page.true,
-    )
+pub returns-then-not-is_page-clause-damaged : goal.returns-then-not-is_page-clause-damaged
+returns-then-not-is_page-clause-damaged c = λ is image some is_in.
+    true_or_false (c.is_page.ensures.is.1 (has_room (pages_of_map c.args.pages.now image) (page_count c.args.pages.now)
+    c.args.page (c.is_page.ensures.count image) some is_in)) c.if-not-is_page.true
 
 pub returns-clause-pages : goal.returns-clause-pages
 returns-clause-pages c = λ image can.

@@ -19,6 +19,15 @@ use Rattle.btree.proofs.Passing.{passed, never_ok, still_error}
 use Rattle.btree.proofs.Passing.{read_is_change}
 use Rattle.btree.proofs.Passing.{reads_where, committed_on, sectors_on}
 use Rattle.btree.proofs.ShrinkCalls.{renamed_by, gone_by, joined_by, never_joined_by}
+use Rattle.std.proofs.Common.{◌≤◌, ◌+◌, length, arith}
+use Rattle.std.specs.Prelude.{IfOk}
+use Rattle.std.proofs.lemmas.Result.{IfErr-weaker}
+use Rattle.pages.specs.Pages.{changed_pages_of, filled_of}
+use Rattle.btree_pages.specs.declared.row_layout.RowLayout.{RowLayout}
+use Rattle.btree.specs.Outcomes.{FitsAbove, spare}
+use Rattle.btree.proofs.NeighbourCalls.{rest_no_device}
+use Rattle.btree.proofs.Passing.{if_refused, rest_is_change}
+use Rattle.btree.proofs.ShrinkCalls.{leaves_then}
 use Rattle.btree.proofs.shrink.shrink_at.Goals as goal
 
 pub returns-in_err-node-clause-damaged : goal.returns-in_err-node-clause-damaged
@@ -172,3 +181,85 @@ pub returns-in_err-node-clause-cause : goal.returns-in_err-node-clause-cause
 returns-in_err-node-clause-cause g c = passed c.from_residual.result c.in_err-node.field-0.0 c.from_residual.ensures.1
     (λ r. IfErr r IsChangeRefusal)
     (read_is_change c.in_err-node.field-0.0 c.in_err-node.ensures.cause)
+
+pub returns-in-Renamed-clause-changed_pages : goal.returns-in-Renamed-clause-changed_pages
+returns-in-Renamed-clause-changed_pages g c =
+    leaves_then c.rename_at.result (length (changed_pages_of c.rename_at.new.pages))
+    (length (changed_pages_of c.read_node.new.pages))
+    (length (changed_pages_of c.args.pages.now) + spare c.args.below + 2) 1
+    (omega (arith, ap length c.read_node.ensures.unchanged.changed_pages)) c.rename_at.ensures.changed_pages
+
+pub returns-in-Renamed-clause-filled : goal.returns-in-Renamed-clause-filled
+returns-in-Renamed-clause-filled g c = leaves_then c.rename_at.result (filled_of c.rename_at.new.pages)
+    (filled_of c.read_node.new.pages) (filled_of c.args.pages.now + spare c.args.below + 2) 1
+    (omega (arith, c.read_node.ensures.unchanged.filled)) c.rename_at.ensures.filled
+
+pub returns-in-Gone-clause-changed_pages : goal.returns-in-Gone-clause-changed_pages
+returns-in-Gone-clause-changed_pages g c = leaves_then c.lose_at.result (length (changed_pages_of c.lose_at.new.pages))
+    (length (changed_pages_of c.read_node.new.pages))
+    (length (changed_pages_of c.args.pages.now) + spare c.args.below + 2) 1
+    (omega (arith, ap length c.read_node.ensures.unchanged.changed_pages)) c.lose_at.ensures.changed_pages
+
+pub returns-in-Gone-clause-filled : goal.returns-in-Gone-clause-filled
+returns-in-Gone-clause-filled g c = leaves_then c.lose_at.result (filled_of c.lose_at.new.pages)
+    (filled_of c.read_node.new.pages) (filled_of c.args.pages.now + spare c.args.below + 2) 1
+    (omega (arith, c.read_node.ensures.unchanged.filled)) c.lose_at.ensures.filled
+
+pub returns-in-Underfull-clause-changed_pages : goal.returns-in-Underfull-clause-changed_pages
+returns-in-Underfull-clause-changed_pages g c =
+    leaves_then c.rebalance_at.result (length (changed_pages_of c.rebalance_at.new.pages))
+    (length (changed_pages_of c.read_node.new.pages))
+    (length (changed_pages_of c.args.pages.now) + spare c.args.below + 2) 3
+    (omega (arith, ap spare c.in-Underfull.is, ap length c.read_node.ensures.unchanged.changed_pages))
+    c.rebalance_at.ensures.changed_pages
+
+pub returns-in-Underfull-clause-filled : goal.returns-in-Underfull-clause-filled
+returns-in-Underfull-clause-filled g c = leaves_then c.rebalance_at.result (filled_of c.rebalance_at.new.pages)
+    (filled_of c.read_node.new.pages) (filled_of c.args.pages.now + spare c.args.below + 2) 3
+    (omega (arith, ap spare c.in-Underfull.is, c.read_node.ensures.unchanged.filled)) c.rebalance_at.ensures.filled
+
+pub returns-in-Renamed-clause-fits : goal.returns-in-Renamed-clause-fits
+returns-in-Renamed-clause-fits g c =
+    subst (λ (f : RowLayout). IfOk c.rename_at.result (FitsAbove f)) c.in_ok-node.ensures.shape.0
+    c.rename_at.ensures.fits
+
+pub returns-in-Renamed-clause-only : goal.returns-in-Renamed-clause-only
+returns-in-Renamed-clause-only g c = reads_where g.D.Device _ _ _ _
+    (λ is. absurd (rest_no_device c.rename_at.result c.rename_at.ensures.cause is)) c.read_node.ensures.only
+
+pub returns-in-Renamed-clause-cause : goal.returns-in-Renamed-clause-cause
+returns-in-Renamed-clause-cause g c = IfErr-weaker c.rename_at.result _ _ rest_is_change c.rename_at.ensures.cause
+
+pub returns-in-Gone-clause-fits : goal.returns-in-Gone-clause-fits
+returns-in-Gone-clause-fits g c =
+    subst (λ (f : RowLayout). IfOk c.lose_at.result (FitsAbove f)) c.in_ok-node.ensures.shape.0 c.lose_at.ensures.fits
+
+pub returns-in-Gone-clause-only : goal.returns-in-Gone-clause-only
+returns-in-Gone-clause-only g c = reads_where g.D.Device _ _ _ _
+    (λ is. absurd (rest_no_device c.lose_at.result c.lose_at.ensures.cause is)) c.read_node.ensures.only
+
+pub returns-in-Gone-clause-cause : goal.returns-in-Gone-clause-cause
+returns-in-Gone-clause-cause g c = IfErr-weaker c.lose_at.result _ _ rest_is_change c.lose_at.ensures.cause
+
+pub returns-in-Underfull-clause-fits : goal.returns-in-Underfull-clause-fits
+returns-in-Underfull-clause-fits g c = c.rebalance_at.ensures.fits
+
+pub returns-in-Kept-clause-damaged : goal.returns-in-Kept-clause-damaged
+returns-in-Kept-clause-damaged g c = λ honest agrees is. never_ok is
+
+pub returns-in_err-node-clause-fits : goal.returns-in_err-node-clause-fits
+returns-in_err-node-clause-fits g c =
+    if_refused c.from_residual.result c.in_err-node.field-0.0 c.from_residual.ensures.1
+    (FitsAbove c.args.layout)
+
+pub returns-in_err-node-clause-changed_pages : goal.returns-in_err-node-clause-changed_pages
+returns-in_err-node-clause-changed_pages g c =
+    if_refused c.from_residual.result c.in_err-node.field-0.0 c.from_residual.ensures.1
+    (λ up. length (changed_pages_of c.read_node.new.pages) + spare up
+    ≤ length (changed_pages_of c.args.pages.now) + spare c.args.below + 2)
+
+pub returns-in_err-node-clause-filled : goal.returns-in_err-node-clause-filled
+returns-in_err-node-clause-filled g c =
+    if_refused c.from_residual.result c.in_err-node.field-0.0 c.from_residual.ensures.1
+    (λ up. filled_of c.read_node.new.pages + spare up
+    ≤ filled_of c.args.pages.now + spare c.args.below + 2)

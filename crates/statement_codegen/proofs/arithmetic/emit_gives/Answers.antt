@@ -1,7 +1,6 @@
 use Rattle.std.proofs.Common.{ap, ◌∙◌}
 use Rattle.declarations.specs.Named.{items_in}
 use Rattle.source_tree.specs.declared.arithmetic.Receiver.{Receiver}
-use Rattle.source_tree.specs.Broken.{each}
 use Rattle.source_tree.specs.NameRules.{number_rules_of}
 use Rattle.source_tree.specs.ArithmeticRules.{number_receiver}
 use Rattle.condition_codegen.specs.Fragments.{append}

@@ -2,6 +2,10 @@ use Rattle.std.proofs.Common.{ap, ◌∙◌}
 use Rattle.declarations.specs.Named.{items_in}
 use Rattle.source_tree.specs.SettingRules.{set_one}
 use Rattle.condition_codegen.proofs.Kept.{one_kept}
+use Rattle.condition_codegen.specs.Fragments.{append}
+use Rattle.condition_codegen.proofs.Fragments.{goes_on}
+use Rattle.source_tree.specs.declared.reference.Reference.{Reference}
+use Rattle.condition_codegen.specs.PatternCode.{set_fragment}
 use Rattle.statement_codegen.proofs.initialize_statement.emit_sets.Goals as goal
 
 pub emit_set-requires-clause-rules : goal.emit_set-requires-clause-rules
@@ -9,3 +13,12 @@ emit_set-requires-clause-rules c =
     ap (set_one (items_in c.args.emitter.now.declarations.now)) c.one-item.is
     ∙ one_kept (set_one (items_in c.args.emitter.now.declarations.now)) c.args.all.now c.loop-one.one-index
     c.one-item.result c.loop-one-test.true c.requires.rules
+
+pub loop-one-preserved : goal.loop-one-preserved
+loop-one-preserved c =
+    let code = c.loop-one.code in
+    let piece = set_fragment (items_in c.args.emitter.now.declarations.now) in
+    goes_on piece c.args.all.now c.loop-one.one-index c.one-item.result code c.emit_set.new.code _
+    c.loop-one-test.true
+    (c.in_ok-emit_set.ensures ∙ ap (λ (one : Reference). append code (piece one code)) c.one-item.is)
+    c.loop-one.invariant

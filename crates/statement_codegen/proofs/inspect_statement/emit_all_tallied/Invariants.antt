@@ -1,4 +1,4 @@
-use Rattle.std.proofs.Common.{[], ◌∷◌, take}
+use Rattle.std.proofs.Common.{take}
 use Rattle.declarations.specs.Named.{items_in}
 use Rattle.source_tree.specs.InspectLayout.{all_inspected, tallied_entries}
 use Rattle.statement_codegen.specs.InspectCode.{Puts}

@@ -1,4 +1,4 @@
-use Rattle.std.proofs.Common.{ℕ, ◌≤◌, length, ap, ◌∙◌, arith}
+use Rattle.std.proofs.Common.{◌≤◌, length, ap, ◌∙◌, arith}
 use Rattle.declarations.specs.Named.{items_in}
 use Rattle.source_tree.specs.InspectRules.{tallying_rules}
 use Rattle.condition_codegen.proofs.Kept.{one_kept}

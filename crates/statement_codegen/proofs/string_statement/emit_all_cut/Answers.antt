@@ -1,7 +1,11 @@
-use Rattle.std.proofs.Common.{ap, ◌∙◌}
+use Rattle.std.proofs.Common.{ap, ◌∙◌, Some}
 use Rattle.declarations.specs.Named.{items_in}
 use Rattle.source_tree.specs.StringRules.{sent_rules}
 use Rattle.condition_codegen.proofs.Kept.{one_kept}
+use Rattle.condition_codegen.specs.Fragments.{append}
+use Rattle.condition_codegen.proofs.Fragments.{goes_on}
+use Rattle.source_tree.specs.declared.expression.Operand.{Operand}
+use Rattle.statement_codegen.specs.StringCode.{sent_fragment}
 use Rattle.statement_codegen.proofs.string_statement.emit_all_cut.Goals as goal
 
 pub emit_cut-requires : goal.emit_cut-requires
@@ -11,3 +15,11 @@ emit_cut-requires c =
           ∙ one_kept (sent_rules (items_in c.args.emitter.now.declarations.now)) c.args.all.now c.loop-one.one-index
           c.one-item.result c.loop-one-test.true c.requires.rules;
     }
+
+pub loop-one-preserved : goal.loop-one-preserved
+loop-one-preserved c =
+    let code = c.loop-one.code in
+    let piece = sent_fragment (items_in c.args.emitter.now.declarations.now) (Some c.args.delimiter.now) in
+    goes_on piece c.args.all.now c.loop-one.one-index c.one-item.result code c.emit_cut.new.code _
+    c.loop-one-test.true (c.in_ok-emit_cut.ensures ∙ ap (λ (one : Operand). append code (piece one code)) c.one-item.is)
+    c.loop-one.invariant

@@ -1,4 +1,4 @@
-use Rattle.std.proofs.Common.{◌≤◌, ◌+◌, ◌-◌, length}
+use Rattle.std.proofs.Common.{◌≤◌, ◌+◌, length}
 use Rattle.pages.specs.Pages.{KeepsCommitted, changed_pages_of, filled_of}
 use Rattle.btree.specs.Changes.{pages_of_map}
 use Rattle.btree.proofs.PlacedLeaves.{PlacedTop}

@@ -1,6 +1,5 @@
-use Rattle.std.proofs.Common.{false, ap, ◌∙◌}
+use Rattle.std.proofs.Common.{[], ◌∷◌, refl, ap, ◌∙◌}
 use Rattle.station.proofs.Calls.{reads_nothing}
-use Rattle.pages.specs.declared.error.PagesError.TheVariants.{Device}
 use Rattle.btree.specs.Rooted.{RootedTree}
 use Rattle.btree.proofs.Passing.{never_ok, reads_where}
 use Rattle.btree.proofs.CountCalls.{counted_by, never_uncounted}
@@ -8,8 +7,8 @@ use Rattle.btree.proofs.tree.Tree.count.Goals as goal
 
 pub returns-clause-count : goal.returns-clause-count
 returns-clause-count g c = counted_by g.D.Device c.args.pages.now c.args.device.now c.args.self.now c.self.inside.layout
-    c.self.inside.root c.page_count-page_count.result c.new-numbers.result.items c.push.new.self.items
-    c.count_levels.result c.self.view_is c.if-self-eq0.false c.new-numbers.ensures.items c.in_ok-push.ensures.items
+    c.self.inside.root c.page_count-page_count.result [] (c.self.inside.root ∷ [])
+    c.count_levels.result c.self.view_is c.if-self-eq0.false refl refl
     c.page_count-page_count.ensures.pages c.page_count-page_count.ensures.count c.page_count-page_count.ensures.few
     c.count_levels.ensures.told
     c.count_levels.ensures.count
@@ -17,8 +16,8 @@ returns-clause-count g c = counted_by g.D.Device c.args.pages.now c.args.device.
 pub returns-clause-damaged : goal.returns-clause-damaged
 returns-clause-damaged g c = λ honest agrees is.
     never_uncounted g.D.Device c.args.pages.now c.args.device.now c.args.self.now c.self.inside.layout
-    c.self.inside.root c.page_count-page_count.result c.new-numbers.result.items c.push.new.self.items
-    c.count_levels.result c.self.view_is c.if-self-eq0.false c.new-numbers.ensures.items c.in_ok-push.ensures.items
+    c.self.inside.root c.page_count-page_count.result [] (c.self.inside.root ∷ [])
+    c.count_levels.result c.self.view_is c.if-self-eq0.false refl refl
     c.page_count-page_count.ensures.pages c.page_count-page_count.ensures.count c.page_count-page_count.ensures.few
     c.count_levels.ensures.told
     is (λ h a levels few down deep. c.count_levels.ensures.damaged h a is levels few down deep) honest agrees

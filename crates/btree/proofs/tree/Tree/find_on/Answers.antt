@@ -1,4 +1,4 @@
-use Rattle.std.proofs.Common.{◌≡◌, ◌≢◌, ◌↔◌, Bool, true, Err, inr, sym, ap, subst, ◌∙◌}
+use Rattle.std.proofs.Common.{◌≡◌, ◌≢◌, ◌↔◌, true, Err, inr, sym, ap, subst, ◌∙◌}
 use Rattle.std.specs.Prelude.{Ok, IfErr}
 use Rattle.station.specs.Calls.{OnlyReads}
 use Rattle.station.proofs.Calls.{reads_then, reads_nothing}
@@ -11,7 +11,6 @@ use Rattle.btree.specs.Reading.{IsSearchRefusal}
 use Rattle.btree.specs.Results.{ReturnsDamaged}
 use Rattle.btree.specs.Rooted.{RootedTree}
 use Rattle.btree.specs.Sought.{FindsEntry, sought_in}
-use Rattle.btree.specs.Tree.{TreeNode, IsTreeOrEmpty}
 use Rattle.btree.proofs.Finding.{FoundBy, NoTreeUnder}
 use Rattle.btree.proofs.Frames.{rooted_tree, unchanged_on}
 use Rattle.btree.proofs.Passing.{passed, never_ok, never_err, ok_is, still_error, was_error, pages_before}

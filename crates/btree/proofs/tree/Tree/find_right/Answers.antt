@@ -1,4 +1,4 @@
-use Rattle.std.proofs.Common.{◌≡◌, Bool, true, Err, sym, ap, subst, ◌∙◌}
+use Rattle.std.proofs.Common.{◌≡◌, Bool, true, Err, sym, ap, ◌∙◌}
 use Rattle.std.specs.Prelude.{IfErr}
 use Rattle.station.specs.Calls.{OnlyReads}
 use Rattle.station.proofs.Calls.{reads_nothing}

@@ -13,7 +13,7 @@ use Rattle.btree.specs.Refusals.{IsInsertRefusal}
 use Rattle.btree.proofs.Passing.{passed, never_ok, never_err, still_error}
 use Rattle.btree.proofs.Passing.{false_not_true}
 use Rattle.btree.specs.Calls.{EditsPages}
-use Rattle.btree.proofs.EditedPages.{edits_by, edits_where, takes_few, takes_few_ok}
+use Rattle.btree.proofs.EditedPages.{edits_where, takes_few, takes_few_ok}
 use Rattle.btree.proofs.tree.Tree.insert.Goals as goal
 
 pub returns-in_err-added-clause-damaged : goal.returns-in_err-added-clause-damaged
@@ -97,19 +97,19 @@ returns-in_err-added-clause-edits g c =
     (λ r. EditsPages g.D.Device (r ≡ Err Device) c.args.pages.now c.args.device.now c.insert_entry.new.pages
     c.insert_entry.new.device)
     (edits_where g.D.Device _ _ _ _ _ _ (λ is. still_error is)
-    (edits_by g.D.Device _ _ _ _ _ ins.only ins.committed ins.catalog ins.agrees))
+    ins.edits)
 
 pub returns-in-Some-clause-edits : goal.returns-in-Some-clause-edits
 returns-in-Some-clause-edits g c =
     let ins = c.insert_entry.ensures in
     edits_where g.D.Device _ _ _ _ _ _ (λ is. never_ok is)
-    (edits_by g.D.Device _ _ _ _ _ ins.only ins.committed ins.catalog ins.agrees)
+    ins.edits
 
 pub returns-in-None-clause-edits : goal.returns-in-None-clause-edits
 returns-in-None-clause-edits g c =
     let ins = c.insert_entry.ensures in
     edits_where g.D.Device _ _ _ _ _ _ (λ is. never_ok is)
-    (edits_by g.D.Device _ _ _ _ _ ins.only ins.committed ins.catalog ins.agrees)
+    ins.edits
 
 pub returns-in_err-added-clause-few : goal.returns-in_err-added-clause-few
 returns-in_err-added-clause-few g c =
@@ -123,7 +123,7 @@ returns-in_err-added-clause-few g c =
     let full : c.insert_entry.result ≡ Err Full = cc told in
     false_unless (is_spent old)
     (λ was. let other : c.insert_entry.result ≡ Err Spent = c.insert_entry.ensures.spent.1 was in cc))
-    c.few_free.ensures c.insert_entry.ensures.committed
+    c.few_free.ensures c.insert_entry.ensures.edits.committed
 
 pub returns-in-Some-clause-few : goal.returns-in-Some-clause-few
 returns-in-Some-clause-few g c =

@@ -13,7 +13,7 @@ use Rattle.btree.proofs.Passing.{passed, never_ok, never_err, still_error}
 use Rattle.btree.proofs.Passing.{false_not_true}
 use Rattle.btree.specs.Calls.{EditsPages}
 use Rattle.btree.specs.TreeEdits.{OkOnlyIfEditsFew}
-use Rattle.btree.proofs.EditedPages.{edits_by, edits_where, few_named_ok}
+use Rattle.btree.proofs.EditedPages.{edits_where, few_named_ok}
 use Rattle.btree.proofs.tree.Tree.remove.Goals as goal
 
 pub returns-in_err-removed-clause-damaged : goal.returns-in_err-removed-clause-damaged
@@ -110,19 +110,19 @@ returns-in_err-removed-clause-edits g c =
     (λ r. EditsPages g.D.Device (r ≡ Err Device) c.args.pages.now c.args.device.now c.remove_entry.new.pages
     c.remove_entry.new.device)
     (edits_where g.D.Device _ _ _ _ _ _ (λ is. still_error is)
-    (edits_by g.D.Device _ _ _ _ _ cut.only cut.committed cut.catalog cut.agrees))
+    cut.edits)
 
 pub returns-in-Some-clause-edits : goal.returns-in-Some-clause-edits
 returns-in-Some-clause-edits g c =
     let cut = c.remove_entry.ensures in
     edits_where g.D.Device _ _ _ _ _ _ (λ is. never_ok is)
-    (edits_by g.D.Device _ _ _ _ _ cut.only cut.committed cut.catalog cut.agrees)
+    cut.edits
 
 pub returns-in-None-clause-edits : goal.returns-in-None-clause-edits
 returns-in-None-clause-edits g c =
     let cut = c.remove_entry.ensures in
     edits_where g.D.Device _ _ _ _ _ _ (λ is. never_ok is)
-    (edits_by g.D.Device _ _ _ _ _ cut.only cut.committed cut.catalog cut.agrees)
+    cut.edits
 
 pub returns-in_err-removed-clause-few : goal.returns-in_err-removed-clause-few
 returns-in_err-removed-clause-few g c =

@@ -20,7 +20,7 @@ use Rattle.btree.specs.Tree.{TreeNode}
 use Rattle.btree.proofs.ReadMaps.{change_before}
 use Rattle.btree.proofs.ReplaceCalls.{ReplacesEntry, replaced_in_place, unchanged_equal}
 use Rattle.btree.specs.Calls.{EditsPages}
-use Rattle.btree.proofs.EditedPages.{edits_by, edits_kept, edits_last, edits_none, edits_read, edits_where}
+use Rattle.btree.proofs.EditedPages.{edits_kept, edits_last, edits_none, edits_read, edits_where}
 use Rattle.btree.proofs.tree.Tree.replace.Goals as goal
 
 pub returns-then-branch-clause-replaced : goal.returns-then-branch-clause-replaced
@@ -280,4 +280,4 @@ returns-clause-edits g c =
     edits_last g.D.Device _ _ _ _ _ _ _ _ _ (λ is. is)
     (edits_kept g.D.Device _ ⊥ _ _ _ _ _ (λ never. absurd never)
     (edits_read g.D.Device _ _ _ _ _ way.only way.unchanged way.agrees) c.set_value_in.ensures.keeps)
-    (edits_by g.D.Device _ _ _ _ _ slow.only slow.committed slow.catalog slow.agrees)
+    slow.edits

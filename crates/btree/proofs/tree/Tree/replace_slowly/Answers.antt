@@ -1,93 +1,46 @@
-use Rattle.std.proofs.Common.{false, ◌≡◌, List, ℕ, [], sym, ap, subst, ◌∙◌}
-use Rattle.pages.specs.Image.{Map}
+use Rattle.std.proofs.Common.{false, ◌≡◌, List, ℕ, sym, subst, ◌∙◌}
 use Rattle.std.specs.Prelude.{IfErr, Err, Ok}
 use Rattle.std.proofs.Common.{◌≢◌, ◌↔◌, ◌≤◌, ◌+◌, true, length}
-use Rattle.station.specs.Calls.{OnlyReads}
-use Rattle.station.proofs.Calls.{reads_nothing}
 use Rattle.pages.specs.Pages.{is_spent, changed_pages_of, filled_of}
 use Rattle.pages.specs.declared.error.PagesError.TheVariants.{Device, Spent}
 use Rattle.btree.specs.Refusals.{IsChangeRefusal}
 use Rattle.btree.proofs.Passing.{passed, never_ok, never_err, still_error}
 use Rattle.btree.proofs.Passing.{rest_is_change, search_is_change, rest_not_device}
-use Rattle.btree.proofs.Passing.{reads_where, committed_on}
 use Rattle.btree.proofs.Passing.{few_equal, few_same, false_not_true, search_is_change}
 use Rattle.btree.proofs.Frames.{unchanged_still}
 use Rattle.btree.proofs.ReplaceCalls.{never_unput, none_by, replaced_by}
+use Rattle.btree.specs.Calls.{EditsPages}
+use Rattle.btree.proofs.EditedPages.{edits_kept, edits_none, edits_read, edits_where}
 use Rattle.btree.proofs.tree.Tree.replace_slowly.Goals as goal
-
-pub returns-in_err-descent-clause-catalog : goal.returns-in_err-descent-clause-catalog
-returns-in_err-descent-clause-catalog g c = ap (λ (m : Map). m.catalog) (c.descend.ensures.unchanged.map [])
-
-pub returns-in-Err-clause-catalog : goal.returns-in-Err-clause-catalog
-returns-in-Err-clause-catalog g c = ap (λ (m : Map). m.catalog) (c.descend.ensures.unchanged.map [])
-
-pub returns-in_err-put_rest-clause-catalog : goal.returns-in_err-put_rest-clause-catalog
-returns-in_err-put_rest-clause-catalog g c =
-    c.put_rest.ensures.keeps.catalog ∙ ap (λ (m : Map). m.catalog) (c.descend.ensures.unchanged.map [])
-
-pub returns-clause-catalog : goal.returns-clause-catalog
-returns-clause-catalog g c =
-    c.put_rest.ensures.keeps.catalog ∙ ap (λ (m : Map). m.catalog) (c.descend.ensures.unchanged.map [])
 
 pub returns-in-Err-clause-missing : goal.returns-in-Err-clause-missing
 returns-in-Err-clause-missing g c = λ honest agrees levels holds is.
-    let d = c.in_ok-descent.descent in
+    let d = c.in_ok-way.field-0 in
     none_by g.D.Device c.args.self.now c.layout-layout.result c.root-top.result c.args.key.now c.args.pages.now
-    c.args.device.now d.path.items d.page d.leaf d.right c.in-Err.field-0
+    c.args.device.now d.way.path.items d.way.page d.leaf d.way.right c.in-Err.field-0
     (record { layout_is = c.layout-layout.ensures.is; top_is = c.root-top.ensures; some = c.if-top-eq0.false })
-    c.in_ok-descent.ensures.way c.in_ok-descent.ensures.leaf.0 c.in-Err.ensures.missing c.in-Err.ensures.around honest
+    c.in_ok-way.ensures.way c.in_ok-way.ensures.leaf.0 c.in-Err.ensures.missing c.in-Err.ensures.around honest
     agrees levels holds
 
 pub returns-in_err-put_rest-clause-damaged : goal.returns-in_err-put_rest-clause-damaged
 returns-in_err-put_rest-clause-damaged g c = λ honest agrees is.
-    let d = c.in_ok-descent.descent in
+    let d = c.in_ok-way.field-0 in
     let told = rw is at c.from_residual-in_err-put_rest.ensures.1 in
     never_unput g.D.Device c.args.self.now c.layout-layout.result c.root-top.result c.args.key.now c.args.pages.now
-    c.descend.new.pages c.args.device.now d.path.items d.page d.leaf.rows d.right _
+    c.descend.new.pages c.args.device.now d.way.path.items d.way.page d.leaf.rows d.way.right _
     (record { layout_is = c.layout-layout.ensures.is; top_is = c.root-top.ensures; some = c.if-top-eq0.false })
-    c.descend.ensures.unchanged c.in_ok-descent.ensures.way c.in_err-put_rest.ensures.damaged (cc told) honest agrees
+    c.descend.ensures.unchanged c.in_ok-way.ensures.way c.in_err-put_rest.ensures.damaged (cc told) honest agrees
 
 pub returns-clause-replaced : goal.returns-clause-replaced
 returns-clause-replaced g c = λ honest agrees levels holds is.
-    let d = c.in_ok-descent.descent in
+    let d = c.in_ok-way.field-0 in
     replaced_by g.D.Device c.args.self.now c.layout-layout.result c.root-top.result c.args.key.now c.args.pages.now
-    c.descend.new.pages c.put_rest.new.pages c.args.device.now c.args.value.now d.path.items d.page d.leaf d.right
+    c.descend.new.pages c.put_rest.new.pages c.args.device.now c.args.value.now d.way.path.items d.way.page d.leaf
+    d.way.right
     c.in-Ok.place
     (record { layout_is = c.layout-layout.ensures.is; top_is = c.root-top.ensures; some = c.if-top-eq0.false })
-    c.descend.ensures.unchanged c.in_ok-descent.ensures.way c.in_ok-descent.ensures.leaf c.in-Ok.ensures.found
+    c.descend.ensures.unchanged c.in_ok-way.ensures.way c.in_ok-way.ensures.leaf c.in-Ok.ensures.found
     c.in-Ok.ensures.around c.in_ok-put_rest.ensures.pages honest agrees levels holds
-
-pub returns-then-top-eq0-clause-only : goal.returns-then-top-eq0-clause-only
-returns-then-top-eq0-clause-only g c =
-    reads_where g.D.Device _ _ _ _ (λ is. never_ok is) (reads_nothing g.D.Device c.args.device.now)
-
-pub returns-in_err-descent-clause-only : goal.returns-in_err-descent-clause-only
-returns-in_err-descent-clause-only g c =
-    passed c.from_residual.result c.in_err-descent.field-0.0 c.from_residual.ensures.1
-    (λ r. OnlyReads g.D.Device (r ≡ Err Device) c.args.device.now c.descend.new.device)
-    (reads_where g.D.Device _ _ _ _ (λ is. still_error is) c.in_err-descent.ensures.only)
-
-pub returns-in-Err-clause-only : goal.returns-in-Err-clause-only
-returns-in-Err-clause-only g c = reads_where g.D.Device _ _ _ _ (λ is. never_ok is) c.descend.ensures.only
-
-pub returns-in_err-put_rest-clause-only : goal.returns-in_err-put_rest-clause-only
-returns-in_err-put_rest-clause-only g c =
-    passed c.from_residual-in_err-put_rest.result c.in_err-put_rest.field-0.0 c.from_residual-in_err-put_rest.ensures.1
-    (λ r. OnlyReads g.D.Device (r ≡ Err Device) c.args.device.now c.descend.new.device)
-    (reads_where g.D.Device _ _ _ _
-    (λ is. rest_not_device c.in_err-put_rest.field-0.0 c.in_err-put_rest.ensures.cause is) c.descend.ensures.only)
-
-pub returns-clause-only : goal.returns-clause-only
-returns-clause-only g c = reads_where g.D.Device _ _ _ _ (λ is. never_ok is) c.descend.ensures.only
-
-pub returns-in_err-put_rest-clause-committed : goal.returns-in_err-put_rest-clause-committed
-returns-in_err-put_rest-clause-committed g c = committed_on c.args.pages.now c.descend.new.pages c.put_rest.new.pages
-    c.descend.ensures.unchanged.committed c.put_rest.ensures.keeps.committed
-
-pub returns-in_err-put_rest-clause-agrees : goal.returns-in_err-put_rest-clause-agrees
-returns-in_err-put_rest-clause-agrees g c =
-    λ honest agrees. c.put_rest.ensures.keeps.agrees (g.D.Device.state c.descend.new.device).disk
-    (c.descend.ensures.agrees honest agrees)
 
 pub returns-in_err-put_rest-clause-changed_pages : goal.returns-in_err-put_rest-clause-changed_pages
 returns-in_err-put_rest-clause-changed_pages g c =
@@ -99,15 +52,6 @@ returns-in_err-put_rest-clause-filled g c =
     subst (λ (n : ℕ). filled_of c.put_rest.new.pages ≤ n + 1) c.descend.ensures.unchanged.filled
     c.put_rest.ensures.filled
 
-pub returns-clause-committed : goal.returns-clause-committed
-returns-clause-committed g c = committed_on c.args.pages.now c.descend.new.pages c.put_rest.new.pages
-    c.descend.ensures.unchanged.committed c.put_rest.ensures.keeps.committed
-
-pub returns-clause-agrees : goal.returns-clause-agrees
-returns-clause-agrees g c =
-    λ honest agrees. c.put_rest.ensures.keeps.agrees (g.D.Device.state c.descend.new.device).disk
-    (c.descend.ensures.agrees honest agrees)
-
 pub returns-clause-changed_pages : goal.returns-clause-changed_pages
 returns-clause-changed_pages g c = subst (λ (l : List ℕ). length (changed_pages_of c.put_rest.new.pages) ≤ length l + 1)
     c.descend.ensures.unchanged.changed_pages c.put_rest.ensures.changed_pages
@@ -116,12 +60,12 @@ pub returns-clause-filled : goal.returns-clause-filled
 returns-clause-filled g c = subst (λ (n : ℕ). filled_of c.put_rest.new.pages ≤ n + 1) c.descend.ensures.unchanged.filled
     c.put_rest.ensures.filled
 
-pub returns-in_err-descent-clause-changed_pages : goal.returns-in_err-descent-clause-changed_pages
-returns-in_err-descent-clause-changed_pages g c = few_equal (changed_pages_of c.args.pages.now)
+pub returns-in_err-way-clause-changed_pages : goal.returns-in_err-way-clause-changed_pages
+returns-in_err-way-clause-changed_pages g c = few_equal (changed_pages_of c.args.pages.now)
     (changed_pages_of c.descend.new.pages) 1 c.descend.ensures.unchanged.changed_pages
 
-pub returns-in_err-descent-clause-filled : goal.returns-in_err-descent-clause-filled
-returns-in_err-descent-clause-filled g c =
+pub returns-in_err-way-clause-filled : goal.returns-in_err-way-clause-filled
+returns-in_err-way-clause-filled g c =
     few_same (filled_of c.args.pages.now) (filled_of c.descend.new.pages) 1 c.descend.ensures.unchanged.filled
 
 pub returns-in-Err-clause-changed_pages : goal.returns-in-Err-clause-changed_pages
@@ -136,21 +80,21 @@ pub returns-then-top-eq0-clause-spent : goal.returns-then-top-eq0-clause-spent
 returns-then-top-eq0-clause-spent g c =
     (λ is. never_ok is, λ both. absurd (both.1 (sym c.root-top.ensures ∙ c.if-top-eq0.true)))
 
-pub returns-in_err-descent-clause-spent : goal.returns-in_err-descent-clause-spent
-returns-in_err-descent-clause-spent g c =
-    passed c.from_residual.result c.in_err-descent.field-0.0 c.from_residual.ensures.1
+pub returns-in_err-way-clause-spent : goal.returns-in_err-way-clause-spent
+returns-in_err-way-clause-spent g c =
+    passed c.from_residual.result c.in_err-way.field-0.0 c.from_residual.ensures.1
     (λ r. (r ≡ Err Spent) ↔ ((is_spent c.args.pages.now ≡ true) × (c.args.self.now.root ≢ 0))) (
-      λ is. (c.in_err-descent.ensures.spent.0 (still_error is), λ none. c.if-top-eq0.false (c.root-top.ensures ∙ none)),
-      λ both. still_error (c.in_err-descent.ensures.spent.1 both.0),
+      λ is. (c.in_err-way.ensures.spent.0 (still_error is), λ none. c.if-top-eq0.false (c.root-top.ensures ∙ none)),
+      λ both. still_error (c.in_err-way.ensures.spent.1 both.0),
     )
 
 pub returns-in-Err-clause-spent : goal.returns-in-Err-clause-spent
 returns-in-Err-clause-spent g c =
-    (λ is. never_ok is, λ both. never_ok (sym c.in_ok-descent.was ∙ c.descend.ensures.spent.1 both.0))
+    (λ is. never_ok is, λ both. never_ok (sym c.in_ok-way.was ∙ c.descend.ensures.spent.1 both.0))
 
 pub returns-clause-spent : goal.returns-clause-spent
 returns-clause-spent g c =
-    (λ is. never_ok is, λ both. never_ok (sym c.in_ok-descent.was ∙ c.descend.ensures.spent.1 both.0))
+    (λ is. never_ok is, λ both. never_ok (sym c.in_ok-way.was ∙ c.descend.ensures.spent.1 both.0))
 
 pub returns-in_err-put_rest-clause-spent : goal.returns-in_err-put_rest-clause-spent
 returns-in_err-put_rest-clause-spent g c =
@@ -160,14 +104,14 @@ returns-in_err-put_rest-clause-spent g c =
         sym c.descend.ensures.unchanged.committed.spent ∙ c.in_err-put_rest.ensures.spent (still_error is),
         λ none. c.if-top-eq0.false (c.root-top.ensures ∙ none),
       ),
-      λ both. never_ok (sym c.in_ok-descent.was ∙ c.descend.ensures.spent.1 both.0),
+      λ both. never_ok (sym c.in_ok-way.was ∙ c.descend.ensures.spent.1 both.0),
     )
 
-pub returns-in_err-descent-clause-cause : goal.returns-in_err-descent-clause-cause
-returns-in_err-descent-clause-cause g c =
-    passed c.from_residual.result c.in_err-descent.field-0.0 c.from_residual.ensures.1
+pub returns-in_err-way-clause-cause : goal.returns-in_err-way-clause-cause
+returns-in_err-way-clause-cause g c =
+    passed c.from_residual.result c.in_err-way.field-0.0 c.from_residual.ensures.1
     (λ r. IfErr r IsChangeRefusal)
-    (search_is_change c.layout-layout.result c.in_err-descent.field-0.0 c.in_err-descent.ensures.cause)
+    (search_is_change c.layout-layout.result c.in_err-way.field-0.0 c.in_err-way.ensures.cause)
 
 pub returns-in_err-put_rest-clause-cause : goal.returns-in_err-put_rest-clause-cause
 returns-in_err-put_rest-clause-cause g c =
@@ -199,21 +143,21 @@ returns-clause-missing g c = λ honest agrees levels holds is. false_not_true (s
 pub returns-clause-same : goal.returns-clause-same
 returns-clause-same g c = λ is. false_not_true (sym is)
 
-pub returns-in_err-descent-clause-replaced : goal.returns-in_err-descent-clause-replaced
-returns-in_err-descent-clause-replaced g c = λ honest agrees levels holds is.
-    absurd (passed c.from_residual.result c.in_err-descent.field-0.0 c.from_residual.ensures.1
+pub returns-in_err-way-clause-replaced : goal.returns-in_err-way-clause-replaced
+returns-in_err-way-clause-replaced g c = λ honest agrees levels holds is.
+    absurd (passed c.from_residual.result c.in_err-way.field-0.0 c.from_residual.ensures.1
     (λ r. r ≡ Ok true → ⊥)
     (λ e. never_err e) is)
 
-pub returns-in_err-descent-clause-missing : goal.returns-in_err-descent-clause-missing
-returns-in_err-descent-clause-missing g c = λ honest agrees levels holds is.
-    absurd (passed c.from_residual.result c.in_err-descent.field-0.0 c.from_residual.ensures.1
+pub returns-in_err-way-clause-missing : goal.returns-in_err-way-clause-missing
+returns-in_err-way-clause-missing g c = λ honest agrees levels holds is.
+    absurd (passed c.from_residual.result c.in_err-way.field-0.0 c.from_residual.ensures.1
     (λ r. r ≡ Ok false → ⊥)
     (λ e. never_err e) is)
 
-pub returns-in_err-descent-clause-same : goal.returns-in_err-descent-clause-same
-returns-in_err-descent-clause-same g c =
-    λ is. absurd (passed c.from_residual.result c.in_err-descent.field-0.0 c.from_residual.ensures.1
+pub returns-in_err-way-clause-same : goal.returns-in_err-way-clause-same
+returns-in_err-way-clause-same g c =
+    λ is. absurd (passed c.from_residual.result c.in_err-way.field-0.0 c.from_residual.ensures.1
     (λ r. r ≡ Ok false → ⊥)
     (λ e. never_err e) is)
 
@@ -234,3 +178,39 @@ returns-in_err-put_rest-clause-same g c = λ is. absurd
     (passed c.from_residual-in_err-put_rest.result c.in_err-put_rest.field-0.0 c.from_residual-in_err-put_rest.ensures.1
     (λ r. r ≡ Ok false → ⊥)
     (λ e. never_err e) is)
+
+pub returns-then-top-eq0-clause-edits : goal.returns-then-top-eq0-clause-edits
+returns-then-top-eq0-clause-edits g c =
+    edits_where g.D.Device _ _ _ _ _ _ (λ is. never_ok is)
+    (edits_none g.D.Device c.args.pages.now c.args.device.now)
+
+pub returns-in_err-way-clause-edits : goal.returns-in_err-way-clause-edits
+returns-in_err-way-clause-edits g c =
+    let way = c.in_err-way.ensures in
+    passed c.from_residual.result c.in_err-way.field-0.0 c.from_residual.ensures.1
+    (λ r. EditsPages g.D.Device (r ≡ Err Device) c.args.pages.now c.args.device.now c.descend.new.pages
+    c.descend.new.device)
+    (edits_where g.D.Device _ _ _ _ _ _ (λ is. still_error is)
+    (edits_read g.D.Device _ _ _ _ _ way.only way.unchanged way.agrees))
+
+pub returns-in-Err-clause-edits : goal.returns-in-Err-clause-edits
+returns-in-Err-clause-edits g c =
+    let way = c.descend.ensures in
+    edits_where g.D.Device _ _ _ _ _ _ (λ is. never_ok is)
+    (edits_read g.D.Device _ _ _ _ _ way.only way.unchanged way.agrees)
+
+pub returns-in_err-put_rest-clause-edits : goal.returns-in_err-put_rest-clause-edits
+returns-in_err-put_rest-clause-edits g c =
+    let way = c.descend.ensures in
+    passed c.from_residual-in_err-put_rest.result c.in_err-put_rest.field-0.0 c.from_residual-in_err-put_rest.ensures.1
+    (λ r. EditsPages g.D.Device (r ≡ Err Device) c.args.pages.now c.args.device.now c.put_rest.new.pages
+    c.descend.new.device)
+    (edits_kept g.D.Device _ _ _ _ _ _ _
+    (λ is. rest_not_device c.in_err-put_rest.field-0.0 c.in_err-put_rest.ensures.cause is)
+    (edits_read g.D.Device _ _ _ _ _ way.only way.unchanged way.agrees) c.put_rest.ensures.keeps)
+
+pub returns-clause-edits : goal.returns-clause-edits
+returns-clause-edits g c =
+    let way = c.descend.ensures in
+    edits_kept g.D.Device _ _ _ _ _ _ _ (λ is. never_ok is)
+    (edits_read g.D.Device _ _ _ _ _ way.only way.unchanged way.agrees) c.put_rest.ensures.keeps

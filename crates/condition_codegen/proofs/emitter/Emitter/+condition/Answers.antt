@@ -1,4 +1,5 @@
 use Rattle.std.proofs.Common.{rules, ◌≡◌, List, [], ◌∷◌, map, sym, ap, arith, ◌∙◌}
+use Rattle.std.proofs.lemmas.Grind.{common_steps}
 use Rattle.source_tree.specs.declared.condition.Condition.{Condition, the_lemmas}
 use Rattle.source_tree.specs.Broken.{each}
 use Rattle.source_tree.specs.ConditionRules.{condition_rules}
@@ -251,6 +252,12 @@ emit_each_or-emit_or-requires t c =
     let r : kept c.one-item.result ≡ [] = ap kept c.one-item.is
     ∙ one_kept kept c.args.more.now c.loop-one.one-index c.one-item.result c.loop-one-test.true c.requires.rules in
     (search (rules, the_lemmas), (c.requires.entries, r))
+
+pub emit_each_and-loop-one-preserved : goal.emit_each_and-loop-one-preserved
+emit_each_and-loop-one-preserved t c = grind (arith, common_steps)
+
+pub emit_each_or-loop-one-preserved : goal.emit_each_or-loop-one-preserved
+emit_each_or-loop-one-preserved t c = grind (arith, common_steps)
 
 pub emit_and-returns : goal.emit_and-returns
 emit_and-returns t c =

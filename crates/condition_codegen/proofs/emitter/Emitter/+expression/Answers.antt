@@ -1,4 +1,5 @@
-use Rattle.std.proofs.Common.{rules, ◌≡◌, List, [], ◌++◌, sym, ap, ◌∙◌}
+use Rattle.std.proofs.Common.{rules, ◌≡◌, List, [], ◌++◌, sym, ap, ◌∙◌, arith}
+use Rattle.std.proofs.lemmas.Grind.{common_steps}
 use Rattle.source_tree.specs.declared.expression.Operator.{Operator}
 use Rattle.source_tree.specs.declared.expression.Expression.{Expression, the_lemmas}
 use Rattle.source_tree.specs.Broken.{each}
@@ -97,3 +98,6 @@ emit_expression-returns-in_ok-emit_expression-in-Chain t c =
     c.as_slice.ensures
     ∙ ap (append old) (sym (chain_is items c.in-Chain.first c.in-Chain.more old)
     ∙ sym (ap (λ (e : Expression). expression_fragment items e old) c.in-Chain.is)))
+
+pub emit_chain-loop-operator-preserved : goal.emit_chain-loop-operator-preserved
+emit_chain-loop-operator-preserved t c = grind (arith, common_steps)

@@ -1,4 +1,5 @@
-use Rattle.std.proofs.Common.{◌≡◌, sym}
+use Rattle.std.proofs.Common.{◌≡◌, sym, arith}
+use Rattle.std.proofs.lemmas.Grind.{common_steps}
 use Rattle.source_tree.specs.Evaluate.{selection_condition}
 use Rattle.declarations.specs.Named.{items_in}
 use Rattle.condition_codegen.specs.Meeting.{nothing_fragment}
@@ -23,3 +24,12 @@ returns c =
     c.in_ok-branch.ensures.code c.in_ok-branch.ensures.address c.in_ok-emit_asked.ensures c.in_ok-other.ensures.code
     c.in_ok-other.ensures.other
     (sym (joined_nothing c.emit_jump.new.code)) e)
+
+pub emit_meeting-requires-clause-branch : goal.emit_meeting-requires-clause-branch
+emit_meeting-requires-clause-branch c = grind (arith, common_steps)
+
+pub emit_meeting-requires-clause-jump : goal.emit_meeting-requires-clause-jump
+emit_meeting-requires-clause-jump c = grind (arith, common_steps)
+
+pub emit_meeting-requires-clause-other : goal.emit_meeting-requires-clause-other
+emit_meeting-requires-clause-other c = grind (arith, common_steps)

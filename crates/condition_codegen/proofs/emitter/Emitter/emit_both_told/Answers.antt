@@ -1,4 +1,5 @@
-use Rattle.std.proofs.Common.{ap, ◌∙◌}
+use Rattle.std.proofs.Common.{ap, ◌∙◌, arith}
+use Rattle.std.proofs.lemmas.Grind.{common_steps}
 use Rattle.source_tree.specs.Evaluate.{condition_or_opposite}
 use Rattle.declarations.specs.Resolved.{condition_meant}
 use Rattle.declarations.specs.Named.{items_in}
@@ -21,3 +22,12 @@ returns c =
     c.in_ok-branch.ensures.address c.in_ok-emit_told-2.ensures c.in_ok-second.ensures.code
     c.in_ok-second.ensures.other c.emit_meeting.ensures)
     (λ e. e ∙ ap (append c.args.code.now) (both_are items one further c.args.code.now))
+
+pub emit_meeting-requires-clause-branch : goal.emit_meeting-requires-clause-branch
+emit_meeting-requires-clause-branch c = grind (arith, common_steps)
+
+pub emit_meeting-requires-clause-jump : goal.emit_meeting-requires-clause-jump
+emit_meeting-requires-clause-jump c = grind (arith, common_steps)
+
+pub emit_meeting-requires-clause-other : goal.emit_meeting-requires-clause-other
+emit_meeting-requires-clause-other c = grind (arith, common_steps)

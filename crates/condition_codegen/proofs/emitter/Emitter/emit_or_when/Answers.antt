@@ -1,4 +1,5 @@
-use Rattle.std.proofs.Common.{List, sym, ap, ◌∙◌}
+use Rattle.std.proofs.Common.{List, sym, ap, ◌∙◌, arith}
+use Rattle.std.proofs.lemmas.Grind.{common_steps}
 use Rattle.source_tree.specs.declared.condition.Condition.TheVariants.{All}
 use Rattle.source_tree.specs.declared.evaluate_statement.Object.{Object}
 use Rattle.source_tree.specs.Broken.{each}
@@ -30,3 +31,12 @@ returns c =
     (c.in_ok-emit_when.ensures ∙ ap (λ (l : List Object). append jumped
     (condition_fragment items (All (object_conditions items c.args.subjects.now l)) jumped)) c.as_slice.ensures)
     c.emit_meeting.ensures
+
+pub emit_meeting-requires-clause-branch : goal.emit_meeting-requires-clause-branch
+emit_meeting-requires-clause-branch c = grind (arith, common_steps)
+
+pub emit_meeting-requires-clause-jump : goal.emit_meeting-requires-clause-jump
+emit_meeting-requires-clause-jump c = grind (arith, common_steps)
+
+pub emit_meeting-requires-clause-other : goal.emit_meeting-requires-clause-other
+emit_meeting-requires-clause-other c = grind (arith, common_steps)

@@ -22,3 +22,6 @@ emit_indexing-requires c =
           ∙ one_kept (subscript_rules items) c.args.subscripts.now c.loop-number.number c.in-Some.one.now lt
           c.requires.rules;
     }
+
+pub loop-number-preserved : goal.loop-number-preserved
+loop-number-preserved c = grind (arith, common_steps)

@@ -1,4 +1,5 @@
-use Rattle.std.proofs.Common.{sym, ap, ◌∙◌}
+use Rattle.std.proofs.Common.{sym, ap, ◌∙◌, arith}
+use Rattle.std.proofs.lemmas.Grind.{common_steps}
 use Rattle.source_tree.specs.Broken.{each}
 use Rattle.source_tree.specs.ArithmeticRules.{number_rules}
 use Rattle.declarations.specs.Named.{items_in}
@@ -22,3 +23,6 @@ emit_all_added-requires c =
           (sym (ap (each kept) c.in-Some.ensures.cases.0)
           ∙ c.requires.rules);
     }
+
+pub returns : goal.returns
+returns c = grind (arith, common_steps)

@@ -1,11 +1,9 @@
-use Rattle.std.proofs.Common.{ap}
-use Rattle.source_tree.specs.Computed.{ArithmeticValue}
+use Rattle.std.proofs.Common.{ap, ◌∙◌}
 use Rattle.data_instructions.specs.declared.tables.DataItem.{DataItem}
+use Rattle.data_instructions.specs.Tables.{shortened_item}
 use Rattle.data_machine.specs.Data.{scratch_of}
-use Rattle.data_machine.specs.Filled.{BufferView}
-use Rattle.data_machine.specs.Held.{StackView}
-use Rattle.data_machine.proofs.Newest.{some_place, item_within, item_whole, part_editing, seen_stands}
-use Rattle.data_machine.proofs.MeasuredTexts.{measured_gathered}
+use Rattle.data_machine.proofs.Newest.{some_place, item_within, item_whole, part_editing, seen_stands, seen_short}
+use Rattle.data_machine.proofs.MeasuredTexts.{measured_does}
 use Rattle.data_machine.proofs.data.Data.gather_measured.Goals as goal
 
 pub pop-place-requires : goal.pop-place-requires
@@ -17,35 +15,40 @@ item_of-one-requires c =
     item_within c.args.tables.now c.args.self.now.areas c.args.self.now.places.newest_first
     c.requires.operand c.pop-place.result c.pop-place.new.self.newest_first c.pop-place.ensures.newest
 
-pub seen-one-requires-clause-whole : goal.seen-one-requires-clause-whole
-seen-one-requires-clause-whole c =
+pub seen-requires-clause-whole : goal.seen-requires-clause-whole
+seen-requires-clause-whole c =
     item_whole c.args.tables.now c.args.self.now.areas c.args.self.now.places.newest_first
     c.requires.operand c.pop-place.result c.pop-place.new.self.newest_first c.pop-place.ensures.newest
     c.item_of-one.result.now c.item_of-one.ensures
 
-pub seen-one-requires-clause-shortened : goal.seen-one-requires-clause-shortened
-seen-one-requires-clause-shortened c =
+pub seen-requires-clause-shortened : goal.seen-requires-clause-shortened
+seen-requires-clause-shortened c =
     part_editing c.args.tables.now c.args.self.now.areas c.args.self.now.places.newest_first
     c.requires.operand c.pop-place.result c.pop-place.new.self.newest_first c.pop-place.ensures.newest
     c.item_of-one.result.now c.item_of-one.ensures c.part_of-part.result
     (ap (λ (d : DataItem). d.item.length) c.part_of-part.ensures)
 
-pub bytes-requires : goal.bytes-requires
-bytes-requires c =
+pub gather_measured_at-requires-clause-item : goal.gather_measured_at-requires-clause-item
+gather_measured_at-requires-clause-item c =
     seen_stands c.args.tables.now c.args.self.now.areas c.args.self.now.places.newest_first
     c.requires.operand c.pop-place.result c.pop-place.new.self.newest_first c.pop-place.ensures.newest
     c.item_of-one.result.now c.item_of-one.ensures c.part_of-part.result
     (ap (λ (d : DataItem). d.item.length) c.part_of-part.ensures)
-    c.seen-one.result.now c.seen-one.ensures
+    c.seen.result.now c.seen.ensures
+
+pub gather_measured_at-requires-clause-short : goal.gather_measured_at-requires-clause-short
+gather_measured_at-requires-clause-short c =
+    seen_short c.args.tables.now c.args.self.now.areas c.args.self.now.places.newest_first
+    c.requires.operand c.pop-place.result c.pop-place.new.self.newest_first c.pop-place.ensures.newest
+    c.item_of-one.result.now c.item_of-one.ensures c.part_of-part.result
+    (ap (λ (d : DataItem). d.item.length) c.part_of-part.ensures)
+    c.seen.result.now c.seen.ensures
 
 pub returns-clause-does : goal.returns-clause-does
 returns-clause-does c =
-    measured_gathered c.args.tables.now (scratch_of c.args.self.now) c.pop-place.result
-    c.pop-place.new.self.newest_first
-    c.item_of-one.result.now c.seen-one.result.now c.part_of-part.result _ c.sized.result.now _ _ _ _ _ _ _
-    c.pop-place.ensures.newest c.item_of-one.ensures c.seen-one.ensures
-    (ap (λ (d : DataItem). d.item.length) c.part_of-part.ensures) c.bytes.ensures.value c.sized.ensures.value
-    c.bytes-start.ensures (ap (λ (f : BufferView). f.bytes) c.append.ensures)
-    (ap (λ (f : BufferView). f.bytes) c.fit.ensures) c.whole.ensures
-    (ap (λ (h : StackView ArithmeticValue). h.newest_first) c.push.ensures) c.whole-2.ensures
-    (ap (λ (h : StackView ArithmeticValue). h.newest_first) c.push-2.ensures)
+    measured_does c.gather_measured_at.result c.args.tables.now (scratch_of c.args.self.now)
+    (scratch_of c.gather_measured_at.new.self) c.pop-place.result c.pop-place.new.self.newest_first
+    c.item_of-one.result.now c.seen.result.now c.pop-place.ensures.newest c.item_of-one.ensures
+    (c.seen.ensures
+    ∙ ap (λ (d : DataItem). shortened_item c.item_of-one.result.now d.item.length) c.part_of-part.ensures)
+    c.gather_measured_at.ensures.does

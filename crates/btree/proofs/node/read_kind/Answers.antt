@@ -1,14 +1,12 @@
 use Rattle.std.specs.Prelude.{IfErr, Err}
-use Rattle.std.proofs.Common.{◌≡◌, ◌↔◌, true, sym, ◌∙◌, ap}
+use Rattle.std.proofs.Common.{◌≡◌, ◌↔◌, true, sym, ◌∙◌}
 use Rattle.station.specs.Calls.{OnlyReads}
 use Rattle.pages.specs.Pages.{is_spent}
 use Rattle.pages.specs.declared.error.PagesError.TheVariants.{Device, Spent}
 use Rattle.btree.specs.Reading.{IsReadRefusal}
 use Rattle.btree.proofs.Passing.{passed, never_ok, still_error, damaged_not_device, damaged_not_spent}
 use Rattle.btree.proofs.Passing.{reads_where}
-use Rattle.pages.specs.Image.{Map}
-use Rattle.std.proofs.Common.{[]}
-use Rattle.btree.proofs.rebalance.neighbour.Goals as goal
+use Rattle.btree.proofs.node.read_kind.Goals as goal
 
 pub returns-in_err-node-clause-damaged : goal.returns-in_err-node-clause-damaged
 returns-in_err-node-clause-damaged g c = λ honest agrees is node page stands.
@@ -42,12 +40,3 @@ pub returns-in_err-node-clause-cause : goal.returns-in_err-node-clause-cause
 returns-in_err-node-clause-cause g c = passed c.from_residual.result c.in_err-node.field-0.0 c.from_residual.ensures.1
     (λ r. IfErr r IsReadRefusal)
     (c.in_err-node.ensures.cause)
-
-pub returns-in_err-node-clause-catalog : goal.returns-in_err-node-clause-catalog
-returns-in_err-node-clause-catalog g c = ap (λ (m : Map). m.catalog) (c.read_node.ensures.unchanged.map [])
-
-pub returns-then-ne-clause-catalog : goal.returns-then-ne-clause-catalog
-returns-then-ne-clause-catalog g c = ap (λ (m : Map). m.catalog) (c.read_node.ensures.unchanged.map [])
-
-pub returns-clause-catalog : goal.returns-clause-catalog
-returns-clause-catalog g c = ap (λ (m : Map). m.catalog) (c.read_node.ensures.unchanged.map [])
