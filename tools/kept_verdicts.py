@@ -25,6 +25,11 @@ def sum_of_sources(crate):
     return sum_of_files(folder, [f"{part}/{path}" for part in SOURCES for path in files_below(f"{folder}/{part}")])
 
 
+def crate_of_tests(crate, needs):
+    """The crate that has the tests of a crate."""
+    return f"{crate}_tests" if f"{crate}_tests" in needs else crate
+
+
 def sum_of_toolchain():
     """A sum of what the toolchain says that it is."""
     kit = os.path.dirname(os.path.dirname(find_on_path("rt")))
@@ -43,10 +48,12 @@ class KeptVerdicts:
         for below in with_those_below(needs, crate)[:-1]:
             library = libraries.get(below)
             self.sums.append((below, sum_of_files(library, files_below(library)) if library else sum_of_sources(below)))
+        self.sum_of_tests = sum_of_sources(crate_of_tests(crate, needs))
 
     def path_of(self, edit):
         with open(edit.path, "rb") as file:
-            return f"{self.folder}/{hashlib.sha256(repr((self.sums, edit.name, file.read())).encode()).hexdigest()}"
+            stands_on = [*self.sums, self.sum_of_tests] if edit.test else self.sums
+            return f"{self.folder}/{hashlib.sha256(repr((stands_on, edit.name, file.read())).encode()).hexdigest()}"
 
     def find(self, edit):
         """The verdict of an earlier run, or nothing."""

@@ -17,6 +17,3 @@ pub use new_volume::NewVolume;
 pub use replacement::Replacement;
 pub use roots::rewrite_roots;
 pub use volume::{Access, HostVolume};
-
-#[cfg(test)]
-mod tests;
