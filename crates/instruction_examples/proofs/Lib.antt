@@ -1,0 +1,3 @@
+pub mod SampleTables
+pub mod ShapeExamples
+pub mod TableExamples
