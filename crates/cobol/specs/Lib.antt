@@ -1,4 +1,3 @@
 pub mod Host
 pub mod Status
 pub mod Traced
-pub mod Words

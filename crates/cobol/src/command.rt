@@ -2,7 +2,7 @@
 
 ghost use Rattle.std.specs.Prelude.{◌≡◌};
 ghost use Rattle.cobol.specs.Status.{status_of};
-ghost use Rattle.cobol.specs.Words.{IsWithinBounds};
+ghost use Rattle.command_words.specs.Words.{IsWithinBounds};
 ghost use Rattle.cobol.specs.declared.verdict.Verdict.{Verdict};
 
 use crate::check_command::check;
@@ -19,7 +19,7 @@ use crate::progress::Reasons;
 use crate::run_command::run;
 use crate::stat_command::stat;
 use crate::verdict::Verdict;
-use crate::words::{Request, read_words};
+use command_words::{Request, read_words};
 use std::convert::AsStr;
 use std::env::Env;
 use std::fs::File;

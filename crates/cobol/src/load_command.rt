@@ -4,7 +4,9 @@ use crate::progress::{Progress, Reasons, Watched};
 use crate::unknown_name::refuse_name;
 use crate::verdict::Verdict;
 use host_volume::{Access, HostDevice, HostVolume};
+use std::alloc::Global;
 use std::fs::File;
+use std::io;
 use std::io::{Read, Write};
 use std::rt::Files;
 use std::time::Clock;
@@ -15,7 +17,7 @@ pub fn load<R, C, O, E>(
     rt: &R,
     path: &str,
     name: &str,
-    mut lines: C,
+    lines: C,
     out: &mut O,
     err: &mut E,
 ) -> Verdict
@@ -29,22 +31,39 @@ where
         Ok(volume) => HostDevice::new(rt.alloc(), volume),
         Err(error) => return Verdict::refusing_host_file(error),
     };
-    let mut text = Vec::new(rt.alloc());
-    if let Err(error) = lines.read_to_end(&mut text) {
-        return Verdict::refusing_device(error);
+    match read_text(rt.alloc(), lines) {
+        Ok(text) => load_text(rt, &mut device, name, &text, out, err),
+        Err(error) => Verdict::refusing_device(error),
     }
+}
+
+/// All that a reader gives.
+fn read_text<C: Read + Drop>(alloc: Global, mut lines: C) -> io::Result<Vec<u8>> {
+    let mut text = Vec::new(alloc);
+    lines.read_to_end(&mut text)?;
+    Ok(text)
+}
+
+/// Makes the lines of a text rows of a file in the volume of a device.
+fn load_text<R, O, E>(
+    rt: &R,
+    device: &mut HostDevice,
+    name: &str,
+    text: &[u8],
+    out: &mut O,
+    err: &mut E,
+) -> Verdict
+where
+    R: AllocGlobal + Clock,
+    O: Write,
+    E: Reasons,
+{
     let mut watched = Watched {
         rt,
         progress: Progress::new(rt, &*err, 100),
         err,
     };
-    let load = load_volume(
-        rt.alloc(),
-        &mut device,
-        name.as_bytes(),
-        &text,
-        &mut watched,
-    );
+    let load = load_volume(rt.alloc(), device, name.as_bytes(), text, &mut watched);
     watched.end();
     if load.end == LoadEnd::UnknownName {
         return refuse_name(rt.alloc(), name, err);

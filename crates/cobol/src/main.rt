@@ -3,7 +3,6 @@
 
 mod check_command;
 mod command;
-mod command_line;
 mod compile_command;
 mod console;
 mod copy_command;
@@ -18,15 +17,12 @@ mod layout_command;
 mod list_command;
 mod load_command;
 mod migrate_command;
-mod numbers;
 mod progress;
 mod run_command;
 mod stat_command;
-mod subcommands;
 mod today;
 mod unknown_name;
 mod verdict;
-mod words;
 
 use command::{command, explain};
 use descriptors::hold;

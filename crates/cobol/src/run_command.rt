@@ -7,7 +7,7 @@ use crate::host_file::read_image;
 use crate::host_station::HostStation;
 use crate::today::today;
 use crate::verdict::Verdict;
-use crate::words::RunRequest;
+use command_words::RunRequest;
 use host_volume::{Access, HostDevice, HostVolume};
 use run_unit::run_volume;
 use station::Device;

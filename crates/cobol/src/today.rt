@@ -3,7 +3,7 @@
 ghost use Rattle.std.specs.Prelude.{All, IfOk};
 ghost use Rattle.machine.specs.Ends.{IsDigit};
 
-use crate::numbers::read_day;
+use command_words::read_day;
 use jiff::tz::{SystemTimeZone, TimeZone, TimeZoneDatabase};
 use jiff::{Error, Timestamp};
 use std::env::Env;

@@ -1,7 +1,7 @@
 //! The words of a command.
 
 ghost use Rattle.std.specs.Prelude.{◌≡◌, ◌⊎◌, None, IfOk, OnErr, codes};
-ghost use Rattle.cobol.specs.Words.{IsWithinBounds, AsksToFormat, AsksToCopy, AsksToLoad, AsksToMigrate, AsksToStat, AsksToCompile, AsksToRun, AsksToList, AsksToDump, AsksToExplain, AsksToCheck, AsksToLayout, IsNumber, IsSectorCount, ReadsBudget, ReadsDate, option_of, word_of};
+ghost use Rattle.command_words.specs.Words.{IsWithinBounds, AsksToFormat, AsksToCopy, AsksToLoad, AsksToMigrate, AsksToStat, AsksToCompile, AsksToRun, AsksToList, AsksToDump, AsksToExplain, AsksToCheck, AsksToLayout, IsNumber, IsSectorCount, ReadsBudget, ReadsDate, option_of, word_of};
 
 use crate::command_line::command_line;
 use crate::numbers::{read_budget, read_day, read_number, read_sector_count};
@@ -113,6 +113,13 @@ fn read_request<'a>(alloc: Global, words: &'a [String]) -> Result<Request<'a>, F
     ensures { IfOk result IsWithinBounds }
 {
     let matches = command_line(alloc)?.try_get_matches_from(words)?;
+    read_command(alloc, &matches)
+}
+
+/// Reads the command that was found, and its words.
+fn read_command<'a>(alloc: Global, matches: &ArgMatches<'a>) -> Result<Request<'a>, Fault>
+    ensures { IfOk result IsWithinBounds }
+{
     let Some((command, matches)) = matches.subcommand() else {
         return Ok(Request::Wrong(String::new(alloc)));
     };

@@ -4,8 +4,7 @@ ghost use Rattle.std.specs.Prelude.{◌≡◌, All, IfSome, SomeIff, option_map}
 ghost use Rattle.std.specs.Char.{is_ascii_digit};
 ghost use Rattle.std.specs.List.{list_all};
 ghost use Rattle.std.specs.Str.Parse.{digits_value};
-ghost use Rattle.machine.specs.Ends.{IsDigit};
-ghost use Rattle.cobol.specs.Words.{IsNumber, IsSectorCount, ReadsBudget, ReadsDate};
+ghost use Rattle.command_words.specs.Words.{IsDigit, IsNumber, IsSectorCount, ReadsBudget, ReadsDate};
 
 /// How many statements may begin where no budget is given.
 const BUDGET: u64 = 1_000_000_000;

@@ -5,9 +5,8 @@ use Rattle.std.specs.List.{list_all}
 use Rattle.std.specs.Str.Parse.{IsNumeral, digits_value}
 use Rattle.clap.specs.Matches.{found_of, first_value, one_text}
 use Rattle.clap.specs.declared.parser.matches.ArgMatches.{ArgMatches}
-use Rattle.machine.specs.Ends.{IsDigit}
-use Rattle.cobol.specs.declared.words.Request.{Request}
-use Rattle.cobol.specs.declared.words.Request.TheVariants.{Format, Copy, Load, Migrate, Stat, Compile, Run, List as ListFiles, Dump, Explain, Check, Layout, Show, Wrong}
+use Rattle.command_words.specs.declared.words.Request.{Request}
+use Rattle.command_words.specs.declared.words.Request.TheVariants.{Format, Copy, Load, Migrate, Stat, Compile, Run, List as ListFiles, Dump, Explain, Check, Layout, Show, Wrong}
 
 -- A number of 64 bits: digits alone.
 abbrev pub IsNumber : List ℕ → Type 0
@@ -16,6 +15,10 @@ IsNumber word = IsNumeral 10 word × (digits_value 10 word < 2 ^ 64)
 -- The number of sectors of a volume.
 abbrev pub IsSectorCount : List ℕ → Type 0
 IsSectorCount word = IsNumeral 10 word × (1024 ≤ digits_value 10 word) × (digits_value 10 word ≤ 921600)
+
+-- The byte of a decimal digit.
+abbrev pub IsDigit : ℕ → Type 0
+IsDigit byte = (48 ≤ byte) × (byte ≤ 57)
 
 -- A date: six digits, whatever day.
 abbrev pub IsDate : List ℕ → Type 0
