@@ -1,12 +1,18 @@
 //! Runs each program of `data/ROWS` by run_source, and by compile and run_image, with files over both stores, and compares what it shows and
-//! how it ends with what its files say.
+//! how it ends with what its files say. Runs whose calls a row names are disturbed at each of them.
 #![tactic(auto)]
 
+mod calls;
+mod disturbance;
+mod disturbed_runs;
 mod ending;
+mod moments;
 mod row;
 mod rows;
 mod run;
+mod told;
 mod volume;
+mod way;
 
 use rows::check_rows;
 use std::process::ExitCode;

@@ -1,9 +1,12 @@
-//! The volume of a row: made new, and told in words.
+//! The volume that a run of a row begins with.
 
-use file_recovery::{StoredFile, StoredRow, recover};
-use records::Organization;
-use station::{Device, MemoryStation, Note};
+use crate::row::{BUDGET, DAY, Part, Row, number};
+use run_unit::{Ended, run_source};
+use station::{Device, MemoryStation};
 use std::alloc::{AllocError, Global};
+
+/// How many sectors a volume has.
+const SECTORS: usize = 1024;
 
 /// Which store a volume is made for.
 #[derive(Clone, Copy, PartialEq, Eq)]
@@ -12,14 +15,67 @@ pub enum Layout {
     Trees,
 }
 
-/// A station with a new volume of 1,024 sectors and these console lines.
-pub fn new_volume(
-    alloc: Global,
-    layout: Layout,
-    lines: Vec<Vec<u8>>,
-) -> Result<MemoryStation, AllocError> {
+impl Layout {
+    pub fn name(self) -> &'static str {
+        match self {
+            Layout::Halves => "halves",
+            Layout::Trees => "trees",
+        }
+    }
+}
+
+/// The sectors that a run begins with, all of them durable, and why they aren't those of the row, if they aren't.
+#[derive(Drop)]
+pub struct Volume {
+    sectors: Vec<[u8; 4096]>,
+    pub fault: Option<&'static str>,
+}
+
+impl Volume {
+    /// A station with these sectors and the row's console lines, on which nothing has been done.
+    pub fn station(&self, alloc: Global, row: &Row) -> Result<MemoryStation, AllocError> {
+        let lines = row.lines(alloc)?;
+        let mut sectors = Vec::from_slice(alloc, self.sectors.as_slice())?;
+        // There are no more, and a station has fewer than 2^32.
+        sectors.truncate(SECTORS);
+        MemoryStation::new(alloc, sectors, lines)
+    }
+}
+
+/// The volume of a row: a new one, with the files of the program before, and then with zeros in the sectors that are cleared. A row without notes
+/// and files has no sectors.
+pub fn first_volume(alloc: Global, row: &Row, layout: Layout) -> Result<Volume, AllocError> {
+    if !row.has_volume() {
+        return Ok(Volume {
+            sectors: Vec::new(alloc),
+            fault: None,
+        });
+    }
+    let mut station = new_volume(alloc, layout)?;
+    let has_stopped = run_before(alloc, row.part(Part::Before), &mut station);
+    station.crash(&[]);
+    let mut sectors = sectors_of(alloc, &mut station)?;
+    let is_cleared = clear(row.part(Part::Cleared), sectors.as_mut_slice());
+    Ok(Volume {
+        sectors,
+        fault: fault(has_stopped, is_cleared),
+    })
+}
+
+fn fault(has_stopped: bool, is_cleared: bool) -> Option<&'static str> {
+    if !has_stopped {
+        return Some("another end of the program before");
+    }
+    if !is_cleared {
+        return Some("cleared sectors that are none");
+    }
+    None
+}
+
+/// A station with a new volume, and no console lines.
+fn new_volume(alloc: Global, layout: Layout) -> Result<MemoryStation, AllocError> {
     let sectors = vec![in alloc; [0; 4096]; 1024]?;
-    let mut station = MemoryStation::new(alloc, sectors, lines)?;
+    let mut station = MemoryStation::new(alloc, sectors, Vec::new(alloc))?;
     let count = station.count();
     if 1024 <= count && count <= 921600 {
         // The run of a row whose volume isn't made is refused.
@@ -31,77 +87,54 @@ pub fn new_volume(
     Ok(station)
 }
 
-/// The statuses that a program received, one a line: the file's place among the SELECTs, and the status.
-pub fn noted(alloc: Global, station: &MemoryStation) -> Result<Vec<u8>, AllocError> {
-    let mut text = Vec::new(alloc);
-    for note in station.notes()?.as_slice() {
-        tell_note(alloc, &mut text, *note)?;
-    }
-    Ok(text)
-}
-
-fn tell_note(alloc: Global, text: &mut Vec<u8>, note: Note) -> Result<(), AllocError> {
-    let file = note.file;
-    let line = format!(in alloc; "{file} ")?;
-    text.extend_from_slice(line.as_bytes())?;
-    text.extend_from_slice(&note.status)?;
-    text.push(b'\n')?;
-    Ok(())
-}
-
-/// The files that a crash now would leave, by name: `NAME indexed LENGTH ROWS`, and each row in a line of its own, with a space in front, of a
-/// relative file after its number. Where none can be recovered that is said.
-pub fn listed(alloc: Global, station: &mut MemoryStation) -> Result<Vec<u8>, AllocError> {
-    station.crash(&[]);
-    let mut text = Vec::new(alloc);
-    match recover(alloc, station) {
-        Ok(files) => {
-            for file in files.as_slice() {
-                tell_file(alloc, &mut text, file)?;
-            }
+/// Runs the program before, if there is one, and answers whether it stopped as it should.
+fn run_before(alloc: Global, before: Option<&[u8]>, station: &mut MemoryStation) -> bool {
+    match before {
+        Some(source) => {
+            let ended = run_source(alloc, source, station, DAY, BUDGET);
+            matches!(ended, Ok(Ended::Stopped))
         }
-        Err(fault) => {
-            let number = fault.number();
-            let line = format!(in alloc; "refused {number}\n")?;
-            text.extend_from_slice(line.as_bytes())?;
+        None => true,
+    }
+}
+
+fn sectors_of(alloc: Global, station: &mut MemoryStation) -> Result<Vec<[u8; 4096]>, AllocError> {
+    let mut sectors = Vec::new(alloc);
+    for sector in 0..station.count() {
+        sectors.push(read_sector(station, sector))?;
+    }
+    Ok(sectors)
+}
+
+fn read_sector(station: &mut MemoryStation, sector: u32) -> [u8; 4096] {
+    let mut bytes = [0; 4096];
+    if sector < station.count() {
+        let _ = station.read(sector, &mut bytes);
+    }
+    bytes
+}
+
+/// Puts zeros into the sectors of these numbers, which are one a line. Answers whether there are such sectors.
+fn clear(numbers: Option<&[u8]>, sectors: &mut [[u8; 4096]]) -> bool {
+    let Some(numbers) = numbers else {
+        return true;
+    };
+    let mut are_there = true;
+    for digits in numbers.trim_ascii_end().split(|byte| *byte == b'\n') {
+        are_there = clear_sector(digits, sectors) && are_there;
+    }
+    are_there
+}
+
+fn clear_sector(digits: &[u8], sectors: &mut [[u8; 4096]]) -> bool {
+    let Some(sector) = number(digits) else {
+        return false;
+    };
+    match sectors.get_mut(sector as usize) {
+        Some(bytes) => {
+            *bytes = [0; 4096];
+            true
         }
+        None => false,
     }
-    Ok(text)
-}
-
-fn kind(organization: Organization) -> &'static str {
-    match organization {
-        Organization::Sequential => "sequential",
-        Organization::Relative => "relative",
-        Organization::Indexed(_) => "indexed",
-    }
-}
-
-fn tell_row(
-    alloc: Global,
-    text: &mut Vec<u8>,
-    organization: Organization,
-    row: &StoredRow,
-) -> Result<(), AllocError> {
-    if organization == Organization::Relative {
-        let number = row.number;
-        text.extend_from_slice(format!(in alloc; " {number}")?.as_bytes())?;
-    }
-    text.push(b' ')?;
-    text.extend_from_slice(&row.bytes)?;
-    text.push(b'\n')?;
-    Ok(())
-}
-
-fn tell_file(alloc: Global, text: &mut Vec<u8>, file: &StoredFile) -> Result<(), AllocError> {
-    let kind = kind(file.spec.organization);
-    let length = file.spec.record_length;
-    let rows = file.rows.len();
-    text.extend_from_slice(&file.spec.name)?;
-    let line = format!(in alloc; " {kind} {length} {rows}\n")?;
-    text.extend_from_slice(line.as_bytes())?;
-    for row in file.rows.as_slice() {
-        tell_row(alloc, text, file.spec.organization, row)?;
-    }
-    Ok(())
 }

@@ -1,12 +1,15 @@
 //! The calls of a run on the station, a letter for each: R reads a sector, W writes one, C writes a root, S syncs, D shows a text, L takes
 //! a console line, N notes a status. Spaces don't count.
 
+use crate::volume::Layout;
+use station::MemoryStation;
+
 /// What a run has done on the station.
 #[derive(Clone, Copy)]
 pub struct Progress {
-    pub reads: u64,
-    pub writes: u64,
-    pub syncs: u64,
+    reads: u64,
+    writes: u64,
+    syncs: u64,
     pub notes: usize,
     pub texts: usize,
     /// How many sectors were written since the last sync.
@@ -33,21 +36,28 @@ const NOTHING: Progress = Progress {
     root: Root::Absent,
 };
 
+/// The calls over a layout, in the line that begins with its name, if there is one.
+pub fn calls_over(lines: &[u8], layout: Layout) -> Option<&[u8]> {
+    let name = layout.name().as_bytes();
+    for line in lines.split(|byte| *byte == b'\n') {
+        if line.starts_with(name) {
+            return line.get(name.len()..);
+        }
+    }
+    None
+}
+
 /// How many calls these are.
-pub fn number_of(calls: &str) -> u64 {
-    calls
-        .as_bytes()
-        .iter()
-        .filter(|call| **call != b' ')
-        .count() as u64
+pub fn number_of(calls: &[u8]) -> u64 {
+    calls.iter().filter(|call| **call != b' ').count() as u64
 }
 
 impl Progress {
     /// After the calls before the n-th, and the n-th, which fails.
-    pub fn at(calls: &str, n: u64) -> Progress {
+    pub fn at(calls: &[u8], n: u64) -> Progress {
         let mut progress = NOTHING;
         let mut place = 0u64;
-        for call in calls.as_bytes().iter().filter(|call| **call != b' ') {
+        for call in calls.iter().filter(|call| **call != b' ') {
             place = place.saturating_add(1);
             if place < n {
                 progress.does(*call);
@@ -56,6 +66,13 @@ impl Progress {
             }
         }
         progress
+    }
+
+    /// Whether a station was to read, write and sync so often.
+    pub fn is_of(&self, station: &MemoryStation) -> bool {
+        self.reads == station.reads()
+            && self.writes == station.writes()
+            && self.syncs == station.syncs()
     }
 
     /// How many images a crash may leave.

@@ -1,0 +1,25 @@
+       IDENTIFICATION DIVISION.
+       PROGRAM-ID. PLACING.
+       ENVIRONMENT DIVISION.
+       INPUT-OUTPUT SECTION.
+       FILE-CONTROL.
+           SELECT OPTIONAL F ASSIGN TO PLACES RELATIVE
+               ACCESS DYNAMIC RELATIVE KEY IS N STATUS S.
+       DATA DIVISION.
+       FILE SECTION.
+       FD F.
+       01 R PIC X(4).
+       WORKING-STORAGE SECTION.
+       01 N PIC 99.
+       01 S PIC XX.
+       PROCEDURE DIVISION.
+       MAIN.
+           OPEN I-O F.
+           MOVE 5 TO N. MOVE "FIVE" TO R. WRITE R.
+           MOVE 0 TO N. READ F NEXT. DISPLAY S N.
+           MOVE 0 TO N. WRITE R. READ F.
+           MOVE 3 TO N. MOVE "TREE" TO R. WRITE R.
+           MOVE 5 TO N. MOVE "FIFE" TO R. REWRITE R.
+           MOVE 3 TO N. DELETE F.
+           CLOSE F.
+           STOP RUN.

@@ -1,0 +1,21 @@
+       IDENTIFICATION DIVISION.
+       PROGRAM-ID. TALKS.
+       ENVIRONMENT DIVISION.
+       INPUT-OUTPUT SECTION.
+       FILE-CONTROL.
+           SELECT F ASSIGN TO "LOG" STATUS S.
+       DATA DIVISION.
+       FILE SECTION.
+       FD F.
+       01 R PIC X(4).
+       WORKING-STORAGE SECTION.
+       01 S PIC XX.
+       PROCEDURE DIVISION.
+       MAIN.
+           DISPLAY "READY".
+           OPEN EXTEND F.
+           ACCEPT R. WRITE R. DISPLAY S.
+           CLOSE F.
+           OPEN INPUT F.
+           READ F. DISPLAY R.
+           STOP RUN.
