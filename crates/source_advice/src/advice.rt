@@ -62,11 +62,6 @@ impl Advice {
         }
     }
 
-    /// The advice for a cause, about a word.
-    pub fn for_cause(alloc: Global, head: &[u8], word: &[u8]) -> Found {
-        Advice::under(alloc, Book::Causes, head, word)
-    }
-
     /// What is said of each fault of a number.
     pub fn for_number(alloc: Global, number: u8, word: &[u8]) -> Result<Advice, AllocError>
         ensures about { IfOk result (λ advice. spec.IsAboutNumber number word.now

@@ -1,6 +1,7 @@
 //! Lines that go past column 72.
 
-use crate::advice::{Advice, Found};
+use crate::advice::Found;
+use crate::cause::Cause;
 use crate::lines::shown_line;
 use std::alloc::{AllocError, Global};
 
@@ -10,13 +11,13 @@ const COLUMNS: usize = 72;
 const IDENTIFICATION: usize = 80;
 
 /// The advice that a line is cut, if it has text after column 72 that belongs to the program.
-pub fn cut_cause(alloc: Global, source: &[u8], line: u32, cause: &[u8]) -> Found {
+pub fn cut_cause(alloc: Global, source: &[u8], line: u32, cause: Cause) -> Found {
     let text = shown_line(alloc, source, line)?;
     let rest = after_columns(text.as_slice());
     if !is_cut(text.as_slice(), rest) {
         return Ok(None);
     }
-    let Some(mut advice) = Advice::for_cause(alloc, cause, b"")? else {
+    let Some(mut advice) = cause.about(alloc, b"")? else {
         return Ok(None);
     };
     advice.add_line(&[b"After column 72: `", rest, b"`"])?;

@@ -1,6 +1,7 @@
 //! Causes of a line that breaks the reference format, and of characters that make no token.
 
 use crate::advice::{Advice, Found};
+use crate::cause::Cause;
 use crate::cut_lines::cut_cause;
 use crate::lines::{line_of, shown_line};
 use explanations::Book;
@@ -44,7 +45,7 @@ fn known_cause(alloc: Global, source: &[u8], number: u8, place: Place) -> Found 
         INDICATOR => free_cause(alloc, line.as_slice()),
         UNCLOSED => literal_cause(alloc, source, line.as_slice(), place),
         STRAY => Advice::under(alloc, Book::Signs, sign_at(line.as_slice(), place), b""),
-        _ if number > STRAY => cut_cause(alloc, source, place.line, b"column 72"),
+        _ if number > STRAY => cut_cause(alloc, source, place.line, Cause::CutLine),
         _ => Ok(None),
     }
 }
@@ -53,7 +54,7 @@ fn known_cause(alloc: Global, source: &[u8], number: u8, place: Place) -> Found 
 fn mark_cause(alloc: Global, line: &[u8]) -> Found {
     for bytes in line.windows(3) {
         if is_typographic(bytes) {
-            return Advice::for_cause(alloc, b"typographic mark", b"");
+            return Cause::TypographicMark.about(alloc, b"");
         }
     }
     Ok(None)
@@ -71,7 +72,7 @@ fn is_typographic(bytes: &[u8]) -> bool {
 fn free_cause(alloc: Global, line: &[u8]) -> Found {
     match (line.get(5), line.get(6)) {
         (Some(before), Some(_)) if *before != b' ' && !before.is_ascii_digit() => {
-            Advice::for_cause(alloc, b"free format", b"")
+            Cause::FreeFormat.about(alloc, b"")
         }
         _ => Ok(None),
     }
@@ -79,7 +80,7 @@ fn free_cause(alloc: Global, line: &[u8]) -> Found {
 
 /// The advice about a literal that is open at the end of its line: it goes past column 72, or ends with the other mark.
 fn literal_cause(alloc: Global, source: &[u8], line: &[u8], place: Place) -> Found {
-    if let Some(advice) = cut_cause(alloc, source, place.line, b"column 72 in a literal")? {
+    if let Some(advice) = cut_cause(alloc, source, place.line, Cause::CutLiteral)? {
         return Ok(Some(advice));
     }
     let rest = from_column(line, place);
@@ -88,7 +89,7 @@ fn literal_cause(alloc: Global, source: &[u8], line: &[u8], place: Place) -> Fou
         _ => b'"',
     };
     if rest.contains(&other) {
-        return Advice::for_cause(alloc, b"other mark", b"");
+        return Cause::OtherMark.about(alloc, b"");
     }
     Ok(None)
 }

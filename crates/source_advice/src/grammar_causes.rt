@@ -1,6 +1,7 @@
 //! Causes of a text that doesn't follow the grammar.
 
-use crate::advice::{Advice, Found};
+use crate::advice::Found;
+use crate::cause::Cause;
 use crate::name_causes::{is_declared, reserved_cause};
 use crate::period_causes::period_cause;
 use crate::scope_causes::scope_cause;
@@ -27,11 +28,8 @@ const FIGURATIVE: &[u8] =
 
 /// The advice about the token at which reading stopped.
 pub fn grammar_cause(alloc: Global, view: View<'_>, number: u8) -> Found {
-    if let Some(advice) = beginning_cause(alloc, view)? {
-        return Ok(Some(advice));
-    }
-    if let Some(advice) = period_cause(alloc, view)? {
-        return Ok(Some(advice));
+    if let Some(cause) = beginning_cause(view).or(period_cause(view)) {
+        return cause.about_place(alloc, view);
     }
     if let Some(advice) = word_cause(alloc, view)? {
         return Ok(Some(advice));
@@ -42,8 +40,8 @@ pub fn grammar_cause(alloc: Global, view: View<'_>, number: u8) -> Found {
     if let Some(advice) = reserved_cause(alloc, view)? {
         return Ok(Some(advice));
     }
-    if let Some(advice) = expression_cause(alloc, view)? {
-        return Ok(Some(advice));
+    if let Some(cause) = expression_cause(view) {
+        return cause.about_place(alloc, view);
     }
     if let Some(advice) = spelling_cause(alloc, view)? {
         return Ok(Some(advice));
@@ -51,97 +49,83 @@ pub fn grammar_cause(alloc: Global, view: View<'_>, number: u8) -> Found {
     form_cause(alloc, view, number)
 }
 
-/// The advice about the first words of a program, and about a comment that begins in column 8.
-fn beginning_cause(alloc: Global, view: View<'_>) -> Found {
+/// What is wrong with the first words of a program, or a comment that begins in column 8.
+fn beginning_cause(view: View<'_>) -> Option<Cause> {
     if view.is_operator(Some(view.at)) && view.is_first_of_line(view.at) {
-        return Advice::for_cause(alloc, b"comment", b"");
+        return Some(Cause::Comment);
     }
     if view.at == 0 {
-        return view.cause_here(alloc, b"no identification");
+        return Some(Cause::NoIdentification);
     }
-    if view.at == AFTER_IDENTIFICATION && !view.reads(alloc, Some(view.at), b"PROGRAM-ID")? {
-        return view.cause_here(alloc, b"no program id");
+    if view.at == AFTER_IDENTIFICATION && !view.reads(Some(view.at), b"PROGRAM-ID") {
+        return Some(Cause::NoProgramId);
     }
-    Ok(None)
+    None
 }
 
-/// The advice about conditions that aren't written in full, numbers with a sign, and expressions and colons where none may be.
-fn expression_cause(alloc: Global, view: View<'_>) -> Found {
-    if is_abbreviated(alloc, view)? {
-        return Advice::for_cause(alloc, b"abbreviated condition", b"");
+/// A condition that isn't written in full, a number with a sign, or an expression or a colon where none may be.
+fn expression_cause(view: View<'_>) -> Option<Cause> {
+    if is_abbreviated(view) {
+        return Some(Cause::AbbreviatedCondition);
     }
     if is_signed(view.token(Some(view.at))) && view.before(1).is_some() {
-        return view.cause_here(alloc, b"sign");
+        return Some(Cause::Sign);
     }
-    if view.reads(alloc, Some(view.at), b":")? {
-        return Advice::for_cause(alloc, b"colon", b"");
+    if view.reads(Some(view.at), b":") {
+        return Some(Cause::Colon);
     }
-    if is_in_subscript(alloc, view)? {
-        return Advice::for_cause(alloc, b"subscript", b"");
+    if is_in_subscript(view) {
+        return Some(Cause::Subscript);
     }
-    if is_in_operands(alloc, view)? {
-        return view.cause_here(alloc, b"expression");
+    if is_in_operands(view) {
+        return Some(Cause::Expression);
     }
-    Ok(None)
+    None
 }
 
 /// Whether an operator is at the place, after a verb whose operands are no expressions.
-fn is_in_operands(alloc: Global, view: View<'_>) -> Result<bool, AllocError> {
-    if !view.is_operator(Some(view.at)) {
-        return Ok(false);
-    }
-    view.reads_one_of(alloc, verb_before(alloc, view)?, WITHOUT_EXPRESSIONS)
+fn is_in_operands(view: View<'_>) -> bool {
+    view.is_operator(Some(view.at)) && view.reads_one_of(verb_before(view), WITHOUT_EXPRESSIONS)
 }
 
 /// Whether a literal or a figurative constant alone, or a relation without its left side, follows AND or OR.
-fn is_abbreviated(alloc: Global, view: View<'_>) -> Result<bool, AllocError> {
-    if begins_relation(alloc, view)? {
-        return is_after_connective(alloc, view);
+fn is_abbreviated(view: View<'_>) -> bool {
+    if begins_relation(view) {
+        return is_after_connective(view);
     }
-    if is_constant(alloc, view)? {
-        return view.reads_one_of(alloc, view.before(2), b"AND OR");
-    }
-    Ok(false)
+    is_constant(view) && view.reads_one_of(view.before(2), b"AND OR")
 }
 
 /// Whether an operator or a word that begins a relation is at the place.
-fn begins_relation(alloc: Global, view: View<'_>) -> Result<bool, AllocError> {
-    if view.is_operator(Some(view.at)) {
-        return Ok(true);
-    }
-    view.reads_one_of(alloc, Some(view.at), RELATIONS)
+fn begins_relation(view: View<'_>) -> bool {
+    view.is_operator(Some(view.at)) || view.reads_one_of(Some(view.at), RELATIONS)
 }
 
 /// Whether AND or OR is before the place, maybe with NOT after it.
-fn is_after_connective(alloc: Global, view: View<'_>) -> Result<bool, AllocError> {
-    if view.reads(alloc, view.before(1), b"NOT")? {
-        return view.reads_one_of(alloc, view.before(2), b"AND OR");
-    }
-    view.reads_one_of(alloc, view.before(1), b"AND OR")
+fn is_after_connective(view: View<'_>) -> bool {
+    let connective = if view.reads(view.before(1), b"NOT") {
+        view.before(2)
+    } else {
+        view.before(1)
+    };
+    view.reads_one_of(connective, b"AND OR")
 }
 
 /// Whether a literal or a figurative constant is before the place.
-fn is_constant(alloc: Global, view: View<'_>) -> Result<bool, AllocError> {
-    if view.is_literal(view.before(1)) {
-        return Ok(true);
-    }
-    view.reads_one_of(alloc, view.before(1), FIGURATIVE)
+fn is_constant(view: View<'_>) -> bool {
+    view.is_literal(view.before(1)) || view.reads_one_of(view.before(1), FIGURATIVE)
 }
 
 /// Whether an operator is in parentheses after a name, after one operand or two.
-fn is_in_subscript(alloc: Global, view: View<'_>) -> Result<bool, AllocError> {
-    if !view.is_operator(Some(view.at)) {
-        return Ok(false);
-    }
-    for (open, name) in [
-        (view.before(2), view.before(3)),
-        (view.before(4), view.before(5)),
-    ] {
-        if view.is_word(name) && view.reads(alloc, open, b"(")? {
-            return Ok(true);
-        }
-    }
-    Ok(false)
+fn is_in_subscript(view: View<'_>) -> bool {
+    view.is_operator(Some(view.at))
+        && (is_after_parenthesis(view, view.before(2), view.before(3))
+            || is_after_parenthesis(view, view.before(4), view.before(5)))
+}
+
+/// Whether a token is an opening parenthesis after a name.
+fn is_after_parenthesis(view: View<'_>, open: Option<usize>, name: Option<usize>) -> bool {
+    view.is_word(name) && view.reads(open, b"(")
 }
 
 /// Whether a token is a number with a sign.
@@ -176,7 +160,7 @@ fn meant_at(
         return Ok(None);
     }
     let word = view.text(alloc, number)?;
-    if is_declared(alloc, view, word.as_slice())? {
+    if is_declared(view, word.as_slice()) {
         return Ok(None);
     }
     reserved_like(alloc, word.as_slice())
@@ -184,7 +168,7 @@ fn meant_at(
 
 /// The advice to write another word.
 fn misspelt(alloc: Global, word: &[u8], meant: &[u8]) -> Found {
-    let Some(mut advice) = Advice::for_cause(alloc, b"misspelt", word)? else {
+    let Some(mut advice) = Cause::Misspelt.about(alloc, word)? else {
         return Ok(None);
     };
     advice.propose(meant)?;

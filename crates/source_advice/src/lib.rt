@@ -4,6 +4,7 @@
 #![tactic(auto)]
 
 mod advice;
+mod cause;
 mod cut_lines;
 mod format_causes;
 mod grammar_causes;

@@ -4,6 +4,7 @@ ghost use Rattle.std.specs.Prelude.{All, IfOk, IfSome};
 ghost use Rattle.source_advice.specs.Advice.{HasLines};
 
 use crate::advice::Advice;
+use crate::cause::Cause;
 use crate::spelling::reserved_like;
 use crate::view::View;
 use lexical::Place;
@@ -53,8 +54,7 @@ fn paragraph_warning(alloc: Global, view: View<'_>) -> Result<Option<Warning>, A
         return Ok(None);
     }
     let name = view.text(alloc, Some(view.at))?;
-    let Some(mut advice) = Advice::for_cause(alloc, b"paragraph of nothing", name.as_slice())?
-    else {
+    let Some(mut advice) = Cause::ParagraphOfNothing.about(alloc, name.as_slice())? else {
         return Ok(None);
     };
     if let Some(word) = reserved_like(alloc, name.as_slice())? {

@@ -1,18 +1,17 @@
 //! Missing periods.
 
-use crate::advice::Found;
+use crate::cause::Cause;
 use crate::view::View;
-use std::alloc::Global;
 
-/// The advice that a period is missing, before the place or after a name at it.
-pub fn period_cause(alloc: Global, view: View<'_>) -> Found {
+/// The missing period before the place, or after a name at it.
+pub fn period_cause(view: View<'_>) -> Option<Cause> {
     if is_period_missing(view) {
-        return view.cause_here(alloc, b"period before a line");
+        return Some(Cause::PeriodBeforeLine);
     }
     if is_paragraph_without_period(view) {
-        return view.cause_here(alloc, b"period after a name");
+        return Some(Cause::PeriodAfterName);
     }
-    Ok(None)
+    None
 }
 
 /// Whether the place begins a line in area A, or an entry, and no period is before it.

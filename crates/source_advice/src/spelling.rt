@@ -41,7 +41,7 @@ pub fn is_alike(alloc: Global, one: &[u8], other: &[u8]) -> Result<bool, AllocEr
 }
 
 /// The words of a list.
-fn words_of(list: &[u8]) -> std::str::SplitAsciiWhitespace<'_> {
+pub fn words_of(list: &[u8]) -> std::str::SplitAsciiWhitespace<'_> {
     from_utf8(list).unwrap_or("").split_ascii_whitespace()
 }
 

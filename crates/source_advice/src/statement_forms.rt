@@ -1,7 +1,7 @@
 //! The form of the statement or entry that reading stopped in.
 
 use crate::advice::{Advice, Found};
-use crate::spelling::has_word;
+use crate::cause::Cause;
 use crate::view::View;
 use explanations::{Book, part_under};
 use std::alloc::{AllocError, Global};
@@ -11,31 +11,30 @@ const VERBS: &[u8] =
     b"ACCEPT ADD CLOSE COMPUTE CONTINUE DELETE DISPLAY DIVIDE EVALUATE EXIT IF INITIALIZE INSPECT MOVE MULTIPLY OPEN
 PERFORM READ REWRITE SET START STOP STRING SUBTRACT WRITE";
 
-/// Whether a word is a verb.
-pub fn is_verb(word: &[u8]) -> bool {
-    has_word(VERBS, word)
+/// Whether a token is a verb.
+pub fn is_verb(view: View<'_>, number: Option<usize>) -> bool {
+    view.reads_one_of(number, VERBS)
 }
 
 /// The number of the last verb before the place, in its sentence.
-pub fn verb_before(alloc: Global, view: View<'_>) -> Result<Option<usize>, AllocError> {
-    let mut found = None;
-    for number in view.sentence()..view.at {
-        if is_verb(view.text(alloc, Some(number))?.as_slice()) {
-            found = Some(number);
+pub fn verb_before(view: View<'_>) -> Option<usize> {
+    for number in (view.sentence()..view.at).rev() {
+        if is_verb(view, Some(number)) {
+            return Some(number);
         }
     }
-    Ok(found)
+    None
 }
 
 /// The advice to compare the statement or the entry with its form, or to begin the statement with a verb.
 pub fn form_cause(alloc: Global, view: View<'_>, number: u8) -> Found {
-    match beginning(alloc, view)? {
+    match beginning(view) {
         Some(first) if view.is_numeric(Some(first)) => form_under(alloc, view, number, b"ENTRY"),
         Some(first) => {
             let name = view.text(alloc, Some(first))?;
             form_under(alloc, view, number, name.as_slice())
         }
-        None if view.is_in_procedures(view.at) => view.cause_here(alloc, b"verb needed"),
+        None if view.is_in_procedures(view.at) => Cause::VerbNeeded.about_place(alloc, view),
         None => Ok(None),
     }
 }
@@ -59,10 +58,10 @@ fn about_place(alloc: Global, view: View<'_>, number: u8) -> Result<Advice, Allo
 }
 
 /// The number of the verb before the place, or of the first token of its sentence.
-fn beginning(alloc: Global, view: View<'_>) -> Result<Option<usize>, AllocError> {
-    match verb_before(alloc, view)? {
-        Some(verb) => Ok(Some(verb)),
-        None if view.sentence() < view.at => Ok(Some(view.sentence())),
-        None => Ok(None),
+fn beginning(view: View<'_>) -> Option<usize> {
+    match verb_before(view) {
+        Some(verb) => Some(verb),
+        None if view.sentence() < view.at => Some(view.sentence()),
+        None => None,
     }
 }

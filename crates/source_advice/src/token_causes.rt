@@ -4,6 +4,7 @@ ghost use Rattle.std.specs.Prelude.{◌≡◌, ◌≢◌, None, IfOk};
 ghost use Rattle.source_advice.specs.Advice.{HasLines, IsAdviceOf};
 
 use crate::advice::{Advice, Found};
+use crate::cause::Cause;
 use crate::cut_lines::cut_cause;
 use crate::format_causes::format_cause;
 use crate::grammar_causes::grammar_cause;
@@ -131,8 +132,8 @@ fn name_cause(alloc: Global, view: View<'_>) -> Found {
         return Ok(Some(advice));
     }
     if view.is_period(view.after(1)) {
-        if let Some(advice) = period_cause(alloc, view)? {
-            return Ok(Some(advice));
+        if let Some(cause) = period_cause(view) {
+            return cause.about_place(alloc, view);
         }
     }
     condition_cause(alloc, view)
@@ -150,12 +151,12 @@ fn named(view: View<'_>, number: u8) -> Option<usize> {
 fn cut_around(alloc: Global, source: &[u8], view: View<'_>) -> Found {
     let before = view.line(view.before(1));
     if before > 0 && view.is_first_of_line(view.at) {
-        if let Some(advice) = cut_cause(alloc, source, before, b"column 72")? {
+        if let Some(advice) = cut_cause(alloc, source, before, Cause::CutLine)? {
             return Ok(Some(advice));
         }
     }
     if view.is_last_of_line(view.at) {
-        return cut_cause(alloc, source, view.line(Some(view.at)), b"column 72");
+        return cut_cause(alloc, source, view.line(Some(view.at)), Cause::CutLine);
     }
     Ok(None)
 }

@@ -1,7 +1,6 @@
 //! The tokens of a source text around a place.
 
-use crate::advice::{Advice, Found};
-use crate::spelling::has_word;
+use crate::spelling::words_of;
 use lexical::Place;
 use source_lines::Character;
 use std::alloc::{AllocError, Global};
@@ -9,6 +8,9 @@ use tokens::{Kind, Reserved, Token};
 
 /// The last column of area A.
 const AREA_A: u8 = 11;
+
+/// What begins a word that ends a statement.
+const END: &[u8] = b"END-";
 
 /// The tokens of a source text, seen from one of them.
 #[derive(Clone, Copy)]
@@ -143,59 +145,70 @@ impl<'a> View<'a> {
         }
     }
 
-    /// The text of a token in upper case: none where there is none.
-    pub fn text(&self, alloc: Global, number: Option<usize>) -> Result<Vec<u8>, AllocError> {
-        let mut text = Vec::new(alloc);
-        let Some(token) = self.token(number) else {
-            return Ok(text);
-        };
-        for place in token.span.start..token.span.end {
-            if let Some(character) = self.characters.get(place) {
-                text.push(character.byte.to_ascii_uppercase())?;
-            }
+    /// The characters of a token: none where there is none.
+    fn spelling(&self, number: Option<usize>) -> &'a [Character] {
+        match self.token(number) {
+            Some(token) => self
+                .characters
+                .get(token.span.start..token.span.end)
+                .unwrap_or(&[]),
+            None => &[],
         }
-        Ok(text)
     }
 
     /// Whether a token is this word, in upper case.
-    pub fn reads(
-        &self,
-        alloc: Global,
-        number: Option<usize>,
-        word: &[u8],
-    ) -> Result<bool, AllocError> {
-        Ok(self.text(alloc, number)?.as_slice() == word)
+    pub fn reads(&self, number: Option<usize>, word: &[u8]) -> bool {
+        is_spelled(self.spelling(number), word)
     }
 
     /// Whether a token is one of these words, in upper case, which are separated by spaces.
-    pub fn reads_one_of(
-        &self,
-        alloc: Global,
-        number: Option<usize>,
-        words: &[u8],
-    ) -> Result<bool, AllocError> {
-        let text = self.text(alloc, number)?;
-        Ok(has_word(words, text.as_slice()))
+    pub fn reads_one_of(&self, number: Option<usize>, words: &[u8]) -> bool {
+        for word in words_of(words) {
+            if self.reads(number, word.as_bytes()) {
+                return true;
+            }
+        }
+        false
+    }
+
+    /// Whether a token is END- and this verb, in upper case.
+    pub fn reads_end_of(&self, number: Option<usize>, verb: &[u8]) -> bool {
+        match self.after_end(number) {
+            Some(ended) => is_spelled(ended, verb),
+            None => false,
+        }
+    }
+
+    /// Whether a token begins with END-.
+    pub fn begins_with_end(&self, number: Option<usize>) -> bool {
+        self.after_end(number).is_some()
+    }
+
+    /// What follows END- in a token that begins with it.
+    fn after_end(&self, number: Option<usize>) -> Option<&'a [Character]> {
+        let spelling = self.spelling(number);
+        if is_spelled(spelling.get(..END.len())?, END) {
+            return spelling.get(END.len()..);
+        }
+        None
+    }
+
+    /// The text of a token in upper case: none where there is none.
+    pub fn text(&self, alloc: Global, number: Option<usize>) -> Result<Vec<u8>, AllocError> {
+        let mut text = Vec::new(alloc);
+        for character in self.spelling(number) {
+            text.push(character.byte.to_ascii_uppercase())?;
+        }
+        Ok(text)
     }
 
     /// The text of a token as it is written.
     pub fn written(&self, alloc: Global, number: Option<usize>) -> Result<Vec<u8>, AllocError> {
         let mut text = Vec::new(alloc);
-        let Some(token) = self.token(number) else {
-            return Ok(text);
-        };
-        for place in token.span.start..token.span.end {
-            if let Some(character) = self.characters.get(place) {
-                text.push(character.byte)?;
-            }
+        for character in self.spelling(number) {
+            text.push(character.byte)?;
         }
         Ok(text)
-    }
-
-    /// The advice for a cause, about the token at the place as it is written.
-    pub fn cause_here(&self, alloc: Global, head: &[u8]) -> Found {
-        let here = self.written(alloc, Some(self.at))?;
-        Advice::for_cause(alloc, head, here.as_slice())
     }
 
     /// The number of the first token after the last period before the place.
@@ -208,4 +221,17 @@ impl<'a> View<'a> {
         }
         first
     }
+}
+
+/// Whether characters are this word, in upper case.
+fn is_spelled(characters: &[Character], word: &[u8]) -> bool {
+    if characters.len() != word.len() {
+        return false;
+    }
+    for (character, byte) in characters.iter().zip(word.iter()) {
+        if character.byte.to_ascii_uppercase() != *byte {
+            return false;
+        }
+    }
+    true
 }

@@ -20,8 +20,11 @@ pub fn word_cause(alloc: Global, view: View<'_>) -> Found {
 
 /// The advice about a word of other COBOLs at the place that nothing declares.
 pub fn word_alone_cause(alloc: Global, view: View<'_>) -> Found {
+    if !view.is_word(Some(view.at)) {
+        return Ok(None);
+    }
     let here = view.text(alloc, Some(view.at))?;
-    if !view.is_word(Some(view.at)) || is_declared(alloc, view, here.as_slice())? {
+    if is_declared(view, here.as_slice()) {
         return Ok(None);
     }
     Advice::under(alloc, Book::Words, here.as_slice(), b"")
@@ -29,15 +32,19 @@ pub fn word_alone_cause(alloc: Global, view: View<'_>) -> Found {
 
 /// The advice about a verb that isn't in this language, at the place or directly before it.
 pub fn verb_cause(alloc: Global, view: View<'_>) -> Found {
-    let here = view.text(alloc, Some(view.at))?;
-    if let Some(advice) = Advice::under(alloc, Book::Verbs, here.as_slice(), b"")? {
+    if let Some(advice) = under_token(alloc, view, Book::Verbs, Some(view.at))? {
         return Ok(Some(advice));
     }
     if !view.is_word(view.before(1)) {
         return Ok(None);
     }
-    let before = view.text(alloc, view.before(1))?;
-    Advice::under(alloc, Book::Verbs, before.as_slice(), b"")
+    under_token(alloc, view, Book::Verbs, view.before(1))
+}
+
+/// The advice that a book has under a token in upper case.
+fn under_token(alloc: Global, view: View<'_>, book: Book, number: Option<usize>) -> Found {
+    let word = view.text(alloc, number)?;
+    Advice::under(alloc, book, word.as_slice(), b"")
 }
 
 /// The advice about two words, or two signs without a space between them.
@@ -46,11 +53,10 @@ fn pair_cause(alloc: Global, view: View<'_>) -> Found {
         (Some(view.at), view.after(1)),
         (view.before(1), Some(view.at)),
         (view.before(2), Some(view.at)),
-        (verb_before(alloc, view)?, Some(view.at)),
+        (verb_before(view), Some(view.at)),
     ];
     for (first, second) in pairs {
-        let head = pair(alloc, view, first, second)?;
-        if let Some(advice) = Advice::under(alloc, Book::Words, head.as_slice(), b"")? {
+        if let Some(advice) = under_pair(alloc, view, first, second)? {
             return Ok(Some(advice));
         }
     }
@@ -59,10 +65,15 @@ fn pair_cause(alloc: Global, view: View<'_>) -> Found {
 
 /// The advice about a form of EXIT, of which reading stops after the second word.
 pub fn exit_cause(alloc: Global, view: View<'_>) -> Found {
-    if !view.reads(alloc, view.before(2), b"EXIT")? {
+    if !view.reads(view.before(2), b"EXIT") {
         return Ok(None);
     }
-    let head = pair(alloc, view, view.before(2), view.before(1))?;
+    under_pair(alloc, view, view.before(2), view.before(1))
+}
+
+/// The advice that the book of words has under two tokens.
+fn under_pair(alloc: Global, view: View<'_>, first: Option<usize>, second: Option<usize>) -> Found {
+    let head = pair(alloc, view, first, second)?;
     Advice::under(alloc, Book::Words, head.as_slice(), b"")
 }
 
