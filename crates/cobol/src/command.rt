@@ -29,7 +29,7 @@ use std::time::Clock;
 
 /// Does what the words ask for; the first is the program's name. Console lines come from `console`, shown bytes, listings and
 /// dumps go to `out`, and the reason of a refusal to `err`. The answer is the exit status.
-pub fn command<R, C, O, E>(rt: &R, words: &[String], console: C, out: O, mut err: E) -> u8
+pub fn command<R, C, O, E>(rt: &R, words: &[String], mut console: C, mut out: O, mut err: E) -> u8
 where
     R: Files<File = File> + AllocGlobal + Clock + Env + Clone + Drop,
     C: BufRead + Drop,
@@ -38,7 +38,7 @@ where
     ensures { (verdict : Verdict) × (result ≡ status_of verdict) }
 {
     let verdict = match read_words(rt.alloc(), words) {
-        Ok(request) => carry_out(rt, request, console, out, &mut err),
+        Ok(request) => carry_out(rt, request, &mut console, &mut out, &mut err),
         Err(_) => Verdict::memory(),
     };
     explain(&mut err, verdict);
@@ -46,28 +46,34 @@ where
 }
 
 /// Does what is asked for.
-fn carry_out<R, C, O, E>(rt: &R, request: Request, console: C, mut out: O, err: &mut E) -> Verdict
+fn carry_out<R, C, O, E>(
+    rt: &R,
+    request: Request,
+    console: &mut C,
+    out: &mut O,
+    err: &mut E,
+) -> Verdict
 where
     R: Files<File = File> + AllocGlobal + Clock + Env + Clone + Drop,
-    C: BufRead + Drop,
-    O: Write + Drop,
+    C: BufRead,
+    O: Write,
     E: Reasons,
     requires { IsWithinBounds request }
 {
     match request {
         Request::Format { volume, sectors } => format(rt, volume, sectors, err),
         Request::Copy { old, new, sectors } => copy(rt, old, new, sectors, err),
-        Request::Load { volume, name } => load(rt, volume, name, console, &mut out, err),
+        Request::Load { volume, name } => load(rt, volume, name, console, out, err),
         Request::Migrate { volume } => migrate(rt, volume),
-        Request::Stat { volume } => stat(rt, volume, &mut out),
+        Request::Stat { volume } => stat(rt, volume, out),
         Request::Compile { source, image } => compile_file(rt, source, image),
         Request::Run(request) => run(rt, request, console, out, err),
-        Request::List { volume } => list(rt, volume, &mut out),
+        Request::List { volume } => list(rt, volume, out),
         Request::Dump { volume, name } => dump(rt, volume, name, out, err),
-        Request::Explain { number } => explain_number(rt.alloc(), number, &mut out, err),
-        Request::Check { source } => check(rt, source, &mut out),
-        Request::Layout { source } => show_layout(rt, source, &mut out),
-        Request::Show(text) => show(&mut out, text.as_str()),
+        Request::Explain { number } => explain_number(rt.alloc(), number, out, err),
+        Request::Check { source } => check(rt, source, out),
+        Request::Layout { source } => show_layout(rt, source, out),
+        Request::Show(text) => show(out, text.as_str()),
         Request::Wrong(text) => {
             let _ = err.write_all(text.as_str().as_bytes());
             Verdict::WrongCommand
