@@ -1,7 +1,7 @@
 -- A row came into the leaf at the end of a way.
 use Rattle.std.proofs.Common.{◌≡◌, ◌<◌, ◌+◌, ℕ, zero, suc, List, [], ◌∷◌, ◌++◌, length, take, drop, refl, sym, ◌∙◌, ap}
 use Rattle.std.proofs.Common.{subst, arith}
-use Rattle.std.specs.Prelude.{Option, Some, None, slice_index_or}
+use Rattle.std.specs.Prelude.{Option, Some, None, IfSome, slice_index_or}
 use Rattle.std.specs.List.{All, insert}
 use Rattle.std.proofs.lemmas.List.{append-nil}
 use Rattle.std.proofs.lemmas.List.Elements.{All-head}
@@ -12,11 +12,13 @@ use Rattle.btree_pages.specs.declared.row_layout.Kind.TheVariants.{Leaf}
 use Rattle.btree_pages.specs.Keys.{key_of, AllBelow, AllAbove}
 use Rattle.btree_pages.specs.Node.{Node}
 use Rattle.btree.specs.declared.split_result.SplitResult.{SplitResult}
+use Rattle.btree.specs.declared.split_result.Right.{Right}
 use Rattle.btree.specs.Tree.{TreeNode, rows_of, IsOnPage, IsTree}
 use Rattle.btree.specs.Path.{LevelZipper, PathStep, level_of, lowest, IsPathOf, EndsAt}
 use Rattle.btree.specs.Moves.{numbers_of, ReplacesNodes}
 use Rattle.btree.specs.Propagates.{node_with, rights_of, run_of, SplitUpdate}
-use Rattle.btree.specs.Changes.{IsIn, CanTake, PropagatesBy, NeverPropagates, IsRootAfter, InsertsIntoLeaf}
+use Rattle.btree.specs.Changes.{IsIn, CanTake, PropagatesBy, NeverPropagates, IsRootAfter, InsertsIntoLeaf, IsLike}
+use Rattle.btree.specs.Changes.{IsSplit, HasKeys}
 use Rattle.btree.proofs.Splices.{all_right, no_node, numbers_append}
 use Rattle.btree.proofs.Propagating.{propagates_leaf, some_row}
 use Rattle.btree.proofs.Upward.{standing_leaves}
@@ -183,3 +185,17 @@ turns_count layout key (upper ∷ lower ∷ more) [] top below leads = absurd le
 turns_count layout key (upper ∷ lower ∷ more) (step ∷ steps) top [] leads = absurd leads
 turns_count layout key (upper ∷ lower ∷ more) (step ∷ steps) top (next ∷ below) leads = let rest =
     turns_count layout key (lower ∷ more) steps next below leads.3 in omega arith
+
+-- The pages that a page was split into have least keys.
+right_keys : (layout : RowLayout) (node : Node) (right : Option Right) → node.layout ≡ layout
+    → IfSome right (λ r. IsLike node r.node)
+    → IfSome right (λ r. (r.node.layout ≡ layout) × (0 < length r.node.rows))
+right_keys layout node (Some r) layout_is like = (like.same.layout ∙ layout_is, like.some)
+right_keys layout node None layout_is like = tt
+
+pub split_keys : (layout : RowLayout) (page : ℕ) (node : Node) (split : SplitResult) → node.layout ≡ layout
+    → IsSplit page node split → HasKeys layout split
+split_keys layout page node split layout_is is = record {
+  left = (is.left.same.layout ∙ layout_is, is.left.some);
+  right = right_keys layout node split.right layout_is is.right;
+}

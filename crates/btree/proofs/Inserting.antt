@@ -18,8 +18,9 @@ use Rattle.btree.proofs.Searches.{leaf_among, FindsAt, FindsGap, got, got_none}
 use Rattle.btree.proofs.NewRoots.{first_leaf, tree_after}
 use Rattle.btree.proofs.Settling.{entry_is}
 
-no_levels : (layout : RowLayout) (pages : List (Option Sector)) (root : ℕ) (levels : List (List TreeNode)) → root ≡ 0
-    → IsTreeOrEmpty layout pages root levels → levels ≡ []
+-- Under page 0 there are no levels.
+pub no_levels : (layout : RowLayout) (pages : List (Option Sector)) (root : ℕ) (levels : List (List TreeNode))
+    → root ≡ 0 → IsTreeOrEmpty layout pages root levels → levels ≡ []
 no_levels layout pages root levels none holds = ⊎_elim (λ empty. empty.1) (λ tree. absurd (tree.0 none)) holds
 
 -- into a tree without entries

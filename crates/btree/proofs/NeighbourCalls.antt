@@ -1,6 +1,6 @@
 -- The neighbour of a lone child as it is read, and what the two become.
-use Rattle.std.proofs.Common.{◌≡◌, ◌≢◌, ◌⊎◌, ⊎_elim, ap, inl, inr, ◌-◌, ◌++◌, ℕ, zero, suc, List, [], refl, sym, ◌∙◌}
-use Rattle.std.proofs.Common.{subst, arith}
+use Rattle.std.proofs.Common.{◌≡◌, ◌≢◌, ◌⊎◌, ⊎_elim, ap, inl, inr, ◌<◌, ◌≤◌, ◌+◌, ◌-◌, ◌++◌, ℕ, zero, suc, List, []}
+use Rattle.std.proofs.Common.{refl, sym, ◌∙◌, subst, arith}
 use Rattle.std.specs.Prelude.{Option, Result, Some, Ok, Err, IfErr, slice_index_or}
 use Rattle.station.specs.Disk.{Sector}
 use Rattle.pages.specs.Pages.{page_count, IsUnchanged}
@@ -9,13 +9,13 @@ use Rattle.pages.specs.declared.error.PagesError.{PagesError}
 use Rattle.pages.specs.declared.error.PagesError.TheVariants.{Device, Full, ForeignMark, Spent}
 use Rattle.btree_pages.specs.declared.row_layout.RowLayout.{RowLayout}
 use Rattle.btree_pages.specs.declared.row_layout.Kind.{Kind}
-use Rattle.btree_pages.specs.declared.row_layout.Kind.TheVariants.{Inner}
+use Rattle.btree_pages.specs.declared.row_layout.Kind.TheVariants.{Leaf, Inner}
 use Rattle.btree_pages.specs.Keys.{child_of}
 use Rattle.btree_pages.specs.Node.{Node, IsNode}
 use Rattle.btree.specs.declared.path_step.PathStep.{PathStep}
 use Rattle.btree.specs.declared.removal_outcome.Child.{Child}
 use Rattle.btree.specs.declared.removal_outcome.RemovalOutcome.{RemovalOutcome}
-use Rattle.btree.specs.Tree.{TreeNode, IsOnPage, node_at}
+use Rattle.btree.specs.Tree.{TreeNode, IsOnPage, fewest, node_at}
 use Rattle.btree.specs.Changes.{pages_of_map, CountsPages, FewNumbers}
 use Rattle.btree.specs.Outcomes.{IsPair, Joins, RebalancesNeighbours}
 use Rattle.btree.specs.Puts.{JoinsPair}
@@ -29,6 +29,23 @@ use Rattle.btree.proofs.ReadMaps.{live_unless, small_map, pages_same}
 pub zero_or_more : (n : ℕ) → (n ≡ 0) ⊎ (n ≢ 0)
 zero_or_more zero = inl refl
 zero_or_more (suc n) = inr (λ is. omega (arith, is))
+
+-- The place of a neighbour is one of the page above, and so are both places of a pair.
+pub near_low : (place near rows : ℕ) → place < rows → 2 ≤ rows → (place ≡ 0 → near ≡ 1)
+    → (place ≢ 0 → near ≡ place - 1) → near < rows
+near_low place near rows low two to_right to_left = ⊎_elim
+    (λ first. let is = to_right first in omega (arith, is, two))
+    (λ other. let is = to_left other in omega (arith, is, low))
+    (zero_or_more place)
+
+pub before_low : (place rows : ℕ) → place < rows → place ≢ 0 → place - 1 + 1 < rows
+before_low zero rows low some = absurd (some refl)
+before_low (suc n) rows low some = omega (arith, low)
+
+-- Two neighbours have two rows at least.
+pub two_at_least : (kind : Kind) (one other : ℕ) → 0 < one → fewest kind ≤ other → 2 ≤ one + other
+two_at_least Leaf one other some enough = let more : 1 ≤ other = enough in omega (arith, some, more)
+two_at_least Inner one other some enough = let more : 2 ≤ other = enough in omega (arith, some, more)
 
 -- A page that is written is refused for these reasons alone.
 rest_alone : {T : Type 0} (r : Result T PagesError) (e : PagesError) → IfErr r IsRestRefusal → r ≡ Err e

@@ -81,11 +81,17 @@ damaged_or_device is = cc
 damaged_or_spent : Damaged ≡ Spent → ⊥
 damaged_or_spent is = cc
 
+damaged_or_full : Damaged ≡ Full → ⊥
+damaged_or_full is = cc
+
 pub damaged_not_device : {T A : Type 0} → (◌≡◌ {A = Result T PagesError} (Err Damaged) (Err Device)) → A
 damaged_not_device is = absurd (damaged_or_device (same_error is))
 
 pub damaged_not_spent : {T A : Type 0} → (◌≡◌ {A = Result T PagesError} (Err Damaged) (Err Spent)) → A
 damaged_not_spent is = absurd (damaged_or_spent (same_error is))
+
+pub damaged_not_full : {T A : Type 0} → (◌≡◌ {A = Result T PagesError} (Err Damaged) (Err Full)) → A
+damaged_not_full is = absurd (damaged_or_full (same_error is))
 
 -- why a call is refused is a reason for its caller's refusal
 pub edit_is_put : (e : PagesError) → (e ≡ Memory) ⊎ (e ≡ Spent) → IsPutRefusal e
@@ -352,6 +358,11 @@ pub few_after : (old mid new : List ℕ) (m n : ℕ) → length mid ≤ length o
     → length new ≤ length old + (m + n)
 few_after old mid new m n few same =
     few_weaker (length old) (length new) m n (same_after old mid new m few same)
+
+pub few_later : (old mid new : List ℕ) (m n : ℕ) → mid ≡ old → length new ≤ length mid + m
+    → length new ≤ length old + (m + n)
+few_later old mid new m n same few =
+    subst (λ (l : List ℕ). length new ≤ length l + (m + n)) same (few_weaker (length mid) (length new) m n few)
 
 -- an edit is never refused because no page number is left
 full_or_memory : Memory ≡ Full → ⊥

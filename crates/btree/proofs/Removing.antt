@@ -1,5 +1,5 @@
 -- A tree after a removal.
-use Rattle.std.proofs.Common.{◌≡◌, ◌⊎◌, inl, ⊎_elim, ◌<◌, ◌≤◌, ◌+◌, ◌*◌, ℕ, List, [], ◌∷◌, ◌++◌, length, map, take}
+use Rattle.std.proofs.Common.{◌≡◌, ◌⊎◌, inl, ⊎_elim, ◌<◌, ◌≤◌, ◌+◌, ℕ, List, [], ◌∷◌, ◌++◌, length, map, take}
 use Rattle.std.proofs.Common.{drop, refl, sym, ◌∙◌, ap, subst, arith, append_assoc}
 use Rattle.std.specs.Prelude.{Option, Some, None, IsSome, slice_index_or}
 use Rattle.std.proofs.lemmas.List.{take-append-drop, drop_more}
@@ -237,9 +237,3 @@ pub not_there : (layout : RowLayout) (before after : List (Option Sector)) (root
 not_there layout before after root levels steps page rows right place key tree ends low finds =
     sym (got_none layout key levels rows right place
     (leaf_among layout before root key levels steps page rows right tree ends) low finds)
-
--- how many pages are changed_pages, where there are at most twenty levels
-pub few_changed : (old read taken shrunk left out outcome path steps levels : ℕ) → read ≡ old → taken + out ≤ read + 1
-    → shrunk + outcome ≤ taken + out + 2 * path → left ≤ shrunk + outcome → path ≡ steps → steps + 1 ≡ levels
-    → levels ≤ 20 → left ≤ old + 42
-few_changed old read taken shrunk left out outcome path steps levels same one more all is count few = omega arith

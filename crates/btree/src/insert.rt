@@ -111,11 +111,16 @@ fn insert_slowly<D: Device>(
     let _page_count = pages.page_count();
     let Descent { way, leaf } = descend(alloc, pages, device, layout, root, key)?;
     let place = match leaf.find(key) {
-        Ok(_) => return Ok(None),
+        Ok(_) => {
+            drop(way);
+            return Ok(None);
+        }
         Err(place) => place,
     };
     let row = NewRow { place, key, value };
-    let entered = insert_into_leaf(pages, device, layout, root, &way, leaf, row)?;
+    let inserted = insert_into_leaf(pages, device, layout, root, &way, leaf, row);
+    drop(way);
+    let entered = inserted?;
     Ok(Some(entered))
 }
 
@@ -153,7 +158,9 @@ fn insert_entry<D: Device>(
         return Ok(Some(new));
     }
     let way = follow(alloc, pages, device, layout, root, key)?;
-    if enter_leaf(pages, layout, way.page, key, value)? {
+    let page = way.page;
+    drop(way);
+    if enter_leaf(pages, layout, page, key, value)? {
         return Ok(Some(root));
     }
     insert_slowly(alloc, pages, device, layout, root, key, value)

@@ -1,25 +1,27 @@
 //! An entry leaves a tree.
-ghost use Rattle.std.specs.Prelude.{◌≡◌, ◌<◌, Err, Ok, None, List, length, IfOk, IfErr, OnOk};
+ghost use Rattle.std.specs.Prelude.{◌≡◌, ◌<◌, ◌+◌, ◌*◌, Err, Ok, None, List, length, IfOk, IfErr, OnOk};
 ghost use Rattle.station.specs.Disk.{Sector};
 ghost use Rattle.pages.specs.Pages.{SameCommitted, KeepsCommitted, IsUnchanged};
 ghost use Rattle.pages.specs.Devices.{FitsDevice};
 ghost use Rattle.btree_pages.specs.RowLayouts.{IsRowLayout};
+ghost use Rattle.btree.specs.Tree.{TreeNode, IsTree};
+ghost use Rattle.btree.specs.Path.{EndsAt};
 ghost use Rattle.btree.specs.Changes.{pages_of_map};
 ghost use Rattle.btree.specs.Outcomes.{spare};
 ghost use Rattle.btree.specs.Shrinks.{HasCollapsed, HasStayed, IsShrunkRoot, NeverIsShrunkRoot, Collapses};
 ghost use Rattle.btree.specs.Removals.{Removes};
 ghost use Rattle.btree.specs.Refusals.{IsRestRefusal, ErrOnlyIfChangeRefusal};
-ghost use Rattle.btree.specs.Calls.{OnNoTree, OnTree, OnTreeChange, OnlyReadsFor, EditsPagesFor, KeepsAgreement, DamagedOnlyIfNoTree};
+ghost use Rattle.btree.specs.Calls.{OnNoTree, OnTree, OnTreeChange, OnPages, OnChange, OnlyReadsFor, EditsPagesFor, KeepsAgreement, DamagedOnlyIfNoTree};
 ghost use Rattle.btree.specs.Results.{ReturnsDamaged, OnlyIfSpent, ExactlyIfSpentAt, FewChanged, FewFilled, FalseOnlyIfSame, ErrOnlyIfSame, SameLayout, SameCatalog};
 ghost use Rattle.btree.specs.Puts.{NeverIn};
 ghost use Rattle.btree.specs.TreeEdits.{FalseOnlyIfAbsent, TrueOnlyIfRemoved, OkOnlyIfEditsFew};
 
-use crate::descend::{Descent, descend};
+use crate::descend::{Descent, Way, descend};
 use crate::removal_outcome::{Child, RemovalOutcome};
 use crate::shrink::shrink;
 use crate::shrink_page::{is_page, take_out};
 use crate::tree::Tree;
-use btree_pages::{Kind, RowLayout};
+use btree_pages::{Kind, RowLayout, TreePage};
 use pages::{PageMap, PagesError};
 use station::Device;
 use std::alloc::Global;
@@ -165,6 +167,43 @@ fn remove_entry<D: Device>(
     // How many page numbers there are is needed below.
     let _page_count = pages.page_count();
     let Descent { way, leaf } = descend(alloc, pages, device, layout, root, key)?;
+    let removed = remove_from_leaf(pages, device, layout, root, &way, leaf, key);
+    drop(way);
+    removed
+}
+
+/// Takes the entry of a key out of the leaf at the end of its way, and adjusts the pages above it. The answer is the root's page then,
+/// or `None` if the key isn't there. Nothing was changed then.
+fn remove_from_leaf<D: Device>(
+    pages: &mut PageMap,
+    device: &mut D,
+    layout: RowLayout,
+    root: u32,
+    way: &Way,
+    leaf: TreePage,
+    key: &[u8],
+) -> Result<Option<u32>, PagesError>
+    requires sectors { FitsDevice D.Device pages.old device.old }
+    requires layout { IsRowLayout layout }
+    requires leaf { (leaf.layout ≡ layout) × (leaf.kind ≡ Kind.Leaf) }
+    ensures edits { EditsPagesFor D.Device pages.old device.old pages.new device.new result }
+    ensures removed { OnChange D.Device pages.old pages.new device.old
+        (λ before after. (levels : List (List TreeNode)) → IsTree layout before root levels
+        → EndsAt layout key.now levels way.now.path.items way.now.page leaf.rows way.now.right
+        → IfOk result (Removes layout before levels after key.now)) }
+    ensures damaged { OnPages D.Device pages.old device.old
+        (λ before. result ≡ Err PagesError.Damaged → (levels : List (List TreeNode))
+        → IsTree layout before root levels
+        → EndsAt layout key.now levels way.now.path.items
+        way.now.page leaf.rows way.now.right → ⊥) }
+    ensures missing { result ≡ Ok None → IsUnchanged pages.old pages.new }
+    ensures changed_pages { OnOk result
+        (FewChanged (2 * length way.now.path.items + 1) pages.old pages.new) }
+    ensures filled { OnOk result
+        (FewFilled (2 * length way.now.path.items + 1) pages.old pages.new) }
+    ensures spent { OnlyIfSpent pages.old result }
+    ensures cause { ErrOnlyIfChangeRefusal result }
+{
     let place = match leaf.find(key) {
         Ok(place) => place,
         Err(_) => return Ok(None),

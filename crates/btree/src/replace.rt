@@ -90,11 +90,13 @@ impl Tree {
             return Ok(false);
         }
         let Descent { way, leaf } = descend(alloc, pages, device, layout, top, key)?;
+        let page = way.page;
+        drop(way);
         let place = match leaf.find(key) {
             Ok(place) => place,
             Err(_) => return Ok(false),
         };
-        put_rest(pages, way.page, leaf, place, value)?;
+        put_rest(pages, page, leaf, place, value)?;
         Ok(true)
     }
 }

@@ -62,3 +62,7 @@ few_of_all old new place all few low = omega arith
 
 pub some_pages : (bytes place : ℕ) → 0 < place → place ≤ pages_for bytes → bytes ≢ 0
 some_pages bytes place some low none = let is : pages_for bytes ≡ 0 = omega arith in omega arith
+
+-- a record with bytes has a page
+pub some_place : (bytes place count : ℕ) → bytes ≢ 0 → count ≡ pages_for bytes → count ≤ place → 0 < place
+some_place bytes place count some is all = omega arith

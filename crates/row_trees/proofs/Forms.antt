@@ -1,6 +1,6 @@
 -- The form of a tree whose records are in chains, and that of one which has its records itself.
 use Rattle.std.proofs.Common.{◌≡◌, ◌≢◌, ◌<◌, ◌≤◌, ◌+◌, ◌-◌, ◌^◌, ◌++◌, ℕ, zero, suc, List, [], ◌∷◌, length, take, drop}
-use Rattle.std.proofs.Common.{refl, sym, ap, subst, ◌∙◌}
+use Rattle.std.proofs.Common.{refl, sym, ap, subst, ◌∙◌, arith}
 use Rattle.std.specs.Prelude.{Option}
 use Rattle.std.proofs.lemmas.List.{length-drop}
 use Rattle.byteorder.specs.Endian.{big_bytes, big_number}
@@ -100,6 +100,21 @@ pub fits_long : (n : ℕ) (layout : RowLayout) → n ≢ 0 → FitsForm n layout
     → (4 ≤ layout.value_length) × (layout.value_length ≤ 64)
 fits_long zero layout long fits = absurd (long refl)
 fits_long (suc more) layout long fits = fits
+
+pub record_within : (n stored size : ℕ) → n ≢ 0 → size ≡ whole_length n stored → n ≤ size
+record_within n stored size long is = let whole = is ∙ whole_long n stored long in omega (arith, whole)
+
+-- what follows the record in a whole value has room after the page of its chain
+pub rest_few : (n : ℕ) (layout : RowLayout) (size rest : ℕ) → n ≢ 0 → FitsForm n layout
+    → size ≡ whole_length n layout.value_length → rest + n ≡ size → rest ≤ 60
+rest_few n layout size rest long fits is cut =
+    let bounds = fits_long n layout long fits in
+    let whole = is ∙ whole_long n layout.value_length long in
+    omega (arith, bounds.1, whole, cut)
+
+-- the bounds of a layout that stays
+pub fits_still : (n : ℕ) (old new : RowLayout) → new ≡ old → FitsForm n old → FitsForm n new
+fits_still n old new same fits = subst (FitsForm n) (sym same) fits
 
 -- A value that was put together of a record and the rest of another value.
 pub value_made : (bytes two value made : List ℕ) → made ≡ bytes ++ take (length two - 4) (drop 4 two) → two ≡ value

@@ -96,3 +96,9 @@ few_released old mid one new n most same few more =
 pub err_told : {T E A : Type 0} (r : Result T E) (x : E) → r ≡ Err x → OnErr r A → A
 err_told (Ok y) x is told = let never : Ok y ≡ Err x = is in cc
 err_told (Err y) x is told = told
+
+damaged_or_full : Damaged ≡ Full → ⊥
+damaged_or_full is = cc
+
+pub damaged_not_full : {T A : Type 0} → (◌≡◌ {A = Result T PagesError} (Err Damaged) (Err Full)) → A
+damaged_not_full is = absurd (damaged_or_full (same_error is))

@@ -43,8 +43,7 @@ impl RowTree {
         }
         // What `Full` says about the free sectors.
         few_free();
-        let held = self.tree.get(pages, device, key)?;
-        if held.is_some() {
+        if self.tree.get(pages, device, key)?.is_some() {
             return Ok(false);
         }
         let (record, rest) = value.split_at(self.record_bytes as usize);

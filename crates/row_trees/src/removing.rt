@@ -37,15 +37,14 @@ impl RowTree {
         if self.record_bytes == 0 {
             return self.tree.remove(pages, device, key);
         }
-        let entry = match self.tree.get(pages, device, key)? {
-            Some(entry) => entry,
+        let first = match self.tree.get(pages, device, key)? {
+            Some(entry) => first_page(entry.value()),
             None => return Ok(false),
         };
         let removed = self.tree.remove(pages, device, key)?;
         if !removed {
             return Err(PagesError::Damaged);
         }
-        let first = first_page(entry.value());
         release(pages, device, first, self.record_bytes as usize)?;
         Ok(true)
     }

@@ -48,8 +48,9 @@ impl RowTree {
         };
         let (record, rest) = value.split_at(self.record_bytes as usize);
         let first = first_page(entry.value());
-        rewrite(pages, device, first, record)?;
         let is_same = &entry.value()[PAGE_NUMBER_BYTES..] == rest;
+        drop(entry);
+        rewrite(pages, device, first, record)?;
         if is_same {
             return Ok(true);
         }

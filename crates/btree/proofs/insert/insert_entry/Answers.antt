@@ -27,6 +27,11 @@ use Rattle.btree.proofs.Inserting.{planted}
 use Rattle.btree.proofs.Passing.{write_not_device, write_is_insert}
 use Rattle.btree.proofs.Passing.{few_weaker}
 use Rattle.btree.proofs.EditedPages.{edits_kept, edits_last, edits_none, edits_read, edits_where}
+use Rattle.std.proofs.Common.{◌≤◌, ◌+◌, ℕ}
+use Rattle.pages.specs.declared.error.PagesError.TheVariants.{Damaged}
+use Rattle.btree.specs.Calls.{pages_on}
+use Rattle.btree.specs.Refusals.{IsWriteRefusal}
+use Rattle.btree.proofs.Passing.{if_refused, few_equal, few_same, few_later, put_not_damaged, was_error}
 use Rattle.btree.proofs.insert.insert_entry.Goals as goal
 
 pub returns-then-branch-clause-inserted : goal.returns-then-branch-clause-inserted
@@ -282,3 +287,89 @@ returns-clause-edits g c =
     (edits_kept g.D.Device _ ⊥ _ _ _ _ _ (λ never. absurd never)
     (edits_read g.D.Device _ _ _ _ _ way.only way.unchanged way.agrees) c.enter_leaf.ensures.keeps)
     c.insert_slowly.ensures.edits
+
+pub returns-in_err-new-clause-inserted : goal.returns-in_err-new-clause-inserted
+returns-in_err-new-clause-inserted g c = λ honest agrees levels holds.
+    if_refused c.from_residual.result c.in_err-new.field-0.0 c.from_residual.ensures.1
+    (Inserts c.args.layout (pages_on g.D.Device c.args.pages.now c.args.device.now) levels
+    (pages_on g.D.Device c.first_leaf.new.pages c.args.device.now) c.args.key.now c.args.value.now)
+
+pub returns-in_err-way-clause-inserted : goal.returns-in_err-way-clause-inserted
+returns-in_err-way-clause-inserted g c = λ honest agrees levels holds.
+    if_refused c.from_residual-in_err-way.result c.in_err-way.field-0.0 c.from_residual-in_err-way.ensures.1
+    (Inserts c.args.layout (pages_on g.D.Device c.args.pages.now c.args.device.now) levels
+    (pages_on g.D.Device c.follow.new.pages c.args.device.now) c.args.key.now c.args.value.now)
+
+pub returns-in_err-enter_leaf-clause-inserted : goal.returns-in_err-enter_leaf-clause-inserted
+returns-in_err-enter_leaf-clause-inserted g c = λ honest agrees levels holds.
+    if_refused c.from_residual-in_err-enter_leaf.result c.in_err-enter_leaf.field-0.0
+    c.from_residual-in_err-enter_leaf.ensures.1
+    (Inserts c.args.layout (pages_on g.D.Device c.args.pages.now c.args.device.now) levels
+    (pages_on g.D.Device c.enter_leaf.new.pages c.args.device.now) c.args.key.now c.args.value.now)
+
+pub returns-in_err-new-clause-damaged : goal.returns-in_err-new-clause-damaged
+returns-in_err-new-clause-damaged g c = λ honest agrees is levels holds.
+    passed c.from_residual.result c.in_err-new.field-0.0 c.from_residual.ensures.1
+    (λ r. r ≡ Err Damaged → ⊥) (λ e. subst IsWriteRefusal (same_error e) c.in_err-new.ensures.cause) is
+
+pub returns-in_err-way-clause-damaged : goal.returns-in_err-way-clause-damaged
+returns-in_err-way-clause-damaged g c = λ honest agrees is levels holds.
+    c.follow.ensures.damaged honest agrees
+    (was_error c.from_residual-in_err-way.result c.follow.result c.in_err-way.field-0.0 Damaged
+    c.from_residual-in_err-way.ensures.1 c.in_err-way.was is) levels (holds_tree c.args.layout
+    (pages_on g.D.Device c.args.pages.now c.args.device.now) c.args.root levels holds c.if-root-eq0.false)
+
+pub returns-in_err-enter_leaf-clause-damaged : goal.returns-in_err-enter_leaf-clause-damaged
+returns-in_err-enter_leaf-clause-damaged g c = λ honest agrees is levels holds.
+    passed c.from_residual-in_err-enter_leaf.result c.in_err-enter_leaf.field-0.0
+    c.from_residual-in_err-enter_leaf.ensures.1 (λ r. r ≡ Err Damaged → ⊥)
+    (λ e. put_not_damaged c.in_err-enter_leaf.field-0.0 c.in_err-enter_leaf.ensures.cause e) is
+
+pub returns-then-root-eq0-clause-damaged : goal.returns-then-root-eq0-clause-damaged
+returns-then-root-eq0-clause-damaged g c = λ honest agrees is. never_ok is
+
+pub returns-then-root-eq0-clause-cause : goal.returns-then-root-eq0-clause-cause
+returns-then-root-eq0-clause-cause g c = tt
+
+pub returns-then-branch-clause-damaged : goal.returns-then-branch-clause-damaged
+returns-then-branch-clause-damaged g c = λ honest agrees is. never_ok is
+
+pub returns-then-branch-clause-cause : goal.returns-then-branch-clause-cause
+returns-then-branch-clause-cause g c = tt
+
+pub returns-clause-full : goal.returns-clause-full
+returns-clause-full g c = c.insert_slowly.ensures.full
+
+pub returns-clause-cause : goal.returns-clause-cause
+returns-clause-cause g c = c.insert_slowly.ensures.cause
+
+pub returns-in_err-way-clause-changed_pages : goal.returns-in_err-way-clause-changed_pages
+returns-in_err-way-clause-changed_pages g c = λ honest agrees levels holds.
+    few_equal (changed_pages_of c.args.pages.now) (changed_pages_of c.follow.new.pages) 42
+    c.follow.ensures.unchanged.changed_pages
+
+pub returns-in_err-way-clause-filled : goal.returns-in_err-way-clause-filled
+returns-in_err-way-clause-filled g c = λ honest agrees levels holds.
+    few_same (filled_of c.args.pages.now) (filled_of c.follow.new.pages) 42 c.follow.ensures.unchanged.filled
+
+pub returns-in_err-enter_leaf-clause-changed_pages : goal.returns-in_err-enter_leaf-clause-changed_pages
+returns-in_err-enter_leaf-clause-changed_pages g c = λ honest agrees levels holds.
+    few_later (changed_pages_of c.args.pages.now) (changed_pages_of c.follow.new.pages)
+    (changed_pages_of c.enter_leaf.new.pages) 1 41 c.follow.ensures.unchanged.changed_pages
+    c.enter_leaf.ensures.changed_pages
+
+pub returns-in_err-enter_leaf-clause-filled : goal.returns-in_err-enter_leaf-clause-filled
+returns-in_err-enter_leaf-clause-filled g c = λ honest agrees levels holds.
+    subst (λ (n : ℕ). filled_of c.enter_leaf.new.pages ≤ n + 42) c.follow.ensures.unchanged.filled
+    (few_weaker (filled_of c.follow.new.pages) (filled_of c.enter_leaf.new.pages) 1 41 c.enter_leaf.ensures.filled)
+
+pub returns-then-branch-clause-changed_pages : goal.returns-then-branch-clause-changed_pages
+returns-then-branch-clause-changed_pages g c = λ honest agrees levels holds.
+    few_later (changed_pages_of c.args.pages.now) (changed_pages_of c.follow.new.pages)
+    (changed_pages_of c.enter_leaf.new.pages) 1 41 c.follow.ensures.unchanged.changed_pages
+    c.enter_leaf.ensures.changed_pages
+
+pub returns-then-branch-clause-filled : goal.returns-then-branch-clause-filled
+returns-then-branch-clause-filled g c = λ honest agrees levels holds.
+    subst (λ (n : ℕ). filled_of c.enter_leaf.new.pages ≤ n + 42) c.follow.ensures.unchanged.filled
+    (few_weaker (filled_of c.follow.new.pages) (filled_of c.enter_leaf.new.pages) 1 41 c.enter_leaf.ensures.filled)

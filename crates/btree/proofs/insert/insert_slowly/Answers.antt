@@ -31,6 +31,10 @@ use Rattle.btree.proofs.EditedPages.{edits_last, edits_read, edits_where}
 use Rattle.std.proofs.Common.{◌+◌, ◌*◌}
 use Rattle.btree.specs.Calls.{pages_on}
 use Rattle.btree.proofs.ReadMaps.{live_after, small_map}
+use Rattle.pages.specs.Pages.{changed_pages_of, filled_of}
+use Rattle.pages.specs.declared.error.PagesError.TheVariants.{Damaged}
+use Rattle.btree.specs.Changes.{Inserts}
+use Rattle.btree.proofs.Passing.{if_refused, few_equal, few_same, was_error}
 use Rattle.btree.proofs.insert.insert_slowly.Goals as goal
 
 pub returns-in-Ok-clause-inserted : goal.returns-in-Ok-clause-inserted
@@ -67,7 +71,7 @@ returns-clause-inserted g c = λ honest agrees levels holds.
     let place = c.in-Err.place in
     let new = c.in_ok-entered.entered in
     let tree = holds_tree c.args.layout _ c.args.root levels holds c.requires.root in
-    let enters = change_read g.D.Device _ c.args.pages.now c.descend.new.pages c.insert_into_leaf.new.pages
+    let enters = change_read g.D.Device _ c.args.pages.now c.descend.new.pages c.insert_into_leaf-inserted.new.pages
     c.args.device.now c.descend.new.device (λ before after. InsertsIntoLeaf c.args.layout c.args.root before after
     d.way.path.items d.way.page d.leaf.rows d.way.right place c.args.key.now c.args.value.now new)
     c.descend.ensures.unchanged
@@ -98,7 +102,7 @@ returns-in_err-entered-clause-changed_pages g c = λ honest agrees levels holds.
     (small_map c.args.pages.now (g.D.Device.state c.args.device.now).disk.present c.page_count-page_count.result
     numbers.pages numbers.count numbers.few (live_after c.args.pages.now c.in_ok-way.ensures.spent)) tree
     (c.in_ok-way.ensures.way honest agrees levels tree) (ap length c.descend.ensures.unchanged.changed_pages)
-    c.insert_into_leaf.ensures.changed_pages
+    c.insert_into_leaf-inserted.ensures.changed_pages
 
 pub returns-clause-changed_pages : goal.returns-clause-changed_pages
 returns-clause-changed_pages g c = λ honest agrees levels holds.
@@ -111,7 +115,7 @@ returns-clause-changed_pages g c = λ honest agrees levels holds.
     (small_map c.args.pages.now (g.D.Device.state c.args.device.now).disk.present c.page_count-page_count.result
     numbers.pages numbers.count numbers.few (live_after c.args.pages.now c.in_ok-way.ensures.spent)) tree
     (c.in_ok-way.ensures.way honest agrees levels tree) (ap length c.descend.ensures.unchanged.changed_pages)
-    c.insert_into_leaf.ensures.changed_pages
+    c.insert_into_leaf-inserted.ensures.changed_pages
 
 pub returns-in_err-entered-clause-full : goal.returns-in_err-entered-clause-full
 returns-in_err-entered-clause-full g c = λ is.
@@ -129,7 +133,7 @@ returns-in_err-entered-clause-filled g c = λ honest agrees levels holds.
     (small_map c.args.pages.now (g.D.Device.state c.args.device.now).disk.present c.page_count-page_count.result
     numbers.pages numbers.count numbers.few (live_after c.args.pages.now c.in_ok-way.ensures.spent)) tree
     (c.in_ok-way.ensures.way honest agrees levels tree) c.descend.ensures.unchanged.filled
-    c.insert_into_leaf.ensures.filled
+    c.insert_into_leaf-inserted.ensures.filled
 
 pub returns-clause-filled : goal.returns-clause-filled
 returns-clause-filled g c = λ honest agrees levels holds.
@@ -142,10 +146,10 @@ returns-clause-filled g c = λ honest agrees levels holds.
     (small_map c.args.pages.now (g.D.Device.state c.args.device.now).disk.present c.page_count-page_count.result
     numbers.pages numbers.count numbers.few (live_after c.args.pages.now c.in_ok-way.ensures.spent)) tree
     (c.in_ok-way.ensures.way honest agrees levels tree) c.descend.ensures.unchanged.filled
-    c.insert_into_leaf.ensures.filled
+    c.insert_into_leaf-inserted.ensures.filled
 
-pub insert_into_leaf-requires-clause-sectors : goal.insert_into_leaf-requires-clause-sectors
-insert_into_leaf-requires-clause-sectors g c =
+pub insert_into_leaf-inserted-requires-clause-sectors : goal.insert_into_leaf-inserted-requires-clause-sectors
+insert_into_leaf-inserted-requires-clause-sectors g c =
     sectors_on c.args.pages.now c.descend.new.pages _ _ c.descend.ensures.unchanged.committed.volume
     c.descend.ensures.only.sectors c.requires.sectors
 
@@ -207,7 +211,7 @@ returns-in_err-way-clause-there g c =
 pub returns-in_err-entered-clause-there : goal.returns-in_err-entered-clause-there
 returns-in_err-entered-clause-there g c =
     passed c.from_residual-in_err-entered.result c.in_err-entered.field-0.0 c.from_residual-in_err-entered.ensures.1
-    (λ r. r ≡ Ok None → IsUnchanged c.args.pages.now c.insert_into_leaf.new.pages)
+    (λ r. r ≡ Ok None → IsUnchanged c.args.pages.now c.insert_into_leaf-inserted.new.pages)
     (λ is. never_err is)
 
 pub returns-in_err-way-clause-edits : goal.returns-in_err-way-clause-edits
@@ -230,8 +234,9 @@ returns-in_err-entered-clause-edits g c =
     let way = c.descend.ensures in
     let put = c.in_err-entered.ensures in
     passed c.from_residual-in_err-entered.result c.in_err-entered.field-0.0 c.from_residual-in_err-entered.ensures.1
-    (λ r. EditsPages g.D.Device (r ≡ Err Device) c.args.pages.now c.args.device.now c.insert_into_leaf.new.pages
-    c.insert_into_leaf.new.device)
+    (λ r.
+    EditsPages g.D.Device (r ≡ Err Device) c.args.pages.now c.args.device.now c.insert_into_leaf-inserted.new.pages
+    c.insert_into_leaf-inserted.new.device)
     (edits_last g.D.Device _ _ _ _ _ _ _ _ _ (λ is. still_error is)
     (edits_read g.D.Device _ _ _ _ _ way.only way.unchanged way.agrees)
     put.edits)
@@ -239,7 +244,59 @@ returns-in_err-entered-clause-edits g c =
 pub returns-clause-edits : goal.returns-clause-edits
 returns-clause-edits g c =
     let way = c.descend.ensures in
-    let put = c.insert_into_leaf.ensures in
+    let put = c.insert_into_leaf-inserted.ensures in
     edits_last g.D.Device _ _ _ _ _ _ _ _ _ (λ is. never_ok is)
     (edits_read g.D.Device _ _ _ _ _ way.only way.unchanged way.agrees)
     put.edits
+
+pub returns-in_err-way-clause-inserted : goal.returns-in_err-way-clause-inserted
+returns-in_err-way-clause-inserted g c = λ honest agrees levels holds.
+    if_refused c.from_residual.result c.in_err-way.field-0.0 c.from_residual.ensures.1
+    (Inserts c.args.layout (pages_on g.D.Device c.args.pages.now c.args.device.now) levels
+    (pages_on g.D.Device c.descend.new.pages c.args.device.now) c.args.key.now c.args.value.now)
+
+pub returns-in_err-entered-clause-inserted : goal.returns-in_err-entered-clause-inserted
+returns-in_err-entered-clause-inserted g c = λ honest agrees levels holds.
+    if_refused c.from_residual-in_err-entered.result c.in_err-entered.field-0.0 c.from_residual-in_err-entered.ensures.1
+    (Inserts c.args.layout (pages_on g.D.Device c.args.pages.now c.args.device.now) levels
+    (pages_on g.D.Device c.insert_into_leaf-inserted.new.pages c.args.device.now) c.args.key.now c.args.value.now)
+
+pub returns-in_err-way-clause-damaged : goal.returns-in_err-way-clause-damaged
+returns-in_err-way-clause-damaged g c = λ honest agrees is levels holds.
+    c.descend.ensures.damaged honest agrees
+    (was_error c.from_residual.result c.descend.result c.in_err-way.field-0.0 Damaged c.from_residual.ensures.1
+    c.in_err-way.was is) levels (holds_tree c.args.layout
+    (pages_on g.D.Device c.args.pages.now c.args.device.now) c.args.root levels holds c.requires.root)
+
+pub returns-in_err-way-clause-changed_pages : goal.returns-in_err-way-clause-changed_pages
+returns-in_err-way-clause-changed_pages g c = λ honest agrees levels holds.
+    few_equal (changed_pages_of c.args.pages.now) (changed_pages_of c.descend.new.pages) 42
+    c.descend.ensures.unchanged.changed_pages
+
+pub returns-in_err-way-clause-filled : goal.returns-in_err-way-clause-filled
+returns-in_err-way-clause-filled g c = λ honest agrees levels holds.
+    few_same (filled_of c.args.pages.now) (filled_of c.descend.new.pages) 42 c.descend.ensures.unchanged.filled
+
+pub returns-in-Ok-clause-changed_pages : goal.returns-in-Ok-clause-changed_pages
+returns-in-Ok-clause-changed_pages g c = λ honest agrees levels holds.
+    few_equal (changed_pages_of c.args.pages.now) (changed_pages_of c.descend.new.pages) 42
+    c.descend.ensures.unchanged.changed_pages
+
+pub returns-in-Ok-clause-filled : goal.returns-in-Ok-clause-filled
+returns-in-Ok-clause-filled g c = λ honest agrees levels holds.
+    few_same (filled_of c.args.pages.now) (filled_of c.descend.new.pages) 42 c.descend.ensures.unchanged.filled
+
+pub returns-in-Ok-clause-damaged : goal.returns-in-Ok-clause-damaged
+returns-in-Ok-clause-damaged g c = λ honest agrees is. never_ok is
+
+pub returns-in-Ok-clause-there : goal.returns-in-Ok-clause-there
+returns-in-Ok-clause-there g c = λ is. c.descend.ensures.unchanged
+
+pub returns-in-Ok-clause-cause : goal.returns-in-Ok-clause-cause
+returns-in-Ok-clause-cause g c = tt
+
+pub returns-clause-damaged : goal.returns-clause-damaged
+returns-clause-damaged g c = λ honest agrees is. never_ok is
+
+pub returns-clause-cause : goal.returns-clause-cause
+returns-clause-cause g c = tt

@@ -6,6 +6,7 @@ use Rattle.btree.proofs.Upward.{propagates_still}
 use Rattle.btree.proofs.Settling.{settle_same}
 use Rattle.btree.proofs.StepsUp.{same_way, never_way}
 use Rattle.btree.proofs.Entering.{end_stands, end_in, leaf_put, enters_with, tells_some, tells_none, never_entered}
+use Rattle.btree.proofs.Entering.{split_keys}
 use Rattle.std.specs.Prelude.{IfErr, Err}
 use Rattle.std.proofs.Common.{◌≡◌, true, sym, ◌∙◌, ap, refl}
 use Rattle.pages.specs.Pages.{is_spent, page_count, changed_pages_of, filled_of}
@@ -17,6 +18,15 @@ use Rattle.btree.proofs.Passing.{sectors_on}
 use Rattle.btree.proofs.Passing.{few_one, few_two, few_three}
 use Rattle.btree.specs.Calls.{EditsPages}
 use Rattle.btree.proofs.EditedPages.{edits_kept, edits_last, edits_more, edits_none, edits_where}
+use Rattle.std.proofs.Common.{◌<◌, subst}
+use Rattle.pages.specs.declared.error.PagesError.TheVariants.{Damaged}
+use Rattle.btree.specs.Calls.{pages_on}
+use Rattle.btree_pages.specs.declared.row_layout.RowLayout.{RowLayout}
+use Rattle.btree_pages.specs.declared.row_layout.Kind.{Kind}
+use Rattle.btree_pages.specs.RowLayouts.{rest_length}
+use Rattle.btree.specs.Changes.{HasKeys, InsertsIntoLeaf}
+use Rattle.btree.specs.Refusals.{IsWriteRefusal}
+use Rattle.btree.proofs.Passing.{damaged_not_full, few_more, if_refused, same_error}
 use Rattle.btree.proofs.insert_into_leaf.insert_into_leaf.Goals as goal
 
 pub returns-then-not-is_page-clause-damaged : goal.returns-then-not-is_page-clause-damaged
@@ -249,3 +259,118 @@ returns-clause-edits g c =
     edits_kept g.D.Device _ _ _ _ _ _ _ (λ is. never_ok is)
     (edits_more g.D.Device _ _ _ _ _ _ _ put up.edits)
     c.root_after_split.ensures.keeps
+
+pub returns-then-not-is_page-clause-entered : goal.returns-then-not-is_page-clause-entered
+returns-then-not-is_page-clause-entered g c = λ honest agrees. tt
+
+pub returns-then-not-is_page-clause-some : goal.returns-then-not-is_page-clause-some
+returns-then-not-is_page-clause-some g c = λ some. tt
+
+pub returns-then-not-is_page-clause-changed_pages : goal.returns-then-not-is_page-clause-changed_pages
+returns-then-not-is_page-clause-changed_pages g c =
+    few_one (length (changed_pages_of c.args.pages.now)) (length (changed_pages_of c.args.pages.now))
+    (length c.args.way.now.path.items)
+    (few_more (length (changed_pages_of c.args.pages.now)) 2)
+
+pub returns-then-not-is_page-clause-filled : goal.returns-then-not-is_page-clause-filled
+returns-then-not-is_page-clause-filled g c =
+    few_one (filled_of c.args.pages.now) (filled_of c.args.pages.now) (length c.args.way.now.path.items)
+    (few_more (filled_of c.args.pages.now) 2)
+
+pub returns-then-not-is_page-clause-cause : goal.returns-then-not-is_page-clause-cause
+returns-then-not-is_page-clause-cause g c = tt
+
+pub returns-then-not-is_page-clause-full : goal.returns-then-not-is_page-clause-full
+returns-then-not-is_page-clause-full g c = λ is. damaged_not_full is
+
+pub returns-in_err-put-clause-entered : goal.returns-in_err-put-clause-entered
+returns-in_err-put-clause-entered g c = λ honest agrees.
+    if_refused c.from_residual.result c.in_err-put.field-0.0 c.from_residual.ensures.1
+    (InsertsIntoLeaf c.args.layout c.args.root (pages_on g.D.Device c.args.pages.now c.args.device.now)
+    (pages_on g.D.Device c.put_row.new.pages c.args.device.now) c.args.way.now.path.items c.args.way.now.page
+    c.args.leaf.rows c.args.way.now.right c.args.row.place c.args.row.key.now c.args.row.value.now)
+
+pub returns-in_err-put-clause-some : goal.returns-in_err-put-clause-some
+returns-in_err-put-clause-some g c =
+    λ some. if_refused c.from_residual.result c.in_err-put.field-0.0 c.from_residual.ensures.1
+    (λ new. 0 < new)
+
+pub returns-in_err-put-clause-damaged : goal.returns-in_err-put-clause-damaged
+returns-in_err-put-clause-damaged g c = λ honest agrees is levels tree ends.
+    passed c.from_residual.result c.in_err-put.field-0.0 c.from_residual.ensures.1
+    (λ r. r ≡ Err Damaged → ⊥) (λ e. subst IsWriteRefusal (same_error e) c.in_err-put.ensures.cause) is
+
+pub returns-in_err-up-clause-entered : goal.returns-in_err-up-clause-entered
+returns-in_err-up-clause-entered g c = λ honest agrees.
+    if_refused c.from_residual-in_err-up.result c.in_err-up.field-0.0 c.from_residual-in_err-up.ensures.1
+    (InsertsIntoLeaf c.args.layout c.args.root (pages_on g.D.Device c.args.pages.now c.args.device.now)
+    (pages_on g.D.Device c.propagate_split.new.pages c.args.device.now) c.args.way.now.path.items c.args.way.now.page
+    c.args.leaf.rows c.args.way.now.right c.args.row.place c.args.row.key.now c.args.row.value.now)
+
+pub returns-in_err-up-clause-some : goal.returns-in_err-up-clause-some
+returns-in_err-up-clause-some g c =
+    λ some. if_refused c.from_residual-in_err-up.result c.in_err-up.field-0.0 c.from_residual-in_err-up.ensures.1
+    (λ new. 0 < new)
+
+pub returns-in_err-new-clause-entered : goal.returns-in_err-new-clause-entered
+returns-in_err-new-clause-entered g c = λ honest agrees.
+    if_refused c.from_residual-in_err-new.result c.in_err-new.field-0.0 c.from_residual-in_err-new.ensures.1
+    (InsertsIntoLeaf c.args.layout c.args.root (pages_on g.D.Device c.args.pages.now c.args.device.now)
+    (pages_on g.D.Device c.root_after_split.new.pages c.args.device.now) c.args.way.now.path.items c.args.way.now.page
+    c.args.leaf.rows c.args.way.now.right c.args.row.place c.args.row.key.now c.args.row.value.now)
+
+pub returns-in_err-new-clause-some : goal.returns-in_err-new-clause-some
+returns-in_err-new-clause-some g c =
+    λ some. if_refused c.from_residual-in_err-new.result c.in_err-new.field-0.0 c.from_residual-in_err-new.ensures.1
+    (λ new. 0 < new)
+
+pub returns-in_err-new-clause-damaged : goal.returns-in_err-new-clause-damaged
+returns-in_err-new-clause-damaged g c = λ honest agrees is levels tree ends.
+    passed c.from_residual-in_err-new.result c.in_err-new.field-0.0 c.from_residual-in_err-new.ensures.1
+    (λ r. r ≡ Err Damaged → ⊥) (λ e. subst IsWriteRefusal (same_error e) c.in_err-new.ensures.cause) is
+
+pub returns-in-None-clause-damaged : goal.returns-in-None-clause-damaged
+returns-in-None-clause-damaged g c = λ honest agrees is. never_ok is
+
+pub returns-in-None-clause-some : goal.returns-in-None-clause-some
+returns-in-None-clause-some g c = λ some. some
+
+pub returns-in-None-clause-cause : goal.returns-in-None-clause-cause
+returns-in-None-clause-cause g c = tt
+
+pub returns-in-None-clause-full : goal.returns-in-None-clause-full
+returns-in-None-clause-full g c = λ is. never_ok is
+
+pub returns-clause-damaged : goal.returns-clause-damaged
+returns-clause-damaged g c = λ honest agrees is. never_ok is
+
+pub returns-clause-some : goal.returns-clause-some
+returns-clause-some g c = c.in_ok-new.ensures.some
+
+pub returns-clause-cause : goal.returns-clause-cause
+returns-clause-cause g c = tt
+
+pub returns-clause-full : goal.returns-clause-full
+returns-clause-full g c = λ is. never_ok is
+
+pub put_row-requires-clause-page : goal.put_row-requires-clause-page
+put_row-requires-clause-page g c = c.is_page.ensures.is.0 c.if-not-is_page.false
+
+pub put_row-requires-clause-place : goal.put_row-requires-clause-place
+put_row-requires-clause-place g c = c.requires.place
+
+pub put_row-requires-clause-key : goal.put_row-requires-clause-key
+put_row-requires-clause-key g c =
+    subst (λ (f : RowLayout). length c.args.row.key.now ≡ f.key_length) (sym c.requires.leaf.0) c.requires.key
+
+pub put_row-requires-clause-rest : goal.put_row-requires-clause-rest
+put_row-requires-clause-rest g c =
+    subst (λ (f : RowLayout). length c.args.row.value.now ≡ rest_length f c.args.leaf.kind) (sym c.requires.leaf.0)
+    (subst (λ (k : Kind). length c.args.row.value.now ≡ rest_length c.args.layout k) (sym c.requires.leaf.1)
+    c.requires.value)
+
+pub propagate_split-requires-clause-keys : goal.propagate_split-requires-clause-keys
+propagate_split-requires-clause-keys g c =
+    subst (HasKeys c.args.layout) (sym c.in-Some.ensures.is)
+    (split_keys c.args.layout c.args.way.now.page c.args.leaf c.in_ok-put.put c.requires.leaf.0
+    c.in_ok-put.ensures.split)

@@ -13,12 +13,13 @@ use Rattle.btree.specs.Outcomes.{FitsAbove, spare}
 use Rattle.btree.specs.Reading.{IsReadRefusal}
 use Rattle.btree.proofs.Lessening.{has_room, true_or_false}
 use Rattle.btree.proofs.NeighbourCalls.{above_at, named_at, never_beside, rebalanced_first, rebalanced_other}
-use Rattle.btree.proofs.NeighbourCalls.{rest_no_device, rest_no_full}
+use Rattle.btree.proofs.NeighbourCalls.{before_low, near_low, rest_no_device, rest_no_full, two_at_least}
 use Rattle.btree.proofs.Pairing.{first_near, other_near, never_joined, same_catalog}
 use Rattle.btree.proofs.Passing.{passed, never_ok, same_error, still_error, damaged_not_device, damaged_not_spent}
-use Rattle.btree.proofs.Passing.{reads_where, committed_on, was_error}
+use Rattle.btree.proofs.Passing.{reads_where, committed_on, page_stays, was_error}
 use Rattle.btree.specs.Results.{LeavesFewChanged, LeavesFewFilled}
 use Rattle.btree.proofs.Passing.{if_refused}
+use Rattle.std.proofs.Common.{arith}
 use Rattle.btree.proofs.rebalance.rebalance_at.Goals as goal
 
 pub returns-then-not-leads-clause-damaged : goal.returns-then-not-leads-clause-damaged
@@ -224,3 +225,139 @@ returns-in_err-beside-clause-filled g c =
 
 pub returns-then-not-leads-clause-spent : goal.returns-then-not-leads-clause-spent
 returns-then-not-leads-clause-spent g c = λ is. damaged_not_spent is
+
+pub returns-then-not-leads-clause-rebalances : goal.returns-then-not-leads-clause-rebalances
+returns-then-not-leads-clause-rebalances g c = λ honest agrees. tt
+
+pub returns-then-not-leads-clause-fits : goal.returns-then-not-leads-clause-fits
+returns-then-not-leads-clause-fits g c = tt
+
+pub returns-then-not-leads-clause-changed_pages : goal.returns-then-not-leads-clause-changed_pages
+returns-then-not-leads-clause-changed_pages g c = tt
+
+pub returns-then-not-leads-clause-filled : goal.returns-then-not-leads-clause-filled
+returns-then-not-leads-clause-filled g c = tt
+
+pub returns-then-not-leads-clause-committed : goal.returns-then-not-leads-clause-committed
+returns-then-not-leads-clause-committed g c = record { volume = refl; mark = refl; spent = refl }
+
+pub returns-then-not-leads-clause-catalog : goal.returns-then-not-leads-clause-catalog
+returns-then-not-leads-clause-catalog g c = refl
+
+pub returns-then-not-leads-clause-agrees : goal.returns-then-not-leads-clause-agrees
+returns-then-not-leads-clause-agrees g c = λ honest agrees. agrees
+
+pub returns-then-not-leads-clause-cause : goal.returns-then-not-leads-clause-cause
+returns-then-not-leads-clause-cause g c = rest_no_full (Err Damaged) tt
+
+pub returns-then-count-lt2-clause-rebalances : goal.returns-then-count-lt2-clause-rebalances
+returns-then-count-lt2-clause-rebalances g c = λ honest agrees. tt
+
+pub returns-then-count-lt2-clause-fits : goal.returns-then-count-lt2-clause-fits
+returns-then-count-lt2-clause-fits g c = tt
+
+pub returns-then-count-lt2-clause-changed_pages : goal.returns-then-count-lt2-clause-changed_pages
+returns-then-count-lt2-clause-changed_pages g c = tt
+
+pub returns-then-count-lt2-clause-filled : goal.returns-then-count-lt2-clause-filled
+returns-then-count-lt2-clause-filled g c = tt
+
+pub returns-then-count-lt2-clause-committed : goal.returns-then-count-lt2-clause-committed
+returns-then-count-lt2-clause-committed g c = record { volume = refl; mark = refl; spent = refl }
+
+pub returns-then-count-lt2-clause-catalog : goal.returns-then-count-lt2-clause-catalog
+returns-then-count-lt2-clause-catalog g c = refl
+
+pub returns-then-count-lt2-clause-agrees : goal.returns-then-count-lt2-clause-agrees
+returns-then-count-lt2-clause-agrees g c = λ honest agrees. agrees
+
+pub returns-then-count-lt2-clause-cause : goal.returns-then-count-lt2-clause-cause
+returns-then-count-lt2-clause-cause g c = rest_no_full (Err Damaged) tt
+
+pub returns-then-count-lt2-clause-only : goal.returns-then-count-lt2-clause-only
+returns-then-count-lt2-clause-only g c =
+    reads_where g.D.Device _ _ _ _ (λ is. damaged_not_device is) (reads_nothing g.D.Device c.args.device.now)
+
+pub returns-then-count-lt2-clause-spent : goal.returns-then-count-lt2-clause-spent
+returns-then-count-lt2-clause-spent g c = λ is. damaged_not_spent is
+
+pub returns-then-count-lt2-clause-damaged : goal.returns-then-count-lt2-clause-damaged
+returns-then-count-lt2-clause-damaged g c = λ honest agrees is left right inner low some left_some right_some pair.
+    omega (arith, pair.within, c.count.ensures.rows, c.if-count-lt2.true)
+
+pub returns-in_err-beside-clause-rebalances : goal.returns-in_err-beside-clause-rebalances
+returns-in_err-beside-clause-rebalances g c = λ honest agrees.
+    if_refused c.from_residual.result c.in_err-beside.field-0.0 c.from_residual.ensures.1 _
+
+pub returns-in_err-beside-clause-committed : goal.returns-in_err-beside-clause-committed
+returns-in_err-beside-clause-committed g c = c.read_kind.ensures.unchanged.committed
+
+pub returns-in_err-beside-clause-agrees : goal.returns-in_err-beside-clause-agrees
+returns-in_err-beside-clause-agrees g c = c.read_kind.ensures.agrees
+
+pub read_kind-requires-clause-sectors : goal.read_kind-requires-clause-sectors
+read_kind-requires-clause-sectors g c = c.requires.sectors
+
+pub read_kind-requires-clause-layout : goal.read_kind-requires-clause-layout
+read_kind-requires-clause-layout g c = c.requires.layout
+
+pub child-page-requires-clause-inner : goal.child-page-requires-clause-inner
+child-page-requires-clause-inner g c = (c.leads.ensures.is.0 c.if-not-leads.false).0
+
+pub child-page-requires-clause-place : goal.child-page-requires-clause-place
+child-page-requires-clause-place g c =
+    near_low c.args.step.place c.near_place.result (length c.args.node.rows)
+    (c.leads.ensures.is.0 c.if-not-leads.false).1 (omega (arith, c.if-count-lt2.false, c.count.ensures.rows))
+    c.near_place.ensures.first c.near_place.ensures.other
+
+pub rebalance_pair-requires-clause-page : goal.rebalance_pair-requires-clause-page
+rebalance_pair-requires-clause-page g c =
+    page_stays c.args.pages.now c.read_kind.new.pages c.args.step.page c.read_kind.ensures.unchanged.committed
+    (c.leads.ensures.is.0 c.if-not-leads.false).2
+
+pub rebalance_pair-requires-clause-inner : goal.rebalance_pair-requires-clause-inner
+rebalance_pair-requires-clause-inner g c = (c.leads.ensures.is.0 c.if-not-leads.false).0
+
+pub rebalance_pair-requires-clause-place : goal.rebalance_pair-requires-clause-place
+rebalance_pair-requires-clause-place g c = omega (arith, c.if-count-lt2.false, c.count.ensures.rows)
+
+pub rebalance_pair-requires-clause-layout : goal.rebalance_pair-requires-clause-layout
+rebalance_pair-requires-clause-layout g c = c.requires.lone.0 ∙ sym c.requires.node
+
+pub rebalance_pair-requires-clause-like : goal.rebalance_pair-requires-clause-like
+rebalance_pair-requires-clause-like g c = record {
+  layout = c.in_ok-beside.ensures.shape.0 ∙ sym c.requires.lone.0;
+  kind = c.in_ok-beside.ensures.shape.1 ∙ c.kind-kind.ensures;
+}
+
+pub rebalance_pair-requires-clause-many : goal.rebalance_pair-requires-clause-many
+rebalance_pair-requires-clause-many g c =
+    two_at_least c.kind-kind.result _ _ c.requires.lone.1 c.in_ok-beside.ensures.shape.2
+
+pub rebalance_pair-requires-2-clause-page : goal.rebalance_pair-requires-2-clause-page
+rebalance_pair-requires-2-clause-page g c =
+    page_stays c.args.pages.now c.read_kind.new.pages c.args.step.page c.read_kind.ensures.unchanged.committed
+    (c.leads.ensures.is.0 c.if-not-leads.false).2
+
+pub rebalance_pair-requires-2-clause-inner : goal.rebalance_pair-requires-2-clause-inner
+rebalance_pair-requires-2-clause-inner g c = (c.leads.ensures.is.0 c.if-not-leads.false).0
+
+pub rebalance_pair-requires-2-clause-place : goal.rebalance_pair-requires-2-clause-place
+rebalance_pair-requires-2-clause-place g c =
+    before_low c.args.step.place (length c.args.node.rows) (c.leads.ensures.is.0 c.if-not-leads.false).1
+    c.if-step-eq0.false
+
+pub rebalance_pair-requires-2-clause-layout : goal.rebalance_pair-requires-2-clause-layout
+rebalance_pair-requires-2-clause-layout g c = c.in_ok-beside.ensures.shape.0 ∙ sym c.requires.node
+
+pub rebalance_pair-requires-2-clause-like : goal.rebalance_pair-requires-2-clause-like
+rebalance_pair-requires-2-clause-like g c = record {
+  layout = c.requires.lone.0 ∙ sym c.in_ok-beside.ensures.shape.0;
+  kind = sym (c.in_ok-beside.ensures.shape.1 ∙ c.kind-kind.ensures);
+}
+
+pub rebalance_pair-requires-2-clause-many : goal.rebalance_pair-requires-2-clause-many
+rebalance_pair-requires-2-clause-many g c =
+    let two = two_at_least c.kind-kind.result (length c.args.lone.node.rows) (length c.in_ok-beside.beside.rows)
+    c.requires.lone.1 c.in_ok-beside.ensures.shape.2 in
+    omega (arith, two)

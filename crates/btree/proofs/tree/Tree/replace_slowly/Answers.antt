@@ -11,6 +11,7 @@ use Rattle.btree.proofs.Frames.{unchanged_still}
 use Rattle.btree.proofs.ReplaceCalls.{never_unput, none_by, replaced_by}
 use Rattle.btree.specs.Calls.{EditsPages}
 use Rattle.btree.proofs.EditedPages.{edits_kept, edits_none, edits_read, edits_where}
+use Rattle.std.proofs.Common.{refl}
 use Rattle.btree.proofs.tree.Tree.replace_slowly.Goals as goal
 
 pub returns-in-Err-clause-missing : goal.returns-in-Err-clause-missing
@@ -214,3 +215,38 @@ returns-clause-edits g c =
     let way = c.descend.ensures in
     edits_kept g.D.Device _ _ _ _ _ _ _ (λ is. never_ok is)
     (edits_read g.D.Device _ _ _ _ _ way.only way.unchanged way.agrees) c.put_rest.ensures.keeps
+
+pub returns-then-top-eq0-clause-changed_pages : goal.returns-then-top-eq0-clause-changed_pages
+returns-then-top-eq0-clause-changed_pages g c =
+    few_equal (changed_pages_of c.args.pages.now) (changed_pages_of c.args.pages.now) 1 refl
+
+pub returns-then-top-eq0-clause-filled : goal.returns-then-top-eq0-clause-filled
+returns-then-top-eq0-clause-filled g c =
+    few_same (filled_of c.args.pages.now) (filled_of c.args.pages.now) 1 refl
+
+pub returns-then-top-eq0-clause-cause : goal.returns-then-top-eq0-clause-cause
+returns-then-top-eq0-clause-cause g c = tt
+
+pub returns-in-Err-clause-cause : goal.returns-in-Err-clause-cause
+returns-in-Err-clause-cause g c = tt
+
+pub returns-clause-cause : goal.returns-clause-cause
+returns-clause-cause g c = tt
+
+pub returns-then-top-eq0-clause-tree : goal.returns-then-top-eq0-clause-tree
+returns-then-top-eq0-clause-tree g c = refl
+
+pub returns-in_err-way-clause-tree : goal.returns-in_err-way-clause-tree
+returns-in_err-way-clause-tree g c = refl
+
+pub returns-in-Err-clause-tree : goal.returns-in-Err-clause-tree
+returns-in-Err-clause-tree g c = refl
+
+pub returns-in_err-put_rest-clause-tree : goal.returns-in_err-put_rest-clause-tree
+returns-in_err-put_rest-clause-tree g c = refl
+
+pub returns-clause-tree : goal.returns-clause-tree
+returns-clause-tree g c = refl
+
+pub returns-in-Err-clause-same : goal.returns-in-Err-clause-same
+returns-in-Err-clause-same g c = λ is. c.descend.ensures.unchanged

@@ -5,15 +5,17 @@ use Rattle.pages.specs.declared.error.PagesError.TheVariants.{Device}
 use Rattle.btree.specs.Changes.{pages_of_map}
 use Rattle.btree.specs.Refusals.{IsInsertRefusal}
 use Rattle.btree.proofs.Passing.{passed, never_ok, never_err, still_error, few_weaker, few_equal, write_not_device}
-use Rattle.btree.proofs.Passing.{false_not_true, committed_on, search_is_insert, write_is_insert, damaged_not_device}
+use Rattle.btree.proofs.Passing.{false_not_true, true_not_false, committed_on, search_is_insert, write_is_insert}
+use Rattle.btree.proofs.Passing.{damaged_not_device, damaged_not_spent, sectors_on}
 use Rattle.row_trees.specs.Calls.{EditsPages}
-use Rattle.row_trees.specs.RowTree.{ChainedTree}
+use Rattle.row_trees.specs.RowTree.{ChainedTree, value_length}
 use Rattle.row_trees.proofs.Among.{chained, viewed, same_chained, stands_among}
 use Rattle.row_trees.proofs.Calling.{looks_by, looks_edits, edits_where, edits_last, edits_kept}
 use Rattle.row_trees.proofs.Calling.{refused_by_call}
+use Rattle.row_trees.proofs.Forms.{whole_short, record_within, rest_few, fits_still}
 use Rattle.row_trees.proofs.LaidRows.{LaysRecord, laid_few, laid_room, laid_never, laid_missing, inserted_on, room_laid}
 use Rattle.row_trees.proofs.Passing.{search_not_full, write_not_damaged, on_err, full_unspent, few_laid, few_first}
-use Rattle.row_trees.proofs.Passing.{never_answered, room_weaker}
+use Rattle.row_trees.proofs.Passing.{never_answered, room_weaker, damaged_not_full}
 use Rattle.row_trees.proofs.Short.{short_insertion, some_seen}
 use Rattle.row_trees.proofs.row_tree.RowTree.insert.Given.{Over}
 use Rattle.row_trees.proofs.row_tree.RowTree.insert.Goals as goal
@@ -56,16 +58,16 @@ returns-then-self-eq0-clause-refused g c =
     c.insert.ensures.refused
 
 -- No search succeeded.
-pub returns-in_err-held-clause-edits : goal.returns-in_err-held-clause-edits
-returns-in_err-held-clause-edits g c =
-    let got = c.in_err-held.ensures in
-    passed c.from_residual.result c.in_err-held.field-0.0 c.from_residual.ensures.1
+pub returns-in_err-get-clause-edits : goal.returns-in_err-get-clause-edits
+returns-in_err-get-clause-edits g c =
+    let got = c.in_err-get.ensures in
+    passed c.from_residual.result c.in_err-get.field-0.0 c.from_residual.ensures.1
     (λ r. EditsPages g.D.Device (r ≡ Err Device) c.args.pages.now c.args.device.now c.get.new.pages c.get.new.device)
     (edits_where g.D.Device _ _ _ _ _ _ (λ is. still_error is)
     (looks_edits g.D.Device _ _ _ _ _ (looks_by g.D.Device _ _ _ _ _ got.only got.unchanged got.agrees)))
 
-pub returns-in_err-held-clause-answers : goal.returns-in_err-held-clause-answers
-returns-in_err-held-clause-answers g c = let residual = c.from_residual in
+pub returns-in_err-get-clause-answers : goal.returns-in_err-get-clause-answers
+returns-in_err-get-clause-answers g c = let residual = c.from_residual in
     record {
       inserted = λ honest agrees left right entries is ok. never_answered residual.result _ residual.ensures.1 ok;
       there = λ honest agrees left right entries is no. never_answered residual.result _ residual.ensures.1 no;
@@ -73,23 +75,23 @@ returns-in_err-held-clause-answers g c = let residual = c.from_residual in
           let before = pages_of_map c.args.pages.now (g.D.Device.state c.args.device.now).disk.present in
           let view = chained c.self.inside.tree c.self.inside.record_bytes in
           let own = viewed before left right view _ entries c.self.view_is is in
-          c.get.ensures.damaged honest agrees (refused_by_call c.in_err-held.was residual.ensures.1 told)
+          c.get.ensures.damaged honest agrees (refused_by_call c.in_err-get.was residual.ensures.1 told)
           own.planted.levels (stands_among before left right view entries own).tree;
     }
 
-pub returns-in_err-held-clause-changed_pages : goal.returns-in_err-held-clause-changed_pages
-returns-in_err-held-clause-changed_pages g c = λ honest agrees left right entries is.
+pub returns-in_err-get-clause-changed_pages : goal.returns-in_err-get-clause-changed_pages
+returns-in_err-get-clause-changed_pages g c = λ honest agrees left right entries is.
     few_equal (changed_pages_of c.args.pages.now) (changed_pages_of c.get.new.pages) _
     c.get.ensures.unchanged.changed_pages
 
-pub returns-in_err-held-clause-room : goal.returns-in_err-held-clause-room
-returns-in_err-held-clause-room g c = λ honest agrees left right entries is full.
-    search_not_full c.self.inside.tree.layout _ _ c.from_residual.ensures.1 c.in_err-held.ensures.cause full
+pub returns-in_err-get-clause-room : goal.returns-in_err-get-clause-room
+returns-in_err-get-clause-room g c = λ honest agrees left right entries is full.
+    search_not_full c.self.inside.tree.layout _ _ c.from_residual.ensures.1 c.in_err-get.ensures.cause full
 
-pub returns-in_err-held-clause-cause : goal.returns-in_err-held-clause-cause
-returns-in_err-held-clause-cause g c = passed c.from_residual.result c.in_err-held.field-0.0 c.from_residual.ensures.1
+pub returns-in_err-get-clause-cause : goal.returns-in_err-get-clause-cause
+returns-in_err-get-clause-cause g c = passed c.from_residual.result c.in_err-get.field-0.0 c.from_residual.ensures.1
     (λ r. IfErr r IsInsertRefusal)
-    (search_is_insert c.self.inside.tree.layout c.in_err-held.field-0.0 c.in_err-held.ensures.cause)
+    (search_is_insert c.self.inside.tree.layout c.in_err-get.field-0.0 c.in_err-get.ensures.cause)
 
 -- The key is there.
 pub returns-then-is_some-clause-edits : goal.returns-then-is_some-clause-edits
@@ -105,7 +107,7 @@ returns-then-is_some-clause-answers g c = record {
       let before = pages_of_map c.args.pages.now (g.D.Device.state c.args.device.now).disk.present in
       let view = chained c.self.inside.tree c.self.inside.record_bytes in
       let own = viewed before left right view _ entries c.self.view_is is in
-      some_seen before left right view entries own c.args.key.now (subst IsSome (c.in_ok-held.ensures.entry honest
+      some_seen before left right view entries own c.args.key.now (subst IsSome (c.in_ok-get.ensures.entry honest
       agrees own.planted.levels (stands_among before left right view entries own).tree)
       (sym c.is_some.ensures ∙ c.if-is_some.true));
   damaged = λ honest agrees left right entries is told. never_ok told;
@@ -243,7 +245,7 @@ returns-then-not-added-clause-answers g c = record {
   there = λ honest agrees left right entries is no. never_err no;
   damaged = λ honest agrees left right entries is told. laid_missing g.D.Device c.args.key.now _
       (lays g (goal.at.returns-then-not-added-clause-answers g c).After-insert-2)
-      c.self.view_is c.in_ok-held.ensures.entry (sym c.is_some.ensures ∙ c.if-is_some.false)
+      c.self.view_is c.in_ok-get.ensures.entry (sym c.is_some.ensures ∙ c.if-is_some.false)
       (λ h a levels tree. c.insert-2.ensures.there h a levels tree (c.in_ok-added.was ∙ ap Ok c.if-not-added.true))
       honest agrees left right entries is;
 }
@@ -286,3 +288,174 @@ returns-clause-changed_pages g c =
     laid_few g.D.Device c.insert-2.new.pages _ (lays g (goal.at.returns-clause-changed_pages g c).After-insert-2)
     c.self.view_is
     c.insert-2.ensures.few.changed_pages
+
+-- What else the call on the tree answers, where it has its records itself.
+pub returns-then-self-eq0-clause-edits : goal.returns-then-self-eq0-clause-edits
+returns-then-self-eq0-clause-edits g c = c.insert.ensures.edits
+
+pub returns-then-self-eq0-clause-layout : goal.returns-then-self-eq0-clause-layout
+returns-then-self-eq0-clause-layout g c =
+    c.insert.ensures.layout ∙ ap (λ (t : ChainedTree). t.tree.layout) c.self.view_is
+
+pub returns-then-self-eq0-clause-form : goal.returns-then-self-eq0-clause-form
+returns-then-self-eq0-clause-form g c = ap (λ (t : ChainedTree). t.record_bytes) c.self.view_is
+
+pub returns-then-self-eq0-clause-spent : goal.returns-then-self-eq0-clause-spent
+returns-then-self-eq0-clause-spent g c = c.insert.ensures.spent.0
+
+pub returns-then-self-eq0-clause-cause : goal.returns-then-self-eq0-clause-cause
+returns-then-self-eq0-clause-cause g c = c.insert.ensures.cause
+
+-- What a refusal or another answer rules out.
+pub returns-in_err-get-clause-same : goal.returns-in_err-get-clause-same
+returns-in_err-get-clause-same g c =
+    λ no. never_answered c.from_residual.result c.in_err-get.field-0.0 c.from_residual.ensures.1 no
+
+pub returns-in_err-get-clause-layout : goal.returns-in_err-get-clause-layout
+returns-in_err-get-clause-layout g c = refl
+
+pub returns-in_err-get-clause-form : goal.returns-in_err-get-clause-form
+returns-in_err-get-clause-form g c = refl
+
+pub returns-in_err-get-clause-refused : goal.returns-in_err-get-clause-refused
+returns-in_err-get-clause-refused g c =
+    passed c.from_residual.result c.in_err-get.field-0.0 c.from_residual.ensures.1
+    (λ r. OnErr r (c.args.self.now ≡ c.args.self.now)) refl
+
+pub returns-in_err-get-clause-spent : goal.returns-in_err-get-clause-spent
+returns-in_err-get-clause-spent g c =
+    λ is.
+    (c.get.ensures.spent.0 (refused_by_call c.in_err-get.was c.from_residual.ensures.1 is)).0
+
+pub returns-in_err-first-clause-same : goal.returns-in_err-first-clause-same
+returns-in_err-first-clause-same g c =
+    λ no. never_answered c.from_residual-in_err-first.result c.in_err-first.field-0.0
+    c.from_residual-in_err-first.ensures.1 no
+
+pub returns-in_err-first-clause-layout : goal.returns-in_err-first-clause-layout
+returns-in_err-first-clause-layout g c = refl
+
+pub returns-in_err-first-clause-form : goal.returns-in_err-first-clause-form
+returns-in_err-first-clause-form g c = refl
+
+pub returns-in_err-first-clause-refused : goal.returns-in_err-first-clause-refused
+returns-in_err-first-clause-refused g c =
+    passed c.from_residual-in_err-first.result c.in_err-first.field-0.0 c.from_residual-in_err-first.ensures.1
+    (λ r. OnErr r (c.args.self.now ≡ c.args.self.now)) refl
+
+pub returns-in_err-added-clause-same : goal.returns-in_err-added-clause-same
+returns-in_err-added-clause-same g c =
+    λ no. never_answered c.from_residual-in_err-added.result c.in_err-added.field-0.0
+    c.from_residual-in_err-added.ensures.1 no
+
+pub returns-in_err-added-clause-layout : goal.returns-in_err-added-clause-layout
+returns-in_err-added-clause-layout g c =
+    c.insert-2.ensures.layout ∙ ap (λ (t : ChainedTree). t.tree.layout) c.self.view_is
+
+pub returns-in_err-added-clause-form : goal.returns-in_err-added-clause-form
+returns-in_err-added-clause-form g c = ap (λ (t : ChainedTree). t.record_bytes) c.self.view_is
+
+pub returns-in_err-added-clause-cause : goal.returns-in_err-added-clause-cause
+returns-in_err-added-clause-cause g c =
+    passed c.from_residual-in_err-added.result c.in_err-added.field-0.0 c.from_residual-in_err-added.ensures.1
+    (λ r. IfErr r IsInsertRefusal) c.in_err-added.ensures.cause
+
+pub returns-then-is_some-clause-room : goal.returns-then-is_some-clause-room
+returns-then-is_some-clause-room g c = λ honest agrees left right entries is full. never_ok full
+
+pub returns-then-is_some-clause-layout : goal.returns-then-is_some-clause-layout
+returns-then-is_some-clause-layout g c = refl
+
+pub returns-then-is_some-clause-form : goal.returns-then-is_some-clause-form
+returns-then-is_some-clause-form g c = refl
+
+pub returns-then-is_some-clause-spent : goal.returns-then-is_some-clause-spent
+returns-then-is_some-clause-spent g c = λ is. never_ok is
+
+pub returns-then-not-added-clause-same : goal.returns-then-not-added-clause-same
+returns-then-not-added-clause-same g c = λ no. never_err no
+
+pub returns-then-not-added-clause-room : goal.returns-then-not-added-clause-room
+returns-then-not-added-clause-room g c = λ honest agrees left right entries is full. damaged_not_full full
+
+pub returns-then-not-added-clause-layout : goal.returns-then-not-added-clause-layout
+returns-then-not-added-clause-layout g c =
+    c.insert-2.ensures.layout ∙ ap (λ (t : ChainedTree). t.tree.layout) c.self.view_is
+
+pub returns-then-not-added-clause-form : goal.returns-then-not-added-clause-form
+returns-then-not-added-clause-form g c = ap (λ (t : ChainedTree). t.record_bytes) c.self.view_is
+
+pub returns-then-not-added-clause-spent : goal.returns-then-not-added-clause-spent
+returns-then-not-added-clause-spent g c = λ is. damaged_not_spent is
+
+pub returns-clause-same : goal.returns-clause-same
+returns-clause-same g c = λ no. true_not_false no
+
+pub returns-clause-room : goal.returns-clause-room
+returns-clause-room g c = λ honest agrees left right entries is full. never_ok full
+
+pub returns-clause-layout : goal.returns-clause-layout
+returns-clause-layout g c = c.insert-2.ensures.layout ∙ ap (λ (t : ChainedTree). t.tree.layout) c.self.view_is
+
+pub returns-clause-form : goal.returns-clause-form
+returns-clause-form g c = ap (λ (t : ChainedTree). t.record_bytes) c.self.view_is
+
+pub returns-clause-spent : goal.returns-clause-spent
+returns-clause-spent g c = λ is. never_ok is
+
+-- What the calls need.
+pub get-requires : goal.get-requires
+get-requires g c = record { sectors = c.requires.sectors }
+
+pub split_at-requires : goal.split_at-requires
+split_at-requires g c =
+    record_within c.self.inside.record_bytes c.self.inside.tree.layout.value_length
+    (length c.args.value.now) c.if-self-eq0.false (c.requires.value ∙ ap value_length (sym c.self.view_is))
+
+pub new-stored-requires : goal.new-stored-requires
+new-stored-requires g c =
+    rest_few c.self.inside.record_bytes c.self.inside.tree.layout (length c.args.value.now)
+    (length c.split_at.result.1.now) c.if-self-eq0.false c.self.invariant
+    (c.requires.value ∙ ap value_length (sym c.self.view_is)) c.split_at.ensures.back_len
+
+pub insert-requires-clause-sectors : goal.insert-requires-clause-sectors
+insert-requires-clause-sectors g c = c.requires.sectors
+
+pub insert-requires-clause-key : goal.insert-requires-clause-key
+insert-requires-clause-key g c =
+    c.requires.key ∙ ap (λ (t : ChainedTree). t.tree.layout.key_length) (sym c.self.view_is)
+
+pub insert-requires-clause-value : goal.insert-requires-clause-value
+insert-requires-clause-value g c =
+    whole_short c.self.inside.record_bytes c.self.inside.tree.layout.value_length
+    (length c.args.value.now) c.if-self-eq0.true (c.requires.value ∙ ap value_length (sym c.self.view_is))
+
+pub insert-requires-2-clause-sectors : goal.insert-requires-2-clause-sectors
+insert-requires-2-clause-sectors g c =
+    sectors_on c.get.new.pages c.lay.new.pages _ _ c.lay.ensures.keeps.committed.volume refl
+    (sectors_on c.args.pages.now c.get.new.pages _ _ c.get.ensures.unchanged.committed.volume
+    c.get.ensures.only.sectors c.requires.sectors)
+
+pub insert-requires-2-clause-key : goal.insert-requires-2-clause-key
+insert-requires-2-clause-key g c =
+    c.requires.key ∙ ap (λ (t : ChainedTree). t.tree.layout.key_length) (sym c.self.view_is)
+
+pub invariant_of-self : goal.invariant_of-self
+invariant_of-self g c =
+    fits_still c.self.inside.record_bytes c.self.inside.tree.layout c.insert.new.self.layout
+    c.insert.ensures.layout c.self.invariant
+
+pub invariant_of-self-in_err-added : goal.invariant_of-self-in_err-added
+invariant_of-self-in_err-added g c =
+    fits_still c.self.inside.record_bytes c.self.inside.tree.layout c.insert-2.new.self.layout
+    c.insert-2.ensures.layout c.self.invariant
+
+pub invariant_of-self-then-not-added : goal.invariant_of-self-then-not-added
+invariant_of-self-then-not-added g c =
+    fits_still c.self.inside.record_bytes c.self.inside.tree.layout c.insert-2.new.self.layout
+    c.insert-2.ensures.layout c.self.invariant
+
+pub invariant_of-self-2 : goal.invariant_of-self-2
+invariant_of-self-2 g c =
+    fits_still c.self.inside.record_bytes c.self.inside.tree.layout c.insert-2.new.self.layout
+    c.insert-2.ensures.layout c.self.invariant

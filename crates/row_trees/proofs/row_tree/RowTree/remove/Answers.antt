@@ -1,15 +1,21 @@
-use Rattle.std.proofs.Common.{◌≡◌, Ok, Err, refl, sym, ap, ◌∙◌}
+use Rattle.std.proofs.Common.{◌≡◌, ◌+◌, Ok, Err, refl, sym, ap, ◌∙◌}
 use Rattle.std.specs.Prelude.{None, IfErr}
 use Rattle.byteorder.specs.Endian.{big_number}
+use Rattle.pages.specs.Pages.{changed_pages_of}
 use Rattle.pages.specs.declared.error.PagesError.TheVariants.{Device}
 use Rattle.btree.specs.Changes.{pages_of_map}
 use Rattle.btree.specs.Entries.{entry_with}
 use Rattle.btree.specs.Refusals.{IsChangeRefusal}
-use Rattle.btree.proofs.Passing.{passed, never_ok, still_error, few_weaker, search_is_change, damaged_not_device}
+use Rattle.btree.specs.Results.{FewChanged}
+use Rattle.btree.proofs.Passing.{passed, never_ok, never_err, still_error, on_refused, few_weaker, few_equal}
+use Rattle.btree.proofs.Passing.{search_is_change, damaged_not_device, damaged_not_spent, true_not_false, sectors_on}
+use Rattle.chains.specs.Chain.{pages_for}
 use Rattle.row_trees.specs.Calls.{EditsPages}
+use Rattle.row_trees.specs.RowTree.{ChainedTree}
 use Rattle.row_trees.proofs.Among.{chained, viewed, same_chained, stands_among, stored_in}
 use Rattle.row_trees.proofs.Calling.{looks_by, looks_edits, edits_by, edits_where, edits_last, refused_by_call}
-use Rattle.row_trees.proofs.Passing.{on_ok, none_not_some}
+use Rattle.row_trees.proofs.Forms.{fits_still}
+use Rattle.row_trees.proofs.Passing.{on_ok, none_not_some, never_answered}
 use Rattle.row_trees.proofs.Short.{removed_short, none_seen}
 use Rattle.row_trees.proofs.TakenRows.{TakesEntry, read_tells, taken_never, taken_few, removed_on}
 use Rattle.row_trees.proofs.row_tree.RowTree.remove.Given.{Over}
@@ -227,3 +233,220 @@ returns-clause-changed_pages g c =
     taken_few g.D.Device c.remove-2.new.pages c.release.new.pages _
     (looks_by g.D.Device _ _ _ _ _ got.only got.unchanged got.agrees) c.self.view_is
     c.in_ok-removed.ensures.few.changed_pages c.release.ensures.changed_pages
+
+-- What else the call on the tree answers, where it has its records itself.
+pub returns-then-self-eq0-clause-edits : goal.returns-then-self-eq0-clause-edits
+returns-then-self-eq0-clause-edits g c = c.remove.ensures.edits
+
+pub returns-then-self-eq0-clause-layout : goal.returns-then-self-eq0-clause-layout
+returns-then-self-eq0-clause-layout g c =
+    c.remove.ensures.layout ∙ ap (λ (t : ChainedTree). t.tree.layout) c.self.view_is
+
+pub returns-then-self-eq0-clause-form : goal.returns-then-self-eq0-clause-form
+returns-then-self-eq0-clause-form g c = ap (λ (t : ChainedTree). t.record_bytes) c.self.view_is
+
+pub returns-then-self-eq0-clause-spent : goal.returns-then-self-eq0-clause-spent
+returns-then-self-eq0-clause-spent g c = λ is. (c.remove.ensures.spent.0 is).0
+
+pub returns-then-self-eq0-clause-cause : goal.returns-then-self-eq0-clause-cause
+returns-then-self-eq0-clause-cause g c = c.remove.ensures.cause
+
+-- What a refusal or another answer rules out.
+pub returns-in_err-entry-clause-removed : goal.returns-in_err-entry-clause-removed
+returns-in_err-entry-clause-removed g c =
+    λ honest agrees left right entries is ok. never_answered c.from_residual.result c.in_err-entry.field-0.0
+    c.from_residual.ensures.1 ok
+
+pub returns-in_err-entry-clause-missing : goal.returns-in_err-entry-clause-missing
+returns-in_err-entry-clause-missing g c =
+    λ honest agrees left right entries is no. never_answered c.from_residual.result c.in_err-entry.field-0.0
+    c.from_residual.ensures.1 no
+
+pub returns-in_err-entry-clause-same : goal.returns-in_err-entry-clause-same
+returns-in_err-entry-clause-same g c =
+    λ no. never_answered c.from_residual.result c.in_err-entry.field-0.0
+    c.from_residual.ensures.1 no
+
+pub returns-in_err-entry-clause-changed_pages : goal.returns-in_err-entry-clause-changed_pages
+returns-in_err-entry-clause-changed_pages g c =
+    λ honest agrees left right entries is. on_refused c.from_residual.result c.in_err-entry.field-0.0
+    c.from_residual.ensures.1
+    (FewChanged (42 + pages_for c.args.self.now.record_bytes) c.args.pages.now c.get.new.pages)
+
+pub returns-in_err-entry-clause-layout : goal.returns-in_err-entry-clause-layout
+returns-in_err-entry-clause-layout g c = refl
+
+pub returns-in_err-entry-clause-form : goal.returns-in_err-entry-clause-form
+returns-in_err-entry-clause-form g c = refl
+
+pub returns-in_err-entry-clause-spent : goal.returns-in_err-entry-clause-spent
+returns-in_err-entry-clause-spent g c =
+    λ is. (c.get.ensures.spent.0
+    (refused_by_call c.in_err-entry.was c.from_residual.ensures.1 is)).0
+
+pub returns-in_err-removed-clause-removed : goal.returns-in_err-removed-clause-removed
+returns-in_err-removed-clause-removed g c =
+    λ honest agrees left right entries is ok.
+    never_answered c.from_residual-in_err-removed.result c.in_err-removed.field-0.0
+    c.from_residual-in_err-removed.ensures.1 ok
+
+pub returns-in_err-removed-clause-missing : goal.returns-in_err-removed-clause-missing
+returns-in_err-removed-clause-missing g c =
+    λ honest agrees left right entries is no.
+    never_answered c.from_residual-in_err-removed.result c.in_err-removed.field-0.0
+    c.from_residual-in_err-removed.ensures.1 no
+
+pub returns-in_err-removed-clause-same : goal.returns-in_err-removed-clause-same
+returns-in_err-removed-clause-same g c =
+    λ no. never_answered c.from_residual-in_err-removed.result c.in_err-removed.field-0.0
+    c.from_residual-in_err-removed.ensures.1 no
+
+pub returns-in_err-removed-clause-changed_pages : goal.returns-in_err-removed-clause-changed_pages
+returns-in_err-removed-clause-changed_pages g c =
+    λ honest agrees left right entries is. on_refused c.from_residual-in_err-removed.result c.in_err-removed.field-0.0
+    c.from_residual-in_err-removed.ensures.1
+    (FewChanged (42 + pages_for c.args.self.now.record_bytes) c.args.pages.now c.remove-2.new.pages)
+
+pub returns-in_err-removed-clause-layout : goal.returns-in_err-removed-clause-layout
+returns-in_err-removed-clause-layout g c =
+    c.remove-2.ensures.layout ∙ ap (λ (t : ChainedTree). t.tree.layout) c.self.view_is
+
+pub returns-in_err-removed-clause-form : goal.returns-in_err-removed-clause-form
+returns-in_err-removed-clause-form g c = ap (λ (t : ChainedTree). t.record_bytes) c.self.view_is
+
+pub returns-in_err-removed-clause-cause : goal.returns-in_err-removed-clause-cause
+returns-in_err-removed-clause-cause g c =
+    passed c.from_residual-in_err-removed.result c.in_err-removed.field-0.0 c.from_residual-in_err-removed.ensures.1
+    (λ r. IfErr r IsChangeRefusal) c.in_err-removed.ensures.cause
+
+pub returns-in_err-release-clause-removed : goal.returns-in_err-release-clause-removed
+returns-in_err-release-clause-removed g c =
+    λ honest agrees left right entries is ok.
+    never_answered c.from_residual-in_err-release.result c.in_err-release.field-0.0
+    c.from_residual-in_err-release.ensures.1 ok
+
+pub returns-in_err-release-clause-missing : goal.returns-in_err-release-clause-missing
+returns-in_err-release-clause-missing g c =
+    λ honest agrees left right entries is no.
+    never_answered c.from_residual-in_err-release.result c.in_err-release.field-0.0
+    c.from_residual-in_err-release.ensures.1 no
+
+pub returns-in_err-release-clause-same : goal.returns-in_err-release-clause-same
+returns-in_err-release-clause-same g c =
+    λ no. never_answered c.from_residual-in_err-release.result c.in_err-release.field-0.0
+    c.from_residual-in_err-release.ensures.1 no
+
+pub returns-in_err-release-clause-changed_pages : goal.returns-in_err-release-clause-changed_pages
+returns-in_err-release-clause-changed_pages g c =
+    λ honest agrees left right entries is. on_refused c.from_residual-in_err-release.result c.in_err-release.field-0.0
+    c.from_residual-in_err-release.ensures.1
+    (FewChanged (42 + pages_for c.args.self.now.record_bytes) c.args.pages.now c.release.new.pages)
+
+pub returns-in_err-release-clause-layout : goal.returns-in_err-release-clause-layout
+returns-in_err-release-clause-layout g c =
+    c.remove-2.ensures.layout ∙ ap (λ (t : ChainedTree). t.tree.layout) c.self.view_is
+
+pub returns-in_err-release-clause-form : goal.returns-in_err-release-clause-form
+returns-in_err-release-clause-form g c = ap (λ (t : ChainedTree). t.record_bytes) c.self.view_is
+
+pub returns-in_err-release-clause-cause : goal.returns-in_err-release-clause-cause
+returns-in_err-release-clause-cause g c =
+    passed c.from_residual-in_err-release.result c.in_err-release.field-0.0 c.from_residual-in_err-release.ensures.1
+    (λ r. IfErr r IsChangeRefusal) c.in_err-release.ensures.cause
+
+pub returns-in-None-clause-removed : goal.returns-in-None-clause-removed
+returns-in-None-clause-removed g c = λ honest agrees left right entries is ok. true_not_false (sym ok)
+
+pub returns-in-None-clause-damaged : goal.returns-in-None-clause-damaged
+returns-in-None-clause-damaged g c = λ honest agrees left right entries is told. never_ok told
+
+pub returns-in-None-clause-changed_pages : goal.returns-in-None-clause-changed_pages
+returns-in-None-clause-changed_pages g c =
+    λ honest agrees left right entries is.
+    few_equal (changed_pages_of c.args.pages.now) (changed_pages_of c.get.new.pages) _
+    c.get.ensures.unchanged.changed_pages
+
+pub returns-in-None-clause-layout : goal.returns-in-None-clause-layout
+returns-in-None-clause-layout g c = refl
+
+pub returns-in-None-clause-form : goal.returns-in-None-clause-form
+returns-in-None-clause-form g c = refl
+
+pub returns-in-None-clause-spent : goal.returns-in-None-clause-spent
+returns-in-None-clause-spent g c = λ is. never_ok is
+
+pub returns-then-not-removed-clause-removed : goal.returns-then-not-removed-clause-removed
+returns-then-not-removed-clause-removed g c = λ honest agrees left right entries is ok. never_err ok
+
+pub returns-then-not-removed-clause-missing : goal.returns-then-not-removed-clause-missing
+returns-then-not-removed-clause-missing g c = λ honest agrees left right entries is no. never_err no
+
+pub returns-then-not-removed-clause-same : goal.returns-then-not-removed-clause-same
+returns-then-not-removed-clause-same g c = λ no. never_err no
+
+pub returns-then-not-removed-clause-layout : goal.returns-then-not-removed-clause-layout
+returns-then-not-removed-clause-layout g c =
+    c.remove-2.ensures.layout ∙ ap (λ (t : ChainedTree). t.tree.layout) c.self.view_is
+
+pub returns-then-not-removed-clause-form : goal.returns-then-not-removed-clause-form
+returns-then-not-removed-clause-form g c = ap (λ (t : ChainedTree). t.record_bytes) c.self.view_is
+
+pub returns-then-not-removed-clause-spent : goal.returns-then-not-removed-clause-spent
+returns-then-not-removed-clause-spent g c = λ is. damaged_not_spent is
+
+pub returns-clause-damaged : goal.returns-clause-damaged
+returns-clause-damaged g c = λ honest agrees left right entries is told. never_ok told
+
+pub returns-clause-layout : goal.returns-clause-layout
+returns-clause-layout g c = c.remove-2.ensures.layout ∙ ap (λ (t : ChainedTree). t.tree.layout) c.self.view_is
+
+pub returns-clause-form : goal.returns-clause-form
+returns-clause-form g c = ap (λ (t : ChainedTree). t.record_bytes) c.self.view_is
+
+pub returns-clause-spent : goal.returns-clause-spent
+returns-clause-spent g c = λ is. never_ok is
+
+-- What the calls need.
+pub remove-requires : goal.remove-requires
+remove-requires g c = record { sectors = c.requires.sectors }
+
+pub get-requires : goal.get-requires
+get-requires g c = record { sectors = c.requires.sectors }
+
+pub remove-requires-2 : goal.remove-requires-2
+remove-requires-2 g c = record {
+  sectors = sectors_on c.args.pages.now c.get.new.pages _ _ c.get.ensures.unchanged.committed.volume
+      c.get.ensures.only.sectors c.requires.sectors;
+}
+
+pub release-requires : goal.release-requires
+release-requires g c = record {
+  sectors = sectors_on c.get.new.pages c.remove-2.new.pages _ _ c.remove-2.ensures.edits.committed.volume
+      c.remove-2.ensures.edits.only.sectors (sectors_on c.args.pages.now c.get.new.pages _ _
+      c.get.ensures.unchanged.committed.volume c.get.ensures.only.sectors c.requires.sectors);
+}
+
+pub invariant_of-self : goal.invariant_of-self
+invariant_of-self g c =
+    fits_still c.self.inside.record_bytes c.self.inside.tree.layout c.remove.new.self.layout
+    c.remove.ensures.layout c.self.invariant
+
+pub invariant_of-self-in_err-removed : goal.invariant_of-self-in_err-removed
+invariant_of-self-in_err-removed g c =
+    fits_still c.self.inside.record_bytes c.self.inside.tree.layout c.remove-2.new.self.layout
+    c.remove-2.ensures.layout c.self.invariant
+
+pub invariant_of-self-then-not-removed : goal.invariant_of-self-then-not-removed
+invariant_of-self-then-not-removed g c =
+    fits_still c.self.inside.record_bytes c.self.inside.tree.layout c.remove-2.new.self.layout
+    c.remove-2.ensures.layout c.self.invariant
+
+pub invariant_of-self-in_err-release : goal.invariant_of-self-in_err-release
+invariant_of-self-in_err-release g c =
+    fits_still c.self.inside.record_bytes c.self.inside.tree.layout c.remove-2.new.self.layout
+    c.remove-2.ensures.layout c.self.invariant
+
+pub invariant_of-self-2 : goal.invariant_of-self-2
+invariant_of-self-2 g c =
+    fits_still c.self.inside.record_bytes c.self.inside.tree.layout c.remove-2.new.self.layout
+    c.remove-2.ensures.layout c.self.invariant

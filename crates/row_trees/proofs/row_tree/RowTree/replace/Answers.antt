@@ -1,4 +1,4 @@
-use Rattle.std.proofs.Common.{◌≡◌, ◌++◌, Ok, Err, List, ℕ, length, sym, ap, subst, ◌∙◌, arith}
+use Rattle.std.proofs.Common.{◌≡◌, ◌++◌, Ok, Err, List, ℕ, length, refl, sym, ap, subst, ◌∙◌, arith}
 use Rattle.std.specs.Prelude.{IsSome, IfErr}
 use Rattle.std.proofs.lemmas.Bool.Decides.{Decides-eqb}
 use Rattle.std.proofs.lemmas.Slice.Eq.{slice_eq-Decides}
@@ -8,20 +8,21 @@ use Rattle.pages.specs.declared.error.PagesError.TheVariants.{Device}
 use Rattle.btree.specs.Changes.{pages_of_map}
 use Rattle.btree.specs.Entries.{entry_with, with_value}
 use Rattle.btree.specs.Refusals.{IsChangeRefusal}
+use Rattle.btree.specs.Rooted.{RootedTree}
 use Rattle.btree.proofs.Passing.{passed, never_ok, still_error, few_weaker, few_equal, search_is_change}
-use Rattle.btree.proofs.Passing.{damaged_not_device, damaged_not_spent, never_err, true_not_false}
+use Rattle.btree.proofs.Passing.{damaged_not_device, damaged_not_spent, never_err, true_not_false, sectors_on}
 use Rattle.row_trees.specs.Calls.{EditsPages}
-use Rattle.row_trees.specs.RowTree.{ChainedTree, IsRowTreeAmong}
+use Rattle.row_trees.specs.RowTree.{ChainedTree, IsRowTreeAmong, value_length}
 use Rattle.row_trees.proofs.Among.{chained, viewed, same_chained, stands_among}
 use Rattle.row_trees.proofs.Calling.{looks_by, looks_edits, edits_by, edits_where, edits_last, refused_by_call}
-use Rattle.row_trees.proofs.Forms.{pair, rest_is}
+use Rattle.row_trees.proofs.Forms.{pair, rest_is, whole_short, record_within, rest_few, fits_still}
 use Rattle.row_trees.proofs.Passing.{few_laid, few_added, never_answered}
 use Rattle.row_trees.proofs.RewrittenRows.{RewritesFound, rewrite_never, written_never, written_there}
 use Rattle.row_trees.proofs.RewrittenRows.{unwritten_on, replaced_on}
 use Rattle.row_trees.proofs.Short.{replaced_short, none_seen}
 use Rattle.row_trees.proofs.row_tree.RowTree.replace.Given.{Over}
 use Rattle.row_trees.proofs.row_tree.RowTree.replace.Goals as goal
-use Rattle.row_trees.proofs.row_tree.RowTree.replace.Goals.{After-eq-is_same}
+use Rattle.row_trees.proofs.row_tree.RowTree.replace.Goals.{In_ok-rewrite}
 
 -- The tree has its records itself, or no search succeeded, or there is no such row.
 pub returns-then-self-eq0-clause-missing : goal.returns-then-self-eq0-clause-missing
@@ -154,7 +155,7 @@ returns-in_err-rewrite-clause-spent g c = λ is.
     ∙ (c.rewrite.ensures.spent.0 (refused_by_call c.in_err-rewrite.was c.from_residual-in_err-rewrite.ensures.1 is)).0
 
 -- What follows the record is the same.
-writes : (g : Over) (c : After-eq-is_same g) → RewritesFound g.D.Device (c.get.result ≡ Err Device)
+writes : (g : Over) (c : In_ok-rewrite g) → RewritesFound g.D.Device (c.get.result ≡ Err Device)
     (c.rewrite.result ≡ Err Device) c.args.pages.now c.get.new.pages c.rewrite.new.pages c.args.device.now
     c.get.new.device c.rewrite.new.device (chained c.self.inside.tree c.self.inside.record_bytes) c.args.key.now
     c.split_at.result.0.now c.in-Some.entry c.first_page-first.result
@@ -181,7 +182,7 @@ returns-then-is_same-clause-edits g c =
 pub returns-then-is_same-clause-replaced : goal.returns-then-is_same-clause-replaced
 returns-then-is_same-clause-replaced g c =
     let same = (slice_eq-Decides Decides-eqb _ _ _ c.eq-is_same.ensures).0 c.if-is_same.true in
-    unwritten_on g.D.Device (writes g (goal.at.returns-then-is_same-clause-replaced g c).After-eq-is_same)
+    unwritten_on g.D.Device (writes g (goal.at.returns-then-is_same-clause-replaced g c).In_ok-rewrite)
     c.self.view_is
     (ap (λ (l : List ℕ). c.split_at.result.0.now ++ l)
     (rest_is c.value-2.result.now c.in-Some.entry.value _ same c.value-2.ensures) ∙ sym c.split_at.ensures.by_index.0)
@@ -209,7 +210,7 @@ returns-in_err-replaced-clause-edits g c =
 
 pub returns-in_err-replaced-clause-damaged : goal.returns-in_err-replaced-clause-damaged
 returns-in_err-replaced-clause-damaged g c =
-    written_never g.D.Device (writes g (goal.at.returns-in_err-replaced-clause-damaged g c).After-eq-is_same)
+    written_never g.D.Device (writes g (goal.at.returns-in_err-replaced-clause-damaged g c).In_ok-rewrite)
     c.self.view_is
     c.replace-2.ensures.damaged (refused_by_call c.in_err-replaced.was c.from_residual-in_err-replaced.ensures.1)
 
@@ -243,7 +244,7 @@ returns-then-not-replaced-clause-edits g c =
 
 pub returns-then-not-replaced-clause-damaged : goal.returns-then-not-replaced-clause-damaged
 returns-then-not-replaced-clause-damaged g c = λ honest agrees left right entries is told.
-    written_there g.D.Device (writes g (goal.at.returns-then-not-replaced-clause-damaged g c).After-eq-is_same)
+    written_there g.D.Device (writes g (goal.at.returns-then-not-replaced-clause-damaged g c).In_ok-rewrite)
     c.self.view_is
     (λ h a levels tree.
     c.replace-2.ensures.missing h a levels tree (c.in_ok-replaced.was ∙ ap Ok c.if-not-replaced.true))
@@ -276,7 +277,7 @@ returns-clause-edits g c =
 pub returns-clause-replaced : goal.returns-clause-replaced
 returns-clause-replaced g c =
     let done = c.in_ok-replaced.was ∙ ap Ok c.if-not-replaced.false in
-    replaced_on g.D.Device c.replace-2.new.pages (writes g (goal.at.returns-clause-replaced g c).After-eq-is_same)
+    replaced_on g.D.Device c.replace-2.new.pages (writes g (goal.at.returns-clause-replaced g c).In_ok-rewrite)
     c.self.view_is
     (λ h a levels tree. (c.replace-2.ensures.replaced h a levels tree done).1) (c.bytes.ensures ∙ c.new-stored.ensures)
     (omega arith) (sym c.split_at.ensures.by_index.0)
@@ -419,3 +420,71 @@ returns-then-self-eq0-clause-spent g c = λ is. (c.replace.ensures.spent.0 is).0
 
 pub returns-then-self-eq0-clause-cause : goal.returns-then-self-eq0-clause-cause
 returns-then-self-eq0-clause-cause g c = c.replace.ensures.cause
+
+-- What the calls need.
+pub get-requires : goal.get-requires
+get-requires g c = record { sectors = c.requires.sectors }
+
+pub split_at-requires : goal.split_at-requires
+split_at-requires g c =
+    record_within c.self.inside.record_bytes c.self.inside.tree.layout.value_length
+    (length c.args.value.now) c.if-self-eq0.false (c.requires.value ∙ ap value_length (sym c.self.view_is))
+
+pub new-stored-requires : goal.new-stored-requires
+new-stored-requires g c =
+    rest_few c.self.inside.record_bytes c.self.inside.tree.layout (length c.args.value.now)
+    (length c.split_at.result.1.now) c.if-self-eq0.false c.self.invariant
+    (c.requires.value ∙ ap value_length (sym c.self.view_is)) c.split_at.ensures.back_len
+
+pub replace-requires-clause-sectors : goal.replace-requires-clause-sectors
+replace-requires-clause-sectors g c = c.requires.sectors
+
+pub replace-requires-clause-value : goal.replace-requires-clause-value
+replace-requires-clause-value g c =
+    whole_short c.self.inside.record_bytes c.self.inside.tree.layout.value_length
+    (length c.args.value.now) c.if-self-eq0.true (c.requires.value ∙ ap value_length (sym c.self.view_is))
+
+pub rewrite-requires : goal.rewrite-requires
+rewrite-requires g c = record {
+  sectors = sectors_on c.args.pages.now c.get.new.pages _ _ c.get.ensures.unchanged.committed.volume
+      c.get.ensures.only.sectors c.requires.sectors;
+}
+
+pub replace-requires-2-clause-sectors : goal.replace-requires-2-clause-sectors
+replace-requires-2-clause-sectors g c =
+    sectors_on c.get.new.pages c.rewrite.new.pages _ _ c.rewrite.ensures.committed.volume
+    c.rewrite.ensures.only.sectors (sectors_on c.args.pages.now c.get.new.pages _ _
+    c.get.ensures.unchanged.committed.volume c.get.ensures.only.sectors c.requires.sectors)
+
+pub invariant_of-self : goal.invariant_of-self
+invariant_of-self g c =
+    fits_still c.self.inside.record_bytes c.self.inside.tree.layout c.replace.new.self.layout
+    (ap (λ (t : RootedTree). t.layout) c.replace.ensures.tree) c.self.invariant
+
+pub invariant_of-self-in_err-replaced : goal.invariant_of-self-in_err-replaced
+invariant_of-self-in_err-replaced g c =
+    fits_still c.self.inside.record_bytes c.self.inside.tree.layout c.replace-2.new.self.layout
+    (ap (λ (t : RootedTree). t.layout) c.replace-2.ensures.tree) c.self.invariant
+
+pub invariant_of-self-then-not-replaced : goal.invariant_of-self-then-not-replaced
+invariant_of-self-then-not-replaced g c =
+    fits_still c.self.inside.record_bytes c.self.inside.tree.layout c.replace-2.new.self.layout
+    (ap (λ (t : RootedTree). t.layout) c.replace-2.ensures.tree) c.self.invariant
+
+pub invariant_of-self-2 : goal.invariant_of-self-2
+invariant_of-self-2 g c =
+    fits_still c.self.inside.record_bytes c.self.inside.tree.layout c.replace-2.new.self.layout
+    (ap (λ (t : RootedTree). t.layout) c.replace-2.ensures.tree) c.self.invariant
+
+-- Nothing was done to the tree.
+pub returns-in_err-entry-clause-tree : goal.returns-in_err-entry-clause-tree
+returns-in_err-entry-clause-tree g c = refl
+
+pub returns-in-None-clause-tree : goal.returns-in-None-clause-tree
+returns-in-None-clause-tree g c = refl
+
+pub returns-in_err-rewrite-clause-tree : goal.returns-in_err-rewrite-clause-tree
+returns-in_err-rewrite-clause-tree g c = refl
+
+pub returns-then-is_same-clause-tree : goal.returns-then-is_same-clause-tree
+returns-then-is_same-clause-tree g c = refl
