@@ -1,10 +1,15 @@
 -- The turn of an alternate key, while the pairs of a row move.
-use Rattle.std.proofs.Common.{◌≡◌, ◌<◌, ◌+◌, ◌++◌, Bool, true, ℕ, List, [], ◌∷◌, length, drop, refl, sym, ap, subst}
-use Rattle.std.proofs.Common.{◌∙◌, arith}
-use Rattle.std.specs.Prelude.{Option, slice_index_or, if◌then◌else◌}
+use Rattle.std.proofs.Common.{◌≡◌, ◌<◌, ◌+◌, ◌++◌, Bool, true, false, ℕ, List, [], ◌∷◌, length, drop, refl, sym, ap}
+use Rattle.std.proofs.Common.{subst, ◌∙◌, arith}
+use Rattle.std.specs.Prelude.{Option, Result, Ok, Err, OnOk, IsOkUnless, slice_index_or, if◌then◌else◌}
+use Rattle.std.specs.Result.{IsErrAnd}
 use Rattle.station.specs.Disk.{Sector}
+use Rattle.pages.specs.declared.page_map.PageMap.{PageMap}
+use Rattle.btree.specs.Results.{FewChanged}
 use Rattle.btree.specs.Rooted.{RootedTree}
 use Rattle.btree.specs.Entries.{Entry, with_new_entry, without_entry}
+use Rattle.records.specs.declared.fault.StoreFault.{StoreFault}
+use Rattle.records.specs.declared.fault.StoreFault.TheVariants.{Memory}
 use Rattle.records.specs.declared.key.KeyOfReference.TheVariants.{Alternate}
 use Rattle.records.specs.Spec.{Spec}
 use Rattle.records.specs.Files.{File}
@@ -17,6 +22,7 @@ use Rattle.alternate_keys.specs.declared.row_verb.RowVerb.TheVariants.{Replace}
 use Rattle.alternate_keys.specs.Moved.{pair_entry, old_key, changes_at, entries_after, MayMove, PairsMove, PairsMayMove}
 use Rattle.alternate_keys.specs.Placed.{HasIndexes, HaveBecome, listed_tree}
 use Rattle.alternate_keys.proofs.Keeping.{same_tree}
+use Rattle.alternate_keys.proofs.Passing.{passed}
 use Rattle.alternate_keys.proofs.Pairing.{stands_next, become_next, entries_ascend}
 use Rattle.alternate_keys.proofs.Walks.{drop_none}
 
@@ -64,6 +70,31 @@ entries_replaced verb spec i old bytes arrival entries is change =
     with_new_entry (without_entry entries (old_key spec i old)) (pair_entry spec i bytes arrival) in
     ap (λ (v : RowVerb). entries_after v spec i old bytes arrival entries) is
     ∙ ap (λ (b : Bool). if b then later else entries) change
+
+-- and those after it got one with the same value
+pub entries_still : (verb : RowVerb) (spec : Spec) (i : ℕ) (old bytes : List ℕ) (arrival : ℕ) (entries : List Entry)
+    → verb ≡ Replace → changes_at spec i old bytes ≡ false
+    → entries_after verb spec i old bytes arrival entries ≡ entries
+entries_still verb spec i old bytes arrival entries is change =
+    let later : List Entry =
+    with_new_entry (without_entry entries (old_key spec i old)) (pair_entry spec i bytes arrival) in
+    ap (λ (v : RowVerb). entries_after v spec i old bytes arrival entries) is
+    ∙ ap (λ (b : Bool). if b then later else entries) change
+
+-- a refusal for want of memory
+pub refused_for_memory : {T : Type 0} (r : Result T StoreFault) → IsErrAnd r (λ e. e ≡ Memory) → IsOkUnless r Memory
+refused_for_memory r is = passed r Memory is (λ q. IsOkUnless q Memory) refl
+
+-- how many pages a pair changes that comes or leaves, and one that does both
+pub few_for_one : {T E : Type 0} (r : Result T E) (old new : PageMap) → OnOk r (FewChanged 42 old new)
+    → OnOk r (FewChanged 84 old new)
+few_for_one (Ok x) old new few = omega (arith, few)
+few_for_one (Err e) old new few = tt
+
+pub few_given : {T E : Type 0} (r : Result T E) (old mid new : PageMap) → FewChanged 42 old mid
+    → FewChanged 42 mid new → OnOk r (FewChanged 84 old new)
+few_given (Ok x) old mid new first second = omega (arith, first, second)
+few_given (Err e) old mid new first second = tt
 
 module _ {held after : File} {before here : List (Option Sector)} {left right trees : List TreeLevels}
     {listing : List ℕ} {i : ℕ} {roots : List ℕ} {tree : RootedTree}

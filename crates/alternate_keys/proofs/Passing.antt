@@ -13,6 +13,7 @@ use Rattle.records.specs.declared.fault.StoreFault.TheVariants.{Device, Full, Da
 use Rattle.volume_format.specs.Faults.{fault_of}
 use Rattle.alternate_keys.specs.Faults.{IsReadFault, IsWriteFault}
 pub use Rattle.btree.proofs.Passing.{passed, never_ok, same_error, still_error, committed_on, reads_where}
+pub use Rattle.btree.proofs.Passing.{if_refused, on_refused}
 
 -- an answer is one thing
 pub none_or_some : {T A : Type 0} {o : Option T} → o ≡ None → IsSome o → A

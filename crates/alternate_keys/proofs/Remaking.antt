@@ -29,6 +29,7 @@ use Rattle.pages.proofs.One.{one_map}
 use Rattle.btree_pages.specs.declared.row_layout.RowLayout.{RowLayout}
 use Rattle.btree.specs.Builds.{Builds}
 use Rattle.btree.specs.Entries.{entries_of_rows}
+use Rattle.btree.specs.Refusals.{IsWriteRefusal}
 use Rattle.records.specs.declared.fault.StoreFault.{StoreFault}
 use Rattle.records.specs.declared.fault.StoreFault.TheVariants.{Device, Full, Damaged, Memory, Spent, Layout, Old}
 use Rattle.records.specs.Files.{Files}
@@ -37,6 +38,7 @@ use Rattle.volume_format.specs.Catalog.{catalog_layout}
 use Rattle.volume_format.specs.Faults.{fault_of}
 use Rattle.volume_format.specs.Forest.{IsForest}
 use Rattle.volume_format.specs.Volume.{Holds, MapHolds, catalog_entry, trees_of}
+use Rattle.volume_format.proofs.Faults.{damaged_back, device_back}
 use Rattle.row_trees.specs.Calls.{EditsPages}
 use Rattle.alternate_keys.specs.Created.{Prepares}
 use Rattle.alternate_keys.specs.Faults.{IsWriteFault}
@@ -185,6 +187,27 @@ open_not_full image pages.Damaged is full = cc
 open_not_full image pages.Memory is full = cc
 open_not_full image pages.Spent is full = is
 open_not_full image pages.ForeignMark is full = cc
+
+-- why a new tree isn't built
+pub build_writes : (error : PagesError) (fault : StoreFault) → IsWriteRefusal error → fault ≡ fault_of error
+    → IsWriteFault fault
+build_writes error fault why is = subst IsWriteFault (sym is) (fault_of_build error why)
+  where
+    fault_of_build : (error : PagesError) → IsWriteRefusal error → IsWriteFault (fault_of error)
+    fault_of_build pages.Device why = tt
+    fault_of_build pages.Full why = tt
+    fault_of_build pages.Damaged why = tt
+    fault_of_build pages.Memory why = tt
+    fault_of_build pages.Spent why = tt
+    fault_of_build pages.ForeignMark why = why
+
+pub build_not_device : (error : PagesError) (fault : StoreFault) → IsWriteRefusal error → fault ≡ fault_of error
+    → fault ≡ Device → ⊥
+build_not_device error fault why is told = subst IsWriteRefusal (device_back error (sym is ∙ told)) why
+
+pub build_not_damaged : (error : PagesError) (fault : StoreFault) → IsWriteRefusal error → fault ≡ fault_of error
+    → fault ≡ Damaged → ⊥
+build_not_damaged error fault why is told = subst IsWriteRefusal (damaged_back error (sym is ∙ told)) why
 
 -- the mark of the last commit is the first one
 first_mark : (p : PageMap) (image : List Sector) → map_now p image ≡ map_of image (committed_of p) → mark_of p ≡ 0

@@ -198,21 +198,14 @@ fn move_pair<D: Device>(
         bytes: row_move.bytes,
     };
     match row_move.verb {
-        RowVerb::Insert => {
-            give_pair(alloc, tree, pages, device, file, pair)?;
-            Ok(())
-        }
-        RowVerb::Remove => {
-            take_pair(alloc, tree, pages, device, file, key, row_move.old_value)?;
-            Ok(())
-        }
+        RowVerb::Insert => give_pair(alloc, tree, pages, device, file, pair),
+        RowVerb::Remove => take_pair(alloc, tree, pages, device, file, key, row_move.old_value),
         RowVerb::Replace => {
             if !is_changed(file, key, row_move.old_value, row_move.bytes) {
                 return Ok(());
             }
             take_pair(alloc, tree, pages, device, file, key, row_move.old_value)?;
-            give_pair(alloc, tree, pages, device, file, pair)?;
-            Ok(())
+            give_pair(alloc, tree, pages, device, file, pair)
         }
     }
 }

@@ -1,15 +1,22 @@
-use Rattle.std.proofs.Common.{◌≡◌, ◌<◌, ◌+◌, ◌*◌, ◌%◌, ◌^◌, true, Err, ℕ, List, length, sym, ap, subst, ◌∙◌, arith}
-use Rattle.std.specs.Prelude.{drop, IfErr}
+use Rattle.std.proofs.Common.{◌≡◌, ◌<◌, ◌≤◌, ◌+◌, ◌*◌, ◌%◌, ◌^◌, true, Err, ℕ, List, length, refl, sym, ap}
+use Rattle.std.proofs.Common.{◌&&◌, nat_le, subst, ◌∙◌, arith}
+use Rattle.std.proofs.lemmas.Bool.{leb-true}
+use Rattle.std.specs.Prelude.{drop, Option, IfErr, IfSome}
 use Rattle.byteorder.specs.Endian.{big_number}
 use Rattle.pages.specs.Layout.{version_of}
-use Rattle.pages.specs.Pages.{mark_of}
+use Rattle.pages.specs.Pages.{mark_of, changed_pages_of}
+use Rattle.btree.specs.Entries.{Entry}
 use Rattle.btree.proofs.Frames.{unchanged_on}
+use Rattle.btree.proofs.Passing.{if_refused, on_refused, few_equal, never_true}
 use Rattle.records.specs.declared.fault.StoreFault.TheVariants.{Device}
+use Rattle.records.proofs.Places.{both}
+use Rattle.records.specs.Spec.{is_name}
 use Rattle.records.specs.Files.{File, Files, NamedFile}
 use Rattle.chains.specs.Chain.{pages_for}
 use Rattle.volume_format.specs.Chained.{chained_bytes}
 use Rattle.records.specs.Stores.{spec_of, is_change}
 use Rattle.volume_format.specs.Calls.{LooksAt}
+use Rattle.volume_format.specs.Catalog.{value_length}
 use Rattle.volume_format.specs.Forest.{TreeLevels}
 use Rattle.row_trees.specs.Calls.{EditsPages}
 use Rattle.alternate_keys.specs.Moved.{changed_by}
@@ -262,6 +269,39 @@ returns-in_err-entry-clause-room g c =
     λ honest agrees files held holds has is. absurd (never_full c.find_listing.result c.find_listing.ensures.cause
     (refused_by_call c.in_err-entry.was c.from_residual.ensures.1 is))
 
+pub find_listing-requires-clause-name : goal.find_listing-requires-clause-name
+find_listing-requires-clause-name g c = ap is_name c.deref.ensures.value ∙ c.args.file.now.named
+
+pub stored_rows-requires : goal.stored_rows-requires
+stored_rows-requires g c =
+    let long = subst (λ (o : Option Entry).
+    IfSome o (λ e. (length e.value ≡ value_length (mark_of c.args.pages.now)) × (83 ≤ length e.value)))
+    c.in-Some.is c.in_ok-entry.ensures.long in
+    ap (λ (l : List ℕ). length l) c.value.ensures ∙ long.0
+    ∙ ap value_length (sym (c.mark.ensures.is ∙ c.find_listing.ensures.unchanged.committed.mark))
+
+pub listing_part-requires : goal.listing_part-requires
+listing_part-requires g c =
+    let long = subst (λ (o : Option Entry).
+    IfSome o (λ e. (length e.value ≡ value_length (mark_of c.args.pages.now)) × (83 ≤ length e.value)))
+    c.in-Some.is c.in_ok-entry.ensures.long in
+    long.1
+
+-- a name is short
+name_fits : (name : List ℕ) → is_name name ≡ true → length name ≤ 30
+name_fits name is = leb-true (length name) 30
+    (both (nat_le 1 (length name)) _ (both (nat_le 1 (length name) && nat_le (length name) 30) _ is).0).1
+
+pub replace_listing-requires-clause-name : goal.replace_listing-requires-clause-name
+replace_listing-requires-clause-name g c =
+    subst (λ (l : List ℕ). length l ≤ 30) (sym c.deref-2.ensures.value)
+    (name_fits c.args.file.now.name.items c.args.file.now.named)
+
+pub replace_listing-requires-clause-listing : goal.replace_listing-requires-clause-listing
+replace_listing-requires-clause-listing g c =
+    ap (λ (l : List ℕ). length l) c.deref-3.ensures.value
+    ∙ c.in_ok-turn.ensures.long (sym c.is_done.ensures ∙ c.if-not-is_done.false)
+
 pub change_trees-requires-clause-sectors : goal.change_trees-requires-clause-sectors
 change_trees-requires-clause-sectors g c =
     sectors_still g.D.Device _ c.args.pages.now c.find_listing.new.pages c.args.device.now c.find_listing.new.device
@@ -311,3 +351,100 @@ returns-then-not-is_done-clause-spent g c = λ is. never_ok is
 
 pub returns-clause-spent : goal.returns-clause-spent
 returns-clause-spent g c = λ is. never_ok is
+
+pub returns-in_err-entry-clause-outcome : goal.returns-in_err-entry-clause-outcome
+returns-in_err-entry-clause-outcome g c = λ honest agrees files held holds has.
+    if_refused c.from_residual.result c.in_err-entry.field-0.0 c.from_residual.ensures.1 _
+
+pub returns-in_err-entry-clause-will : goal.returns-in_err-entry-clause-will
+returns-in_err-entry-clause-will g c = λ honest agrees files held holds has.
+    if_refused c.from_residual.result c.in_err-entry.field-0.0 c.from_residual.ensures.1 _
+
+pub returns-in_err-entry-clause-few : goal.returns-in_err-entry-clause-few
+returns-in_err-entry-clause-few g c = λ honest agrees files held holds has.
+    on_refused c.from_residual.result c.in_err-entry.field-0.0 c.from_residual.ensures.1 _
+
+pub returns-in_err-entry-clause-same : goal.returns-in_err-entry-clause-same
+returns-in_err-entry-clause-same g c =
+    if_refused c.from_residual.result c.in_err-entry.field-0.0 c.from_residual.ensures.1 _
+
+pub returns-in_err-turn-clause-outcome : goal.returns-in_err-turn-clause-outcome
+returns-in_err-turn-clause-outcome g c = λ honest agrees files held holds has.
+    if_refused c.from_residual-in_err-turn.result c.in_err-turn.field-0.0 c.from_residual-in_err-turn.ensures.1 _
+
+pub returns-in_err-turn-clause-will : goal.returns-in_err-turn-clause-will
+returns-in_err-turn-clause-will g c = λ honest agrees files held holds has.
+    if_refused c.from_residual-in_err-turn.result c.in_err-turn.field-0.0 c.from_residual-in_err-turn.ensures.1 _
+
+pub returns-in_err-turn-clause-few : goal.returns-in_err-turn-clause-few
+returns-in_err-turn-clause-few g c = λ honest agrees files held holds has.
+    on_refused c.from_residual-in_err-turn.result c.in_err-turn.field-0.0 c.from_residual-in_err-turn.ensures.1 _
+
+pub returns-in_err-turn-clause-same : goal.returns-in_err-turn-clause-same
+returns-in_err-turn-clause-same g c =
+    if_refused c.from_residual-in_err-turn.result c.in_err-turn.field-0.0 c.from_residual-in_err-turn.ensures.1 _
+
+pub returns-in_err-replace_listing-clause-outcome : goal.returns-in_err-replace_listing-clause-outcome
+returns-in_err-replace_listing-clause-outcome g c = λ honest agrees files held holds has.
+    if_refused c.from_residual-in_err-replace_listing.result c.in_err-replace_listing.field-0.0
+    c.from_residual-in_err-replace_listing.ensures.1 _
+
+pub returns-in_err-replace_listing-clause-will : goal.returns-in_err-replace_listing-clause-will
+returns-in_err-replace_listing-clause-will g c = λ honest agrees files held holds has.
+    if_refused c.from_residual-in_err-replace_listing.result c.in_err-replace_listing.field-0.0
+    c.from_residual-in_err-replace_listing.ensures.1 _
+
+pub returns-in_err-replace_listing-clause-few : goal.returns-in_err-replace_listing-clause-few
+returns-in_err-replace_listing-clause-few g c = λ honest agrees files held holds has.
+    on_refused c.from_residual-in_err-replace_listing.result c.in_err-replace_listing.field-0.0
+    c.from_residual-in_err-replace_listing.ensures.1 _
+
+pub returns-in_err-replace_listing-clause-same : goal.returns-in_err-replace_listing-clause-same
+returns-in_err-replace_listing-clause-same g c =
+    if_refused c.from_residual-in_err-replace_listing.result c.in_err-replace_listing.field-0.0
+    c.from_residual-in_err-replace_listing.ensures.1 _
+
+pub returns-in-None-clause-room : goal.returns-in-None-clause-room
+returns-in-None-clause-room g c = λ honest agrees files held holds has is. never_ok is
+
+pub returns-in-None-clause-full : goal.returns-in-None-clause-full
+returns-in-None-clause-full g c = λ honest agrees files held holds has is. never_ok is
+
+pub returns-in-None-clause-damaged : goal.returns-in-None-clause-damaged
+returns-in-None-clause-damaged g c = λ honest agrees files held holds has is. never_ok is
+
+pub returns-then-not-is_done-clause-room : goal.returns-then-not-is_done-clause-room
+returns-then-not-is_done-clause-room g c = λ honest agrees files held holds has is. never_ok is
+
+pub returns-then-not-is_done-clause-full : goal.returns-then-not-is_done-clause-full
+returns-then-not-is_done-clause-full g c = λ honest agrees files held holds has is. never_ok is
+
+pub returns-then-not-is_done-clause-damaged : goal.returns-then-not-is_done-clause-damaged
+returns-then-not-is_done-clause-damaged g c = λ honest agrees files held holds has is. never_ok is
+
+pub returns-clause-room : goal.returns-clause-room
+returns-clause-room g c = λ honest agrees files held holds has is. never_ok is
+
+pub returns-clause-full : goal.returns-clause-full
+returns-clause-full g c = λ honest agrees files held holds has is. never_ok is
+
+pub returns-clause-damaged : goal.returns-clause-damaged
+returns-clause-damaged g c = λ honest agrees files held holds has is. never_ok is
+
+pub returns-in-None-clause-will : goal.returns-in-None-clause-will
+returns-in-None-clause-will g c = λ honest agrees files held holds has made. never_true refl made
+
+pub returns-in-None-clause-few : goal.returns-in-None-clause-few
+returns-in-None-clause-few g c = λ honest agrees files held holds has.
+    few_equal (changed_pages_of c.args.pages.now) (changed_pages_of c.find_listing.new.pages) _
+    c.find_listing.ensures.unchanged.changed_pages
+
+pub returns-in-None-clause-same : goal.returns-in-None-clause-same
+returns-in-None-clause-same g c = λ none. c.find_listing.ensures.unchanged
+
+pub returns-then-not-is_done-clause-will : goal.returns-then-not-is_done-clause-will
+returns-then-not-is_done-clause-will g c = λ honest agrees files held holds has made.
+    never_true (sym c.is_done.ensures ∙ c.if-not-is_done.true) made
+
+pub returns-clause-same : goal.returns-clause-same
+returns-clause-same g c = λ none. never_true none (sym c.is_done.ensures ∙ c.if-not-is_done.false)

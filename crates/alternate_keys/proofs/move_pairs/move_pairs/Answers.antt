@@ -1,22 +1,26 @@
-use Rattle.std.proofs.Common.{◌≡◌, ◌<◌, ◌+◌, ◌*◌, ◌++◌, ℕ, List, [], ◌∷◌, length, Err, sym, ap, subst, ◌∙◌, arith}
-use Rattle.std.specs.Prelude.{Option}
+use Rattle.std.proofs.Common.{◌≡◌, ◌<◌, ◌+◌, ◌*◌, ◌++◌, ℕ, List, [], ◌∷◌, length, Err, inr, sym, ap, subst, ◌∙◌, arith}
+use Rattle.std.specs.Prelude.{Option, IfErr}
 use Rattle.station.specs.Disk.{Sector}
 use Rattle.pages.specs.Use.{free_count}
 use Rattle.pages.specs.Pages.{map_now, Agrees}
 use Rattle.btree.specs.Calls.{pages_on}
 use Rattle.btree.specs.Entries.{Entry}
 use Rattle.btree.specs.Results.{FewChanged}
-use Rattle.records.specs.declared.fault.StoreFault.TheVariants.{Device}
+use Rattle.records.specs.declared.fault.StoreFault.TheVariants.{Device, Memory}
 use Rattle.records.specs.Spec.{Spec}
 use Rattle.records.specs.Stores.{spec_of}
 use Rattle.volume_format.specs.Forest.{TreeLevels}
 use Rattle.volume_format.specs.Grows.{IsTreeAmong}
+use Rattle.alternate_keys.specs.Faults.{IsWriteFault}
 use Rattle.alternate_keys.specs.Moved.{OnPairMoves, entries_after}
 use Rattle.alternate_keys.specs.Placed.{HaveBecome}
-use Rattle.alternate_keys.proofs.Calling.{among_after, among_before, edits_nothing, edits_then}
+use Rattle.alternate_keys.proofs.Calling.{among_after, among_before, edits_blamed, edits_nothing, edits_then}
+use Rattle.alternate_keys.proofs.Calling.{sectors_still}
+use Rattle.alternate_keys.proofs.Faults.{memory_writes, never_damaged, never_device, never_full_memory, never_spent}
 use Rattle.alternate_keys.proofs.Faults.{refused_by_call}
+use Rattle.alternate_keys.proofs.Passing.{if_refused, never_ok, on_refused, passed, spent_before}
 use Rattle.alternate_keys.proofs.KeyTurn.{IsTurn, lefts, rights, entries_there, none_become, turn_of, turn_stands}
-use Rattle.alternate_keys.proofs.KeyTurn.{turn_may, turn_over}
+use Rattle.alternate_keys.proofs.KeyTurn.{refused_for_memory, turn_may, turn_over}
 use Rattle.alternate_keys.proofs.Still.{same_volume}
 use Rattle.alternate_keys.proofs.Walks.{length_more}
 use Rattle.alternate_keys.proofs.move_pairs.move_pairs.Given.{Over}
@@ -156,3 +160,127 @@ returns-clause-few g c = λ honest agrees held left right trees is has after spe
     let few = c.loop-key.invariant.few honest agrees held left right trees is has after spec_then move in
     let end = c.loop-key.auto.key-end in
     omega (arith, few, n, end)
+
+pub move_pair-requires-clause-sectors : goal.move_pair-requires-clause-sectors
+move_pair-requires-clause-sectors g c =
+    let edits = c.loop-key.invariant.edits in
+    sectors_still g.D.Device _ c.args.pages.now c.loop-key.pages c.args.device.now c.loop-key.device edits.only
+    edits.committed c.requires.sectors
+
+pub returns-in_err-move_pair-clause-edits : goal.returns-in_err-move_pair-clause-edits
+returns-in_err-move_pair-clause-edits g c =
+    edits_then g.D.Device ⊥ (c.move_pair.result ≡ Err Device) _ _ _ _ _ _ _
+    (λ is. inr (refused_by_call c.in_err-move_pair.was c.from_residual.ensures.1 is)) c.loop-key.invariant.edits
+    c.move_pair.ensures.edits
+
+pub returns-in_err-move_pair-clause-came : goal.returns-in_err-move_pair-clause-came
+returns-in_err-move_pair-clause-came g c = λ honest agrees held left right trees is has after spec_then move.
+    if_refused c.from_residual.result c.in_err-move_pair.field-0.0 c.from_residual.ensures.1 _
+
+pub returns-in_err-move_pair-clause-few : goal.returns-in_err-move_pair-clause-few
+returns-in_err-move_pair-clause-few g c = λ honest agrees held left right trees is has after spec_then move.
+    on_refused c.from_residual.result c.in_err-move_pair.field-0.0 c.from_residual.ensures.1 _
+
+pub returns-in_err-move_pair-clause-count : goal.returns-in_err-move_pair-clause-count
+returns-in_err-move_pair-clause-count g c =
+    if_refused c.from_residual.result c.in_err-move_pair.field-0.0 c.from_residual.ensures.1 _
+
+pub returns-in_err-move_pair-clause-spent : goal.returns-in_err-move_pair-clause-spent
+returns-in_err-move_pair-clause-spent g c =
+    λ is. spent_before c.args.pages.now c.loop-key.pages c.loop-key.invariant.edits.committed
+    (c.move_pair.ensures.spent (refused_by_call c.in_err-move_pair.was c.from_residual.ensures.1 is))
+
+pub returns-in_err-move_pair-clause-cause : goal.returns-in_err-move_pair-clause-cause
+returns-in_err-move_pair-clause-cause g c =
+    passed c.from_residual.result c.in_err-move_pair.field-0.0 c.from_residual.ensures.1 (λ r. IfErr r IsWriteFault)
+    c.in_err-move_pair.ensures.cause
+
+pub returns-in_err-push-clause-edits : goal.returns-in_err-push-clause-edits
+returns-in_err-push-clause-edits g c =
+    edits_then g.D.Device ⊥ (c.move_pair.result ≡ Err Device) _ _ _ _ _ _ _
+    (λ is. absurd (never_device c.from_residual-in_err-push.result
+    (refused_for_memory c.from_residual-in_err-push.result c.from_residual-in_err-push.ensures.1) is))
+    c.loop-key.invariant.edits c.move_pair.ensures.edits
+
+pub returns-in_err-push-clause-came : goal.returns-in_err-push-clause-came
+returns-in_err-push-clause-came g c = λ honest agrees held left right trees is has after spec_then move.
+    if_refused c.from_residual-in_err-push.result Memory c.from_residual-in_err-push.ensures.1 _
+
+pub returns-in_err-push-clause-few : goal.returns-in_err-push-clause-few
+returns-in_err-push-clause-few g c = λ honest agrees held left right trees is has after spec_then move.
+    on_refused c.from_residual-in_err-push.result Memory c.from_residual-in_err-push.ensures.1 _
+
+pub returns-in_err-push-clause-room : goal.returns-in_err-push-clause-room
+returns-in_err-push-clause-room g c = λ honest agrees held left right trees is has after spec_then move full.
+    absurd (never_full_memory c.from_residual-in_err-push.result
+    (refused_for_memory c.from_residual-in_err-push.result c.from_residual-in_err-push.ensures.1) full)
+
+pub returns-in_err-push-clause-damaged : goal.returns-in_err-push-clause-damaged
+returns-in_err-push-clause-damaged g c = λ honest agrees held left right trees is has after spec_then move may damaged.
+    never_damaged c.from_residual-in_err-push.result
+    (refused_for_memory c.from_residual-in_err-push.result c.from_residual-in_err-push.ensures.1) damaged
+
+pub returns-in_err-push-clause-count : goal.returns-in_err-push-clause-count
+returns-in_err-push-clause-count g c =
+    if_refused c.from_residual-in_err-push.result Memory c.from_residual-in_err-push.ensures.1 _
+
+pub returns-in_err-push-clause-spent : goal.returns-in_err-push-clause-spent
+returns-in_err-push-clause-spent g c =
+    λ is. absurd (never_spent c.from_residual-in_err-push.result
+    (refused_for_memory c.from_residual-in_err-push.result c.from_residual-in_err-push.ensures.1) is)
+
+pub returns-in_err-push-clause-cause : goal.returns-in_err-push-clause-cause
+returns-in_err-push-clause-cause g c =
+    memory_writes c.from_residual-in_err-push.result
+    (refused_for_memory c.from_residual-in_err-push.result c.from_residual-in_err-push.ensures.1)
+
+pub returns-clause-edits : goal.returns-clause-edits
+returns-clause-edits g c =
+    edits_blamed g.D.Device ⊥ _ _ _ _ _ (λ is. never_ok is) c.loop-key.invariant.edits
+
+pub returns-clause-room : goal.returns-clause-room
+returns-clause-room g c = λ honest agrees held left right trees is has after spec_then move full. never_ok full
+
+pub returns-clause-damaged : goal.returns-clause-damaged
+returns-clause-damaged g c = λ honest agrees held left right trees is has after spec_then move may damaged.
+    never_ok damaged
+
+pub returns-clause-count : goal.returns-clause-count
+returns-clause-count g c =
+    let n : c.len-count.result ≡ length c.args.file.now.alternates.items =
+    omega (arith, c.len-count.ensures, c.args.file.now.alternates.ok) in
+    let count = c.loop-key.invariant.count in
+    let test = c.loop-key-test.false in
+    let end = c.loop-key.auto.key-end in
+    omega (arith, n, count, test, end)
+
+pub returns-clause-spent : goal.returns-clause-spent
+returns-clause-spent g c = λ is. never_ok is
+
+pub file_tree-tree-requires-clause-key : goal.file_tree-tree-requires-clause-key
+file_tree-tree-requires-clause-key g c =
+    let n : c.len-count.result ≡ length c.args.file.now.alternates.items =
+    omega (arith, c.len-count.ensures, c.args.file.now.alternates.ok) in
+    let test = c.loop-key-test.true in
+    let low : c.loop-key.key < length c.args.file.now.alternates.items = omega (arith, n, test) in
+    low
+
+pub file_tree-tree-requires-clause-value : goal.file_tree-tree-requires-clause-value
+file_tree-tree-requires-clause-value g c = c.requires.listing
+
+pub move_pair-requires-clause-key : goal.move_pair-requires-clause-key
+move_pair-requires-clause-key g c =
+    let n : c.len-count.result ≡ length c.args.file.now.alternates.items =
+    omega (arith, c.len-count.ensures, c.args.file.now.alternates.ok) in
+    let test = c.loop-key-test.true in
+    let low : c.loop-key.key < length c.args.file.now.alternates.items = omega (arith, n, test) in
+    low
+
+pub move_pair-requires-clause-layout : goal.move_pair-requires-clause-layout
+move_pair-requires-clause-layout g c = c.file_tree-tree.ensures.layout
+
+pub move_pair-requires-clause-values : goal.move_pair-requires-clause-values
+move_pair-requires-clause-values g c = c.requires.values
+
+pub returns-clause-cause : goal.returns-clause-cause
+returns-clause-cause g c = tt

@@ -1,6 +1,7 @@
-use Rattle.std.proofs.Common.{◌≡◌, Err, ℕ, List, length, sym, ap, ◌∙◌, arith}
+use Rattle.std.proofs.Common.{◌≡◌, ◌+◌, ◌*◌, Err, ℕ, List, length, sym, ap, ◌∙◌, arith}
 use Rattle.btree.proofs.Frames.{unchanged_on}
 use Rattle.records.specs.declared.fault.StoreFault.TheVariants.{Device}
+use Rattle.records.specs.declared.file_spec.KeyPlace.{KeyPlace}
 use Rattle.records.specs.Rows.{named_pair}
 use Rattle.records.specs.Changes.{FileChange, replacement}
 use Rattle.records.specs.Files.{NamedFile}
@@ -18,6 +19,7 @@ use Rattle.alternate_keys.proofs.RowForms.{value_whole}
 use Rattle.alternate_keys.proofs.HeldTrees.{HoldsRow, still_holds, holds_row}
 use Rattle.alternate_keys.proofs.Moving.{IsMoving}
 use Rattle.alternate_keys.proofs.MovingRows.{replaced_moves}
+use Rattle.alternate_keys.proofs.NewRows.{part_long}
 use Rattle.alternate_keys.proofs.Numbered.{named_by}
 use Rattle.alternate_keys.proofs.ReplaceRow.{Replaces, named_missing, look_bars, look_replaces}
 use Rattle.alternate_keys.proofs.Passing.{spent_before}
@@ -88,6 +90,13 @@ moves g c honest found done =
     c.row_tree-prime.ensures.form c.root-root.ensures
     c.in_ok-replace_row.ensures.replaced
 
+pub find_row-requires-clause-value : goal.find_row-requires-clause-value
+find_row-requires-clause-value g c =
+    ap (λ (l : List ℕ). length l) c.part_of-prime_key.ensures
+    ∙ part_long c.key_place-place.result c.args.file.now.record_length c.args.bytes.now
+    c.key_place-place.ensures.within c.requires.bytes
+    ∙ ap (λ (p : KeyPlace). p.length) c.key_place-place.ensures.place
+
 pub find_duplicate_key-requires-clause-values : goal.find_duplicate_key-requires-clause-values
 find_duplicate_key-requires-clause-values g c = (
   value_long (spec_of c.args.file.now) c.row_tree-prime.result c.in_ok-row.field-0 c.in-Some.row
@@ -101,6 +110,15 @@ value_after-requires-clause-old g c =
     value_long (spec_of c.args.file.now) c.row_tree-prime.result c.in_ok-row.field-0 c.in-Some.row
     c.value-old.result.now c.row_tree-prime.ensures.layout c.row_tree-prime.ensures.form c.in_ok-row.ensures.lengths
     c.in-Some.is c.value-old.ensures
+
+pub arrival_next-next-requires-clause-old : goal.arrival_next-next-requires-clause-old
+arrival_next-next-requires-clause-old g c =
+    let long : length c.value-old.result.now
+    ≡ c.args.file.now.record_length + 8 * length c.args.file.now.alternates.items =
+    value_long (spec_of c.args.file.now) c.row_tree-prime.result c.in_ok-row.field-0 c.in-Some.row
+    c.value-old.result.now c.row_tree-prime.ensures.layout c.row_tree-prime.ensures.form c.in_ok-row.ensures.lengths
+    c.in-Some.is c.value-old.ensures in
+    omega (arith, long)
 
 pub replace_row-requires-clause-value : goal.replace_row-requires-clause-value
 replace_row-requires-clause-value g c =

@@ -1,5 +1,5 @@
 use Rattle.std.proofs.Common.{◌≡◌, ◌+◌, ◌++◌, inr, Err, ℕ, List, [], ◌∷◌, length, refl, sym, ap, subst, ◌∙◌, arith}
-use Rattle.std.specs.Prelude.{map, Option, IfSome}
+use Rattle.std.specs.Prelude.{map, Option, IfSome, IfErr}
 use Rattle.std.proofs.lemmas.List.{length-map}
 use Rattle.std.proofs.lemmas.Result.{IfOk-weaker}
 use Rattle.pages.specs.Image.{Map}
@@ -11,21 +11,25 @@ use Rattle.btree.specs.Entries.{Entry, HasLengths, entries_of, entries_of_rows, 
 use Rattle.btree.specs.Tree.{IsTreeOrEmpty}
 use Rattle.btree.proofs.Ascending.{entry_at, some_at}
 use Rattle.btree.proofs.Frames.{same_pages}
-use Rattle.records.specs.declared.fault.StoreFault.TheVariants.{Device}
+use Rattle.records.specs.declared.fault.StoreFault.TheVariants.{Device, Damaged}
 use Rattle.records.specs.Files.{Files}
 use Rattle.volume_format.specs.Calls.{LooksAt}
 use Rattle.volume_format.specs.Catalog.{catalog_layout, catalog_value}
 use Rattle.volume_format.specs.Volume.{FileTrees, MapHolds, catalog_entry}
 use Rattle.volume_format.proofs.Looks.{looks_blamed, looks_then}
 use Rattle.alternate_keys.specs.Created.{OnFiles}
+use Rattle.alternate_keys.specs.Faults.{IsReadFault}
 use Rattle.alternate_keys.specs.Migrated.{AreFilled}
+use Rattle.alternate_keys.proofs.Calling.{sectors_still}
 use Rattle.alternate_keys.proofs.CatalogEntries.{catalog_there, first_listed, next_listed}
 use Rattle.alternate_keys.proofs.CatalogLeaves.{AreListed, leaf_capacity, leaf_value}
 use Rattle.alternate_keys.proofs.CatalogLeaves.{listed_all, none_filled, none_listed, own_lengths}
 use Rattle.alternate_keys.proofs.CatalogLeaves.{row_inserted, row_listed, trees_now}
-use Rattle.alternate_keys.proofs.Faults.{never_device, refused_by_call}
+use Rattle.alternate_keys.proofs.Faults.{memory_reads, never_damaged, never_device, never_spent, refused_by_call}
 use Rattle.alternate_keys.proofs.FilledPages.{agreed_bounds}
 use Rattle.alternate_keys.proofs.Migrating.{IsFileAt, file_at_entry}
+use Rattle.alternate_keys.proofs.Passing.{damaged_not_device, damaged_not_spent, if_refused, memory_is_read}
+use Rattle.alternate_keys.proofs.Passing.{passed, spent_before}
 use Rattle.alternate_keys.proofs.second_mark.counted_leaves.Given.{Over}
 use Rattle.alternate_keys.proofs.second_mark.counted_leaves.Goals as goal
 use Rattle.alternate_keys.proofs.second_mark.counted_leaves.Goals.{After-counted_value, After-next_in}
@@ -261,3 +265,211 @@ loop-turn-preserved g c =
       fills = (row_there g at.After-next_in).0;
       lists = lists_then g at.After-next_in;
     }
+
+pub counted_value-requires-clause-sectors : goal.counted_value-requires-clause-sectors
+counted_value-requires-clause-sectors g c =
+    let looks = c.loop-turn.invariant.looks in
+    sectors_still g.D.Device _ c.args.pages.now c.loop-turn.pages c.args.device.now c.loop-turn.device looks.only
+    looks.unchanged.committed c.requires.sectors
+
+pub counted_value-requires-clause-long : goal.counted_value-requires-clause-long
+counted_value-requires-clause-long g c =
+    (own_lengths c.loop-turn.next c.in-Some.entry c.in-Some.is c.loop-turn.invariant.lengths).1
+
+pub insert-requires-clause-place : goal.insert-requires-clause-place
+insert-requires-clause-place g c =
+    let rows = c.count.ensures.rows in
+    omega (arith, rows)
+
+pub next_in-requires : goal.next_in-requires
+next_in-requires g c =
+    let looks = seen g (goal.at.next_in-requires g c).After-counted_value in
+    record {
+      sectors = sectors_still g.D.Device _ c.args.pages.now c.counted_value.new.pages c.args.device.now
+          c.counted_value.new.device looks.only looks.unchanged.committed c.requires.sectors;
+    }
+
+pub returns-in_err-next-clause-leaves : goal.returns-in_err-next-clause-leaves
+returns-in_err-next-clause-leaves g c =
+    if_refused c.from_residual.result c.in_err-next.field-0.0
+    c.from_residual.ensures.1 _
+
+pub returns-in_err-next-clause-lists : goal.returns-in_err-next-clause-lists
+returns-in_err-next-clause-lists g c = λ honest agrees files holds.
+    if_refused c.from_residual.result c.in_err-next.field-0.0
+    c.from_residual.ensures.1 _
+
+pub returns-in_err-next-clause-looks : goal.returns-in_err-next-clause-looks
+returns-in_err-next-clause-looks g c =
+    looks_blamed g.D.Device (c.first_in.result ≡ Err Device) _ _ _ _ _
+    (λ is. refused_by_call c.in_err-next.was c.from_residual.ensures.1 is) c.first_in.ensures.looks
+
+pub returns-in_err-next-clause-spent : goal.returns-in_err-next-clause-spent
+returns-in_err-next-clause-spent g c =
+    λ is. c.first_in.ensures.spent (refused_by_call c.in_err-next.was c.from_residual.ensures.1 is)
+
+pub returns-in_err-next-clause-cause : goal.returns-in_err-next-clause-cause
+returns-in_err-next-clause-cause g c =
+    passed c.from_residual.result c.in_err-next.field-0.0 c.from_residual.ensures.1 (λ q. IfErr q IsReadFault)
+    c.in_err-next.ensures.cause
+
+pub returns-in_err-value-in-Some-clause-leaves : goal.returns-in_err-value-in-Some-clause-leaves
+returns-in_err-value-in-Some-clause-leaves g c =
+    if_refused c.from_residual-in_err-value-in-Some.result c.in_err-value-in-Some.field-0.0
+    c.from_residual-in_err-value-in-Some.ensures.1 _
+
+pub returns-in_err-value-in-Some-clause-lists : goal.returns-in_err-value-in-Some-clause-lists
+returns-in_err-value-in-Some-clause-lists g c = λ honest agrees files holds.
+    if_refused c.from_residual-in_err-value-in-Some.result c.in_err-value-in-Some.field-0.0
+    c.from_residual-in_err-value-in-Some.ensures.1 _
+
+pub returns-in_err-value-in-Some-clause-spent : goal.returns-in_err-value-in-Some-clause-spent
+returns-in_err-value-in-Some-clause-spent g c =
+    λ is. spent_before c.args.pages.now c.loop-turn.pages c.loop-turn.invariant.looks.unchanged.committed
+    (c.counted_value.ensures.spent
+    (refused_by_call c.in_err-value-in-Some.was c.from_residual-in_err-value-in-Some.ensures.1 is))
+
+pub returns-in_err-value-in-Some-clause-cause : goal.returns-in_err-value-in-Some-clause-cause
+returns-in_err-value-in-Some-clause-cause g c =
+    passed c.from_residual-in_err-value-in-Some.result c.in_err-value-in-Some.field-0.0
+    c.from_residual-in_err-value-in-Some.ensures.1 (λ q. IfErr q IsReadFault) c.in_err-value-in-Some.ensures.cause
+
+pub returns-in_err-make_room-in-Some-clause-leaves : goal.returns-in_err-make_room-in-Some-clause-leaves
+returns-in_err-make_room-in-Some-clause-leaves g c =
+    if_refused c.from_residual-in_err-make_room-in-Some.result c.in_err-make_room-in-Some.field-0.0
+    c.from_residual-in_err-make_room-in-Some.ensures.1 _
+
+pub returns-in_err-make_room-in-Some-clause-lists : goal.returns-in_err-make_room-in-Some-clause-lists
+returns-in_err-make_room-in-Some-clause-lists g c = λ honest agrees files holds.
+    if_refused c.from_residual-in_err-make_room-in-Some.result c.in_err-make_room-in-Some.field-0.0
+    c.from_residual-in_err-make_room-in-Some.ensures.1 _
+
+pub returns-in_err-make_room-in-Some-clause-damaged : goal.returns-in_err-make_room-in-Some-clause-damaged
+returns-in_err-make_room-in-Some-clause-damaged g c = λ honest agrees files holds refused.
+    never_damaged c.make_room.result c.make_room.ensures.memory
+    (refused_by_call c.in_err-make_room-in-Some.was c.from_residual-in_err-make_room-in-Some.ensures.1 refused)
+
+pub returns-in_err-make_room-in-Some-clause-spent : goal.returns-in_err-make_room-in-Some-clause-spent
+returns-in_err-make_room-in-Some-clause-spent g c =
+    λ is. absurd (never_spent c.make_room.result c.make_room.ensures.memory
+    (refused_by_call c.in_err-make_room-in-Some.was c.from_residual-in_err-make_room-in-Some.ensures.1 is))
+
+pub returns-in_err-make_room-in-Some-clause-cause : goal.returns-in_err-make_room-in-Some-clause-cause
+returns-in_err-make_room-in-Some-clause-cause g c =
+    passed c.from_residual-in_err-make_room-in-Some.result c.in_err-make_room-in-Some.field-0.0
+    c.from_residual-in_err-make_room-in-Some.ensures.1 (λ q. IfErr q IsReadFault)
+    (memory_is_read c.in_err-make_room-in-Some.field-0.0 c.in_err-make_room-in-Some.ensures.memory)
+
+pub returns-in_err-next-in-Some-clause-leaves : goal.returns-in_err-next-in-Some-clause-leaves
+returns-in_err-next-in-Some-clause-leaves g c =
+    if_refused c.from_residual-in_err-next-in-Some.result c.in_err-next-in-Some.field-0.0
+    c.from_residual-in_err-next-in-Some.ensures.1 _
+
+pub returns-in_err-next-in-Some-clause-lists : goal.returns-in_err-next-in-Some-clause-lists
+returns-in_err-next-in-Some-clause-lists g c = λ honest agrees files holds.
+    if_refused c.from_residual-in_err-next-in-Some.result c.in_err-next-in-Some.field-0.0
+    c.from_residual-in_err-next-in-Some.ensures.1 _
+
+pub returns-in_err-next-in-Some-clause-spent : goal.returns-in_err-next-in-Some-clause-spent
+returns-in_err-next-in-Some-clause-spent g c = λ is.
+    let looks = seen g (goal.at.returns-in_err-next-in-Some-clause-spent g c).After-counted_value in
+    spent_before c.args.pages.now c.counted_value.new.pages looks.unchanged.committed
+    (c.next_in.ensures.spent
+    (refused_by_call c.in_err-next-in-Some.was c.from_residual-in_err-next-in-Some.ensures.1 is))
+
+pub returns-in_err-next-in-Some-clause-cause : goal.returns-in_err-next-in-Some-clause-cause
+returns-in_err-next-in-Some-clause-cause g c =
+    passed c.from_residual-in_err-next-in-Some.result c.in_err-next-in-Some.field-0.0
+    c.from_residual-in_err-next-in-Some.ensures.1 (λ q. IfErr q IsReadFault) c.in_err-next-in-Some.ensures.cause
+
+pub with_last-requires-clause-few : goal.with_last-requires-clause-few
+with_last-requires-clause-few g c =
+    let count = c.loop-turn.invariant.fills.count in
+    let low = c.loop-turn.auto.turn-end in
+    omega (arith, count, low)
+
+pub returns-in-None-clause-looks : goal.returns-in-None-clause-looks
+returns-in-None-clause-looks g c =
+    looks_blamed g.D.Device ⊥ _ _ _ _ _
+    (λ is. never_device c.with_last.result c.with_last.ensures.memory is) c.loop-turn.invariant.looks
+
+pub returns-in-None-clause-damaged : goal.returns-in-None-clause-damaged
+returns-in-None-clause-damaged g c = λ honest agrees files holds is.
+    never_damaged c.with_last.result c.with_last.ensures.memory is
+
+pub returns-in-None-clause-spent : goal.returns-in-None-clause-spent
+returns-in-None-clause-spent g c =
+    λ is. absurd (never_spent c.with_last.result c.with_last.ensures.memory is)
+
+pub returns-in-None-clause-cause : goal.returns-in-None-clause-cause
+returns-in-None-clause-cause g c = memory_reads c.with_last.result c.with_last.ensures.memory
+
+pub with_last-requires-in-None-next-clause-few : goal.with_last-requires-in-None-next-clause-few
+with_last-requires-in-None-next-clause-few g c =
+    let count = c.loop-turn.invariant.fills.count in
+    let low = c.loop-turn.auto.turn-end in
+    omega (arith, count, low)
+
+pub returns-in-None-next-clause-looks : goal.returns-in-None-next-clause-looks
+returns-in-None-next-clause-looks g c =
+    looks_blamed g.D.Device ⊥ _ _ _ _ _
+    (λ is. never_device c.with_last-in-None-next.result c.with_last-in-None-next.ensures.memory is)
+    c.loop-turn.invariant.looks
+
+pub returns-in-None-next-clause-damaged : goal.returns-in-None-next-clause-damaged
+returns-in-None-next-clause-damaged g c = λ honest agrees files holds is.
+    never_damaged c.with_last-in-None-next.result c.with_last-in-None-next.ensures.memory is
+
+pub returns-in-None-next-clause-spent : goal.returns-in-None-next-clause-spent
+returns-in-None-next-clause-spent g c =
+    λ is. absurd (never_spent c.with_last-in-None-next.result c.with_last-in-None-next.ensures.memory is)
+
+pub returns-in-None-next-clause-cause : goal.returns-in-None-next-clause-cause
+returns-in-None-next-clause-cause g c =
+    memory_reads c.with_last-in-None-next.result c.with_last-in-None-next.ensures.memory
+
+pub returns-in-Some-next-clause-looks : goal.returns-in-Some-next-clause-looks
+returns-in-Some-next-clause-looks g c =
+    looks_blamed g.D.Device ⊥ _ _ _ _ _ (λ is. damaged_not_device is) c.loop-turn.invariant.looks
+
+pub returns-in-Some-next-clause-spent : goal.returns-in-Some-next-clause-spent
+returns-in-Some-next-clause-spent g c = λ is. damaged_not_spent Damaged refl is
+
+pub first_in-requires : goal.first_in-requires
+first_in-requires g c = record { sectors = c.requires.sectors }
+
+pub make_room-requires : goal.make_room-requires
+make_room-requires g c = c.layout-layout.ensures.is ∙ c.catalog_tree.ensures.layout
+
+pub with_last-requires-clause-leaves : goal.with_last-requires-clause-leaves
+with_last-requires-clause-leaves g c = c.loop-turn.invariant.fills.each
+
+pub with_last-requires-clause-like : goal.with_last-requires-clause-like
+with_last-requires-clause-like g c = c.loop-turn.invariant.fills.like
+
+pub with_last-requires-clause-kind : goal.with_last-requires-clause-kind
+with_last-requires-clause-kind g c = c.loop-turn.invariant.fills.kind
+
+pub returns-in-None-clause-leaves : goal.returns-in-None-clause-leaves
+returns-in-None-clause-leaves g c = c.with_last.ensures.leaves
+
+pub with_last-requires-in-None-next-clause-leaves : goal.with_last-requires-in-None-next-clause-leaves
+with_last-requires-in-None-next-clause-leaves g c = c.loop-turn.invariant.fills.each
+
+pub with_last-requires-in-None-next-clause-like : goal.with_last-requires-in-None-next-clause-like
+with_last-requires-in-None-next-clause-like g c = c.loop-turn.invariant.fills.like
+
+pub with_last-requires-in-None-next-clause-kind : goal.with_last-requires-in-None-next-clause-kind
+with_last-requires-in-None-next-clause-kind g c = c.loop-turn.invariant.fills.kind
+
+pub returns-in-None-next-clause-leaves : goal.returns-in-None-next-clause-leaves
+returns-in-None-next-clause-leaves g c = c.with_last-in-None-next.ensures.leaves
+
+pub returns-in-Some-next-clause-leaves : goal.returns-in-Some-next-clause-leaves
+returns-in-Some-next-clause-leaves g c = tt
+
+pub returns-in-Some-next-clause-lists : goal.returns-in-Some-next-clause-lists
+returns-in-Some-next-clause-lists g c = λ honest agrees files holds. tt
+
+pub returns-in-Some-next-clause-cause : goal.returns-in-Some-next-clause-cause
+returns-in-Some-next-clause-cause g c = tt

@@ -5,7 +5,9 @@ use Rattle.station.specs.State.{State}
 use Rattle.pages.specs.Pages.{map_now, mark_of, Agrees}
 use Rattle.pages.specs.declared.error.PagesError.TheVariants as pages
 use Rattle.btree_pages.specs.declared.row_layout.RowLayout.{RowLayout}
+use Rattle.btree_pages.specs.declared.row_layout.Kind.TheVariants.{Inner}
 use Rattle.btree_pages.specs.Node.{Node}
+use Rattle.btree_pages.specs.RowLayouts.{capacity}
 use Rattle.btree.specs.Builds.{IsLeafOf, rows_of_nodes}
 use Rattle.btree.specs.Entries.{Entry, entries_of_rows}
 use Rattle.records.specs.declared.fault.StoreFault.TheVariants.{Device, Full}
@@ -24,8 +26,9 @@ use Rattle.alternate_keys.proofs.CatalogLeaves.{keys_ascend}
 use Rattle.alternate_keys.proofs.Faults.{never_full, refused_by_call}
 use Rattle.alternate_keys.proofs.FilledPages.{room_filled}
 use Rattle.alternate_keys.proofs.Making.{catalog_here}
-use Rattle.alternate_keys.proofs.Passing.{never_ok, passed, read_is_write, spent_before, committed_on}
-use Rattle.alternate_keys.proofs.Remaking.{edits_kept, remade_map}
+use Rattle.alternate_keys.proofs.Passing.{never_ok, on_refused, passed, read_is_write, spent_back, spent_before}
+use Rattle.alternate_keys.proofs.Passing.{committed_on, same_error}
+use Rattle.alternate_keys.proofs.Remaking.{build_not_damaged, build_not_device, build_writes, edits_kept, remade_map}
 use Rattle.alternate_keys.proofs.second_mark.remake_catalog.Given.{Over}
 use Rattle.alternate_keys.proofs.second_mark.remake_catalog.Goals as goal
 use Rattle.alternate_keys.proofs.second_mark.remake_catalog.Goals.{After-clear_among, After-build}
@@ -183,3 +186,92 @@ returns-clause-room g c = λ is.
     let few = c.in_ok-leaves.ensures.leaves.few in
     room_filled c.args.pages.now c.build.new.pages 9 c.few_free.ensures edits.committed
     c.requires.unspent (c.in-Err.ensures.full (ap Err fault)) (omega (arith, seen, clear, more, long, few))
+
+pub returns-in_err-leaves-clause-will : goal.returns-in_err-leaves-clause-will
+returns-in_err-leaves-clause-will g c = λ honest agrees files holds.
+    on_refused c.from_residual.result c.in_err-leaves.field-0.0 c.from_residual.ensures.1 _
+
+pub returns-in_err-leaves-clause-filled : goal.returns-in_err-leaves-clause-filled
+returns-in_err-leaves-clause-filled g c =
+    let seen = c.counted_leaves.ensures.looks.unchanged.filled in
+    omega (arith, seen)
+
+pub returns-in_err-clear_among-clause-will : goal.returns-in_err-clear_among-clause-will
+returns-in_err-clear_among-clause-will g c = λ honest agrees files holds.
+    on_refused c.from_residual-in_err-clear_among.result c.in_err-clear_among.field-0.0
+    c.from_residual-in_err-clear_among.ensures.1 _
+
+pub returns-in_err-clear_among-clause-filled : goal.returns-in_err-clear_among-clause-filled
+returns-in_err-clear_among-clause-filled g c =
+    let seen = c.counted_leaves.ensures.looks.unchanged.filled in
+    let clear = c.clear_among.ensures.filled in
+    omega (arith, seen, clear)
+
+pub build-requires-clause-few : goal.build-requires-clause-few
+build-requires-clause-few g c =
+    let is : c.layout-layout.result ≡ catalog_layout 1 = c.layout-layout.ensures.is ∙ c.catalog_tree.ensures.layout in
+    let most : capacity c.layout-layout.result Inner ≡ 120 = ap (λ (l : RowLayout). capacity l Inner) is in
+    let long = ap (λ (l : List Node). length l) c.as_slice.ensures.value in
+    let few = c.in_ok-leaves.ensures.leaves.few in
+    omega (arith, most, long, few)
+
+pub returns-in-Ok-clause-filled : goal.returns-in-Ok-clause-filled
+returns-in-Ok-clause-filled g c =
+    let seen = c.counted_leaves.ensures.looks.unchanged.filled in
+    let clear = c.clear_among.ensures.filled in
+    let more = c.build.ensures.filled in
+    let set = c.set_catalog.ensures.filled in
+    let long = ap (λ (l : List Node). length l) c.as_slice.ensures.value in
+    let few = c.in_ok-leaves.ensures.leaves.few in
+    omega (arith, seen, clear, more, set, long, few)
+
+pub returns-in-Ok-clause-room : goal.returns-in-Ok-clause-room
+returns-in-Ok-clause-room g c = λ is. never_ok is
+
+pub returns-in-Ok-clause-damaged : goal.returns-in-Ok-clause-damaged
+returns-in-Ok-clause-damaged g c = λ honest agrees files holds is. never_ok is
+
+pub returns-in-Ok-clause-spent : goal.returns-in-Ok-clause-spent
+returns-in-Ok-clause-spent g c = λ is. never_ok is
+
+pub returns-clause-prepares : goal.returns-clause-prepares
+returns-clause-prepares g c =
+    let at = goal.at.returns-clause-prepares g c in
+    prepares_of g.D.Device _ _ _ _ _ (edits_blamed g.D.Device ⊥ _ _ _ _ _
+    (λ is. build_not_device c.in-Err.error c.to_fault.result c.in-Err.ensures.cause c.to_fault.ensures
+    (same_error is)) (built g at.After-build))
+
+pub returns-clause-filled : goal.returns-clause-filled
+returns-clause-filled g c =
+    let seen = c.counted_leaves.ensures.looks.unchanged.filled in
+    let clear = c.clear_among.ensures.filled in
+    let more = c.build.ensures.filled in
+    let long = ap (λ (l : List Node). length l) c.as_slice.ensures.value in
+    let few = c.in_ok-leaves.ensures.leaves.few in
+    omega (arith, seen, clear, more, long, few)
+
+pub returns-clause-damaged : goal.returns-clause-damaged
+returns-clause-damaged g c = λ honest agrees files holds is.
+    build_not_damaged c.in-Err.error c.to_fault.result c.in-Err.ensures.cause c.to_fault.ensures (same_error is)
+
+pub returns-clause-spent : goal.returns-clause-spent
+returns-clause-spent g c = λ is.
+    spent_before c.args.pages.now c.clear_among.new.pages
+    (committed_on c.args.pages.now c.counted_leaves.new.pages c.clear_among.new.pages
+    c.counted_leaves.ensures.looks.unchanged.committed c.clear_among.ensures.edits.committed)
+    (c.in-Err.ensures.spent (ap Err (spent_back c.in-Err.error (sym c.to_fault.ensures ∙ same_error is))))
+
+pub returns-clause-cause : goal.returns-clause-cause
+returns-clause-cause g c = build_writes c.in-Err.error c.to_fault.result c.in-Err.ensures.cause c.to_fault.ensures
+
+pub returns-in-Ok-clause-cause : goal.returns-in-Ok-clause-cause
+returns-in-Ok-clause-cause g c = tt
+
+pub returns-clause-will : goal.returns-clause-will
+returns-clause-will g c = λ honest agrees files holds. tt
+
+pub counted_leaves-requires-clause-sectors : goal.counted_leaves-requires-clause-sectors
+counted_leaves-requires-clause-sectors g c = c.requires.sectors
+
+pub counted_leaves-requires-clause-mark : goal.counted_leaves-requires-clause-mark
+counted_leaves-requires-clause-mark g c = c.requires.mark

@@ -1,13 +1,18 @@
 use Rattle.std.proofs.Common.{◌≡◌, inr, Ok, Err, Bool, List, refl, sym, ap, subst, ◌∙◌}
-use Rattle.std.specs.Prelude.{Option}
+use Rattle.std.specs.Prelude.{Option, OnErr, IfErr}
 use Rattle.std.specs.Option.{option_map}
 use Rattle.station.specs.Disk.{Sector}
 use Rattle.pages.specs.Pages.{Agrees}
+use Rattle.pages.specs.declared.error.PagesError.{PagesError}
 use Rattle.pages.specs.declared.error.PagesError.TheVariants.{Device}
+use Rattle.pages.specs.declared.error.PagesError.TheVariants as pages
 use Rattle.volume_format.proofs.Looks.{looks_blamed, looks_then}
 use Rattle.btree.specs.Calls.{pages_on}
 use Rattle.btree.specs.Places.{IsLeafPlace, if_found}
+use Rattle.btree.specs.Reading.{IsReadRefusal}
 use Rattle.btree.proofs.Frames.{same_pages}
+use Rattle.btree.proofs.Passing.{if_refused, on_refused}
+use Rattle.chains.specs.Refusals.{IsRecordRefusal}
 use Rattle.records.specs.declared.file_spec.KeyPlace.{KeyPlace}
 use Rattle.records.specs.declared.key.KeyOfReference.{KeyOfReference}
 use Rattle.records.specs.declared.key.KeyOfReference.TheVariants.{Prime, Alternate}
@@ -15,10 +20,11 @@ use Rattle.records.specs.Rows.{Row, place_of}
 use Rattle.records.specs.Order.{RowBound, sought_row, found_row}
 use Rattle.records.specs.Stores.{spec_of, record_of}
 use Rattle.alternate_keys.specs.Seen.{IsSought, IsPairEntry, IsRowEntry}
+use Rattle.alternate_keys.proofs.Calling.{sectors_still}
 use Rattle.alternate_keys.proofs.Faults.{refused_by_call}
 use Rattle.alternate_keys.proofs.RowFor.{IsRowFor, row_for, row_entry_for, row_key_for, pair_entry_for}
 use Rattle.alternate_keys.proofs.RowFor.{told_as, record_as}
-use Rattle.alternate_keys.proofs.Passing.{never_ok}
+use Rattle.alternate_keys.proofs.Passing.{never_ok, passed, spent_before}
 use Rattle.alternate_keys.proofs.Tells.{found_none}
 use Rattle.alternate_keys.proofs.seek.seek_row.Given.{Over}
 use Rattle.alternate_keys.proofs.seek.seek_row.Goals as goal
@@ -245,3 +251,149 @@ pub returns-in_err-look_near-clause-damaged : goal.returns-in_err-look_near-clau
 returns-in_err-look_near-clause-damaged g c = λ honest agrees bound rows way near fits is.
     c.look_near.ensures.damaged honest agrees
     (refused_by_call c.in_err-look_near.was c.from_residual.ensures.1 is, near) way.pairs.levels way.pairs.holds
+
+-- a page that is read is refused for a reason for which a record may be refused
+read_is_record : (e : PagesError) → IsReadRefusal e → IsRecordRefusal e
+read_is_record pages.Device why = tt
+read_is_record pages.Full why = why
+read_is_record pages.Damaged why = tt
+read_is_record pages.Memory why = absurd why
+read_is_record pages.Spent why = tt
+read_is_record pages.ForeignMark why = why
+
+pub returns-in_err-look_near-clause-found : goal.returns-in_err-look_near-clause-found
+returns-in_err-look_near-clause-found g c = λ honest agrees bound rows way near.
+    if_refused c.from_residual.result c.in_err-look_near.field-0.0 c.from_residual.ensures.1 _
+
+pub returns-in_err-look_near-clause-bytes : goal.returns-in_err-look_near-clause-bytes
+returns-in_err-look_near-clause-bytes g c = λ honest agrees bound rows way near fits.
+    on_refused c.from_residual.result c.in_err-look_near.field-0.0 c.from_residual.ensures.1 _
+
+pub returns-in_err-look_near-clause-spent : goal.returns-in_err-look_near-clause-spent
+returns-in_err-look_near-clause-spent g c = λ is.
+    c.look_near.ensures.spent (refused_by_call c.in_err-look_near.was c.from_residual.ensures.1 is)
+
+pub returns-in_err-look_near-clause-kept : goal.returns-in_err-look_near-clause-kept
+returns-in_err-look_near-clause-kept g c =
+    passed c.from_residual.result c.in_err-look_near.field-0.0 c.from_residual.ensures.1 (λ r.
+    OnErr r (c.args.bytes.now ≡ c.args.bytes.now)) refl
+
+pub returns-in_err-look_near-clause-cause : goal.returns-in_err-look_near-clause-cause
+returns-in_err-look_near-clause-cause g c =
+    passed c.from_residual.result c.in_err-look_near.field-0.0 c.from_residual.ensures.1 (λ r. IfErr r IsRecordRefusal)
+    (read_is_record c.in_err-look_near.field-0.0 c.in_err-look_near.ensures.cause)
+
+pub returns-in_err-told-in-Prime-clause-found : goal.returns-in_err-told-in-Prime-clause-found
+returns-in_err-told-in-Prime-clause-found g c = λ honest agrees bound rows way near.
+    if_refused c.from_residual-in_err-told-in-Prime.result c.in_err-told-in-Prime.field-0.0
+    c.from_residual-in_err-told-in-Prime.ensures.1 _
+
+pub returns-in_err-told-in-Prime-clause-bytes : goal.returns-in_err-told-in-Prime-clause-bytes
+returns-in_err-told-in-Prime-clause-bytes g c = λ honest agrees bound rows way near fits.
+    on_refused c.from_residual-in_err-told-in-Prime.result c.in_err-told-in-Prime.field-0.0
+    c.from_residual-in_err-told-in-Prime.ensures.1 _
+
+pub returns-in_err-told-in-Prime-clause-spent : goal.returns-in_err-told-in-Prime-clause-spent
+returns-in_err-told-in-Prime-clause-spent g c = λ is.
+    spent_before c.args.pages.now c.look_near.new.pages c.look_near.ensures.looks.unchanged.committed
+    (c.read_prime_row.ensures.spent
+    (refused_by_call c.in_err-told-in-Prime.was c.from_residual-in_err-told-in-Prime.ensures.1 is))
+
+pub returns-in_err-told-in-Prime-clause-kept : goal.returns-in_err-told-in-Prime-clause-kept
+returns-in_err-told-in-Prime-clause-kept g c =
+    passed c.from_residual-in_err-told-in-Prime.result c.in_err-told-in-Prime.field-0.0
+    c.from_residual-in_err-told-in-Prime.ensures.1 (λ r.
+    OnErr r (c.read_prime_row.new.bytes ≡ c.args.bytes.now)) c.in_err-told-in-Prime.ensures.kept
+
+pub returns-in_err-told-in-Prime-clause-cause : goal.returns-in_err-told-in-Prime-clause-cause
+returns-in_err-told-in-Prime-clause-cause g c =
+    passed c.from_residual-in_err-told-in-Prime.result c.in_err-told-in-Prime.field-0.0
+    c.from_residual-in_err-told-in-Prime.ensures.1 (λ r. IfErr r IsRecordRefusal)
+    c.in_err-told-in-Prime.ensures.cause
+
+pub returns-in_err-told-in-Alternate-clause-found : goal.returns-in_err-told-in-Alternate-clause-found
+returns-in_err-told-in-Alternate-clause-found g c = λ honest agrees bound rows way near.
+    if_refused c.from_residual-in_err-told-in-Alternate.result c.in_err-told-in-Alternate.field-0.0
+    c.from_residual-in_err-told-in-Alternate.ensures.1 _
+
+pub returns-in_err-told-in-Alternate-clause-bytes : goal.returns-in_err-told-in-Alternate-clause-bytes
+returns-in_err-told-in-Alternate-clause-bytes g c = λ honest agrees bound rows way near fits.
+    on_refused c.from_residual-in_err-told-in-Alternate.result c.in_err-told-in-Alternate.field-0.0
+    c.from_residual-in_err-told-in-Alternate.ensures.1 _
+
+pub returns-in_err-told-in-Alternate-clause-spent : goal.returns-in_err-told-in-Alternate-clause-spent
+returns-in_err-told-in-Alternate-clause-spent g c = λ is.
+    spent_before c.args.pages.now c.look_near.new.pages c.look_near.ensures.looks.unchanged.committed
+    (c.read_alternate_row.ensures.spent
+    (refused_by_call c.in_err-told-in-Alternate.was c.from_residual-in_err-told-in-Alternate.ensures.1 is))
+
+pub returns-in_err-told-in-Alternate-clause-kept : goal.returns-in_err-told-in-Alternate-clause-kept
+returns-in_err-told-in-Alternate-clause-kept g c =
+    passed c.from_residual-in_err-told-in-Alternate.result c.in_err-told-in-Alternate.field-0.0
+    c.from_residual-in_err-told-in-Alternate.ensures.1 (λ r.
+    OnErr r (c.read_alternate_row.new.bytes ≡ c.args.bytes.now)) c.in_err-told-in-Alternate.ensures.kept
+
+pub returns-in_err-told-in-Alternate-clause-cause : goal.returns-in_err-told-in-Alternate-clause-cause
+returns-in_err-told-in-Alternate-clause-cause g c =
+    passed c.from_residual-in_err-told-in-Alternate.result c.in_err-told-in-Alternate.field-0.0
+    c.from_residual-in_err-told-in-Alternate.ensures.1 (λ r. IfErr r IsRecordRefusal)
+    c.in_err-told-in-Alternate.ensures.cause
+
+pub returns-in_err-look_near-clause-place : goal.returns-in_err-look_near-clause-place
+returns-in_err-look_near-clause-place g c = c.look_near.ensures.place
+
+pub returns-in_err-look_near-clause-file : goal.returns-in_err-look_near-clause-file
+returns-in_err-look_near-clause-file g c = (refl, refl)
+
+pub returns-then-not-branch-clause-place : goal.returns-then-not-branch-clause-place
+returns-then-not-branch-clause-place g c = c.look_near.ensures.place
+
+pub returns-then-not-branch-clause-file : goal.returns-then-not-branch-clause-file
+returns-then-not-branch-clause-file g c = (refl, refl)
+
+pub returns-in_err-told-in-Prime-clause-place : goal.returns-in_err-told-in-Prime-clause-place
+returns-in_err-told-in-Prime-clause-place g c = c.look_near.ensures.place
+
+pub returns-in_err-told-in-Prime-clause-file : goal.returns-in_err-told-in-Prime-clause-file
+returns-in_err-told-in-Prime-clause-file g c = (refl, refl)
+
+pub returns-in_ok-told-in-Prime-clause-place : goal.returns-in_ok-told-in-Prime-clause-place
+returns-in_ok-told-in-Prime-clause-place g c = c.look_near.ensures.place
+
+pub returns-in_ok-told-in-Prime-clause-file : goal.returns-in_ok-told-in-Prime-clause-file
+returns-in_ok-told-in-Prime-clause-file g c = (refl, refl)
+
+pub returns-in_err-told-in-Alternate-clause-file : goal.returns-in_err-told-in-Alternate-clause-file
+returns-in_err-told-in-Alternate-clause-file g c = c.read_alternate_row.ensures.file
+
+pub returns-in_ok-told-in-Alternate-clause-file : goal.returns-in_ok-told-in-Alternate-clause-file
+returns-in_ok-told-in-Alternate-clause-file g c = c.read_alternate_row.ensures.file
+
+pub returns-then-not-branch-clause-damaged : goal.returns-then-not-branch-clause-damaged
+returns-then-not-branch-clause-damaged g c = λ honest agrees bound rows way near fits is. never_ok is
+
+pub returns-then-not-branch-clause-spent : goal.returns-then-not-branch-clause-spent
+returns-then-not-branch-clause-spent g c = λ is. never_ok is
+
+pub returns-in_ok-told-in-Prime-clause-damaged : goal.returns-in_ok-told-in-Prime-clause-damaged
+returns-in_ok-told-in-Prime-clause-damaged g c = λ honest agrees bound rows way near fits is. never_ok is
+
+pub returns-in_ok-told-in-Prime-clause-spent : goal.returns-in_ok-told-in-Prime-clause-spent
+returns-in_ok-told-in-Prime-clause-spent g c = λ is. never_ok is
+
+pub returns-in_ok-told-in-Alternate-clause-damaged : goal.returns-in_ok-told-in-Alternate-clause-damaged
+returns-in_ok-told-in-Alternate-clause-damaged g c = λ honest agrees bound rows way near fits is. never_ok is
+
+pub returns-in_ok-told-in-Alternate-clause-spent : goal.returns-in_ok-told-in-Alternate-clause-spent
+returns-in_ok-told-in-Alternate-clause-spent g c = λ is. never_ok is
+
+pub read_prime_row-requires : goal.read_prime_row-requires
+read_prime_row-requires g c = record {
+  sectors = sectors_still g.D.Device _ c.args.pages.now c.look_near.new.pages c.args.device.now c.look_near.new.device
+      c.look_near.ensures.looks.only c.look_near.ensures.looks.unchanged.committed c.requires.sectors;
+}
+
+pub read_alternate_row-requires-clause-sectors : goal.read_alternate_row-requires-clause-sectors
+read_alternate_row-requires-clause-sectors g c =
+    sectors_still g.D.Device _ c.args.pages.now c.look_near.new.pages c.args.device.now c.look_near.new.device
+    c.look_near.ensures.looks.only c.look_near.ensures.looks.unchanged.committed c.requires.sectors
