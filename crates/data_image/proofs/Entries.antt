@@ -1,10 +1,13 @@
 -- Reading entries one after the other, as a loop does.
 use Rattle.std.proofs.Common.{◌≡◌, ℕ, suc, ◌-◌, ◌+◌, ◌≤◌, ◌<◌, List, [], ◌∷◌, ◌++◌, Ok, Err, refl, sym, ap, ◌∙◌}
-use Rattle.std.proofs.Common.{append_assoc, arith}
+use Rattle.std.proofs.Common.{append_assoc, arith, length, take, get_or, All, subst}
 use Rattle.std.specs.Prelude.{Option, None, Some}
-use Rattle.std.proofs.lemmas.List.{append-nil}
+use Rattle.std.specs.List.{flat_map, AllByRecursion}
+use Rattle.std.proofs.lemmas.List.{append-nil, flat_map_more, take_more, take_all}
+use Rattle.std.proofs.lemmas.List.Elements.{All-more, recursion_from_All}
 use Rattle.answers.specs.Answer.{Fails}
 use Rattle.data_image.specs.declared.fault.ImageFault.{ImageFault}
+use Rattle.data_image.specs.Spelling.{count_bytes, table_bytes}
 use Rattle.data_image.specs.Reading.{ReadResult, ◌>>=◌, entries_at}
 
 -- what was read before, and what is still read
@@ -47,3 +50,31 @@ module _ {A : Type 0} (entry : List ℕ → ReadResult A) where
       let one : with_front front (entries_at entry (count - i) bytes) ≡ Ok (front, bytes) =
       rw k (ap (λ (ns : List A). Ok (ns, bytes)) (append-nil front)) in
       sym so_far ∙ one
+
+-- ---- putting entries one after the other
+
+-- what was put, after one entry more
+pub puts_more : {A : Type 0} (spelled : A → List ℕ) (xs : List A) (i : ℕ) (x : A) (before now after : List ℕ)
+    → i < length xs → x ≡ get_or xs i x → now ≡ before ++ flat_map spelled (take i xs) → after ≡ now ++ spelled x
+    → after ≡ before ++ flat_map spelled (take (i + 1) xs)
+puts_more {A} spelled xs i x before now after within is so_far e =
+    e ∙ ap (λ (bytes : List ℕ). bytes ++ spelled x) so_far ∙ flat_map_more spelled before (take i xs) x
+    ∙ ap (λ (ys : List A). before ++ flat_map spelled ys)
+    (ap (λ (y : A). take i xs ++ y ∷ []) is ∙ sym (take_more xs i x within))
+
+pub fits_more : {A : Type 0} (fits : A → Type 0) (xs : List A) (i : ℕ) (x : A) → i < length xs → x ≡ get_or xs i x
+    → All fits (take i xs) → fits x → All fits (take (i + 1) xs)
+fits_more fits xs i x within is so_far h = All-more fits xs i x within so_far (subst fits is h)
+
+-- what was put of a table, after its last entry
+pub puts_all : {A : Type 0} (spelled : A → List ℕ) (xs : List A) (i : ℕ) (before counted now : List ℕ)
+    → length xs ≤ i → counted ≡ before ++ count_bytes (length xs) → now ≡ counted ++ flat_map spelled (take i xs)
+    → now ≡ before ++ table_bytes spelled xs
+puts_all {A} spelled xs i before counted now past e so_far =
+    so_far ∙ ap (λ (ys : List A). counted ++ flat_map spelled ys) (take_all i xs past)
+    ∙ ap (λ (bytes : List ℕ). bytes ++ flat_map spelled xs) e
+    ∙ append_assoc before (count_bytes (length xs)) (flat_map spelled xs)
+
+pub fits_all : {A : Type 0} (fits : A → Type 0) (xs : List A) (i : ℕ) → length xs ≤ i → All fits (take i xs)
+    → AllByRecursion fits xs
+fits_all fits xs i past so_far = recursion_from_All fits xs (subst (All fits) (take_all i xs past) so_far)

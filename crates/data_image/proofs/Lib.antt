@@ -12,5 +12,7 @@ pub mod Tests
 pub mod Instructions
 -- Reading entries one after the other
 pub mod Entries
+-- Reading in steps of which each may fail
+pub mod Steps
 -- Definitions on small cases
 pub mod Examples

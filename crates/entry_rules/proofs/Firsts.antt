@@ -1,7 +1,8 @@
 -- The first of rules that are looked for in order.
 use Rattle.std.proofs.Common.{◌≡◌, ℕ, ◌<◌, ◌+◌, List, [], ◌∷◌, ◌++◌, None, Some, length, drop, get_or, refl, sym, ap}
-use Rattle.std.proofs.Common.{subst, ◌∙◌, add-one, drop-cons}
+use Rattle.std.proofs.Common.{subst, ◌∙◌, add-one, drop-cons, ◌≤◌}
 use Rattle.std.specs.Prelude.{Option}
+use Rattle.std.proofs.lemmas.List.{drop_all}
 use Rattle.source_tree.specs.Broken.{RuleBreach, each}
 use Rattle.source_tree.specs.LookUp.{first}
 use Rattle.entry_rules.specs.Checks.{IsFirst}
@@ -47,3 +48,16 @@ pub each_found : {A : Type 0} (rules : A → List RuleBreach) (xs : List A) (i :
     → first all ≡ Some one
 each_found rules xs i d all one h e found =
     ap first (e ∙ each_at rules xs i d h) ∙ first_front (rules (get_or xs i d)) (each rules (drop (i + 1) xs)) one found
+
+-- the same of an error that may be want of memory
+pub each_first : {A : Type 0} (rules : A → List RuleBreach) (xs : List A) (i : ℕ) (x : A) (all : List RuleBreach)
+    (o : Option RuleBreach) → i < length xs → x ≡ get_or xs i x → all ≡ each rules (drop i xs) → IsFirst o (rules x)
+    → IsFirst o all
+each_first rules xs i x all None h is e found = tt
+each_first {A} rules xs i x all (Some one) h is e found =
+    each_found rules xs i x all one h e (subst (λ (y : A). first (rules y) ≡ Some one) is found)
+
+-- none of each is broken, after the last of them
+pub each_none : {A : Type 0} (rules : A → List RuleBreach) (xs : List A) (i : ℕ) (all : List RuleBreach)
+    → length xs ≤ i → all ≡ each rules (drop i xs) → all ≡ []
+each_none rules xs i all past e = e ∙ ap (each rules) (drop_all i xs past)
