@@ -72,3 +72,19 @@ own_not_device (Err fault) own is = let same : fault ≡ Device = cc in absurd (
 pub memory_not_device : {T A : Type 0} (r : Result T StoreFault) → IsErrAnd r (λ y. y ≡ Memory) → r ≡ Err Device → A
 memory_not_device (Ok x) why is = absurd why
 memory_not_device (Err y) why is = let same : y ≡ Device = cc in cc (why, same)
+
+pub memory_not_damaged : {T A : Type 0} (r : Result T StoreFault) → IsErrAnd r (λ y. y ≡ Memory) → r ≡ Err Damaged → A
+memory_not_damaged (Ok x) why is = absurd why
+memory_not_damaged (Err y) why is = let same : y ≡ Damaged = cc in cc (why, same)
+
+-- why a call is refused that passes a refusal on
+pub cause_passed : {T : Type 0} (given : Result T StoreFault) (fault : StoreFault) → IsErrAnd given (λ y. y ≡ fault)
+    → IsReadFault fault → IfErr given IsReadFault
+cause_passed given fault from cause = passed given fault from (λ r. IfErr r IsReadFault) cause
+
+pub memory_passed : {T : Type 0} (given : Result T StoreFault) (fault : StoreFault) → IsErrAnd given (λ y. y ≡ fault)
+    → fault ≡ Memory → IsErrAnd given (λ y. y ≡ Memory)
+memory_passed given fault from is = subst (λ (m : StoreFault). IsErrAnd given (λ y. y ≡ m)) is from
+
+pub memory_read : (fault : StoreFault) → fault ≡ Memory → IsReadFault fault
+memory_read fault is = subst IsReadFault (sym is) tt

@@ -1,5 +1,6 @@
 -- An entry of the catalog without its number of rows, as on a volume with the first mark.
-use Rattle.std.proofs.Common.{◌≡◌, ◌++◌, ◌-◌, ℕ, zero, suc, Bool, List, length, take, drop, refl, sym, ap, ◌∙◌, arith}
+use Rattle.std.proofs.Common.{◌≡◌, ◌++◌, ◌-◌, ◌≤◌, ℕ, zero, suc, Bool, List, length, take, drop, refl, sym, ap, ◌∙◌}
+use Rattle.std.proofs.Common.{arith}
 use Rattle.std.specs.Prelude.{Option}
 use Rattle.std.proofs.lemmas.List.{length-map, length-drop, take_all, drop_at, take-append-drop, length-take-le}
 use Rattle.byteorder.specs.Endian.{big_bytes}
@@ -38,6 +39,17 @@ counted_as {value} {own} {mark} {own_mark} {count} value_is mark_is count_is is 
     sym value_is ∙ is ∙ ap (λ (m : ℕ). catalog_value m (take 83 value) count) mark_is
     ∙ ap (λ (v : List ℕ). catalog_value own_mark (take 83 v) count) value_is
     ∙ ap (catalog_value own_mark (take 83 own)) count_is
+
+-- it is as long as its mark says
+pub long_by : {value own : List ℕ} {mark own_mark : ℕ} → length own ≡ value_length mark → value ≡ own
+    → own_mark ≡ mark → length value ≡ value_length own_mark
+long_by long value_is mark_is =
+    ap (λ (l : List ℕ). length l) value_is ∙ long ∙ ap value_length (sym mark_is)
+
+-- and has a listing
+pub listing_fits : (mark : ℕ) (value : List ℕ) → length value ≡ value_length mark → 83 ≤ length value
+listing_fits zero value long = omega (arith, long)
+listing_fits (suc mark) value long = omega (arith, long)
 
 -- the bytes from one on
 pub rest_is : (n : ℕ) (xs : List ℕ) → take (length xs - n) (drop n xs) ≡ drop n xs

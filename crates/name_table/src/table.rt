@@ -67,19 +67,27 @@ impl<'a> NameTable<'a> {
         ensures calls { IfOk result (λ table. calls_in table
             ≡ calls_in self.entry ++ name_path name.entry around.entry.items ∷ []) }
     {
-        let NameTable {
-            mut declared,
-            mut last,
-            mut before,
-        } = self;
-        let number = declared.len();
-        before.push(noted(&mut last, name, number)?)?;
-        declared.push(Declared { name, around })?;
-        Ok(NameTable {
-            declared,
-            last,
-            before,
-        })
+        let mut table = self;
+        table.add(name, around)?;
+        Ok(table)
+    }
+
+    /// Declares one more thing.
+    pub(crate) fn add(
+        &mut self,
+        name: Option<&'a Name>,
+        around: Vec<&'a Name>,
+    ) -> Result<(), AllocError>
+        requires { IsTable self.old }
+        ensures table { OnOk result (IsTable self.new) }
+        ensures calls { OnOk result (calls_in self.new
+            ≡ calls_in self.old ++ name_path name.entry around.entry.items ∷ []) }
+    {
+        let number = self.declared.len();
+        let former = noted(&mut self.last, name, number)?;
+        self.before.push(former)?;
+        self.declared.push(Declared { name, around })?;
+        Ok(())
     }
 
     /// A name with its qualifiers names the thing of that number, alone or among others.

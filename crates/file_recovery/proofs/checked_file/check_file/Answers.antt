@@ -19,9 +19,12 @@ use Rattle.records.specs.Laws.{RowsAscend}
 use Rattle.file_recovery.specs.Found.{FindsIndexes, NoIndexes}
 use Rattle.file_recovery.specs.Rows.{FindsRows, IsSized, NoRows}
 use Rattle.file_bytes.specs.Stored.{row_of, rows_of}
-use Rattle.volume_format.proofs.Looks.{looks_then}
-use Rattle.file_recovery.proofs.Calling.{on_pages_before, on_pages_before_both}
+use Rattle.volume_format.proofs.Looks.{looks_then, looks_blamed, looks_nowhere}
+use Rattle.file_recovery.proofs.Calling.{on_pages_before, on_pages_before_both, unspent_kept, sectors_kept}
+use Rattle.btree.proofs.Passing.{if_refused, never_ok, was_error}
+use Rattle.file_recovery.proofs.Faults.{cause_passed, memory_read, memory_passed, memory_not_device, memory_not_damaged}
 use Rattle.file_recovery.proofs.Entered.{is_none}
+use Rattle.file_recovery.proofs.FirstMark.{long_by, listing_fits}
 use Rattle.file_recovery.proofs.FirstMark.{without_count, counted_as, none_counted, none_miscounted, finds_counted}
 use Rattle.file_recovery.proofs.Kepts.{rows_sized, own_listing, own_key, own_value, own_next}
 use Rattle.file_recovery.proofs.NoFiles.{ReadsEntry, ReadsRows, entry_is, rows_read, file_read}
@@ -217,3 +220,150 @@ returns-clause-looks g c =
     looks_then g.D.Device ⊥ (c.check_alternates.result ≡ Err Device) _ c.args.pages.now c.read_rows.new.pages
     c.check_alternates.new.pages c.args.device.now c.read_rows.new.device c.check_alternates.new.device
     (λ is. let never : ⊥ = cc in absurd never) both c.check_alternates.ensures.looks
+
+pub returns-in_err-file-clause-file : goal.returns-in_err-file-clause-file
+returns-in_err-file-clause-file g c =
+    λ honest agrees. if_refused c.from_residual.result c.in_err-file.field-0.0 c.from_residual.ensures.1 _
+
+pub returns-in_err-file-clause-cause : goal.returns-in_err-file-clause-cause
+returns-in_err-file-clause-cause g c =
+    cause_passed c.from_residual.result c.in_err-file.field-0.0 c.from_residual.ensures.1
+    (memory_read c.in_err-file.field-0.0 c.in_err-file.ensures.memory)
+
+pub returns-in_err-check_pages-clause-file : goal.returns-in_err-check_pages-clause-file
+returns-in_err-check_pages-clause-file g c =
+    λ honest agrees. if_refused c.from_residual-in_err-check_pages.result c.in_err-check_pages.field-0.0
+    c.from_residual-in_err-check_pages.ensures.1 _
+
+pub returns-in_err-check_pages-clause-cause : goal.returns-in_err-check_pages-clause-cause
+returns-in_err-check_pages-clause-cause g c =
+    cause_passed c.from_residual-in_err-check_pages.result c.in_err-check_pages.field-0.0
+    c.from_residual-in_err-check_pages.ensures.1 c.in_err-check_pages.ensures.cause
+
+pub returns-in_err-rows-clause-file : goal.returns-in_err-rows-clause-file
+returns-in_err-rows-clause-file g c =
+    λ honest agrees.
+    if_refused c.from_residual-in_err-rows.result c.in_err-rows.field-0.0 c.from_residual-in_err-rows.ensures.1 _
+
+pub returns-in_err-rows-clause-cause : goal.returns-in_err-rows-clause-cause
+returns-in_err-rows-clause-cause g c =
+    cause_passed c.from_residual-in_err-rows.result c.in_err-rows.field-0.0 c.from_residual-in_err-rows.ensures.1
+    c.in_err-rows.ensures.cause
+
+pub returns-in_err-check_alternates-clause-file : goal.returns-in_err-check_alternates-clause-file
+returns-in_err-check_alternates-clause-file g c =
+    λ honest agrees. if_refused c.from_residual-in_err-check_alternates.result c.in_err-check_alternates.field-0.0
+    c.from_residual-in_err-check_alternates.ensures.1 _
+
+pub returns-in_err-check_alternates-clause-cause : goal.returns-in_err-check_alternates-clause-cause
+returns-in_err-check_alternates-clause-cause g c =
+    cause_passed c.from_residual-in_err-check_alternates.result c.in_err-check_alternates.field-0.0
+    c.from_residual-in_err-check_alternates.ensures.1 c.in_err-check_alternates.ensures.cause
+
+pub returns-then-not-is_next-clause-file : goal.returns-then-not-is_next-clause-file
+returns-then-not-is_next-clause-file g c = λ honest agrees. tt
+
+pub returns-then-not-is_next-clause-cause : goal.returns-then-not-is_next-clause-cause
+returns-then-not-is_next-clause-cause g c = tt
+
+pub returns-then-not-is_counted-clause-file : goal.returns-then-not-is_counted-clause-file
+returns-then-not-is_counted-clause-file g c = λ honest agrees. tt
+
+pub returns-then-not-is_counted-clause-cause : goal.returns-then-not-is_counted-clause-cause
+returns-then-not-is_counted-clause-cause g c = tt
+
+pub returns-in_default-clause-file : goal.returns-in_default-clause-file
+returns-in_default-clause-file g c = λ honest agrees. tt
+
+pub returns-in_default-clause-cause : goal.returns-in_default-clause-cause
+returns-in_default-clause-cause g c = tt
+
+pub returns-then-not-is_next-clause-looks : goal.returns-then-not-is_next-clause-looks
+returns-then-not-is_next-clause-looks g c =
+    looks_blamed g.D.Device ⊥ _ c.args.pages.now c.args.pages.now c.args.device.now c.args.device.now
+    (λ is. let never : ⊥ = cc in absurd never) (looks_nowhere g.D.Device c.args.pages.now c.args.device.now)
+
+pub returns-in_default-clause-looks : goal.returns-in_default-clause-looks
+returns-in_default-clause-looks g c =
+    looks_blamed g.D.Device ⊥ _ c.args.pages.now c.args.pages.now c.args.device.now c.args.device.now
+    (λ is. let never : ⊥ = cc in absurd never) (looks_nowhere g.D.Device c.args.pages.now c.args.device.now)
+
+pub returns-in_err-file-clause-looks : goal.returns-in_err-file-clause-looks
+returns-in_err-file-clause-looks g c =
+    looks_blamed g.D.Device ⊥ _ c.args.pages.now c.args.pages.now c.args.device.now c.args.device.now
+    (λ is. memory_not_device c.from_residual.result
+    (memory_passed c.from_residual.result c.in_err-file.field-0.0 c.from_residual.ensures.1
+    c.in_err-file.ensures.memory) is)
+    (looks_nowhere g.D.Device c.args.pages.now c.args.device.now)
+
+pub returns-in_err-file-clause-damaged : goal.returns-in_err-file-clause-damaged
+returns-in_err-file-clause-damaged g c =
+    λ honest agrees told. memory_not_damaged c.from_residual.result
+    (memory_passed c.from_residual.result c.in_err-file.field-0.0 c.from_residual.ensures.1
+    c.in_err-file.ensures.memory) told
+
+pub returns-in_err-check_pages-clause-looks : goal.returns-in_err-check_pages-clause-looks
+returns-in_err-check_pages-clause-looks g c =
+    looks_blamed g.D.Device (c.check_pages.result ≡ Err Device) _ c.args.pages.now c.check_pages.new.pages
+    c.args.device.now c.check_pages.new.device
+    (λ is. was_error c.from_residual-in_err-check_pages.result c.check_pages.result c.in_err-check_pages.field-0.0
+    Device c.from_residual-in_err-check_pages.ensures.1 c.in_err-check_pages.was is) c.check_pages.ensures.looks
+
+pub returns-clause-damaged : goal.returns-clause-damaged
+returns-clause-damaged g c = λ honest agrees told. never_ok told
+
+pub returns-clause-cause : goal.returns-clause-cause
+returns-clause-cause g c = tt
+
+pub read_rows-requires-clause-unspent : goal.read_rows-requires-clause-unspent
+read_rows-requires-clause-unspent g c =
+    unspent_kept g.D.Device (c.check_pages.result ≡ Err Device) c.args.pages.now
+    c.check_pages.new.pages c.args.device.now c.check_pages.new.device c.check_pages.ensures.looks c.requires.unspent
+
+pub check_alternates-requires-clause-unspent : goal.check_alternates-requires-clause-unspent
+check_alternates-requires-clause-unspent g c =
+    unspent_kept g.D.Device (c.read_rows.result ≡ Err Device) c.check_pages.new.pages
+    c.read_rows.new.pages c.check_pages.new.device c.read_rows.new.device c.read_rows.ensures.looks
+    (unspent_kept g.D.Device (c.check_pages.result ≡ Err Device) c.args.pages.now
+    c.check_pages.new.pages c.args.device.now c.check_pages.new.device c.check_pages.ensures.looks c.requires.unspent)
+
+pub read_rows-requires-clause-sectors : goal.read_rows-requires-clause-sectors
+read_rows-requires-clause-sectors g c =
+    sectors_kept g.D.Device (c.check_pages.result ≡ Err Device) c.args.pages.now
+    c.check_pages.new.pages c.args.device.now c.check_pages.new.device c.check_pages.ensures.looks c.requires.sectors
+
+pub check_alternates-requires-clause-sectors : goal.check_alternates-requires-clause-sectors
+check_alternates-requires-clause-sectors g c =
+    sectors_kept g.D.Device (c.read_rows.result ≡ Err Device) c.check_pages.new.pages
+    c.read_rows.new.pages c.check_pages.new.device c.read_rows.new.device c.read_rows.ensures.looks
+    (sectors_kept g.D.Device (c.check_pages.result ≡ Err Device) c.args.pages.now
+    c.check_pages.new.pages c.args.device.now c.check_pages.new.device c.check_pages.ensures.looks c.requires.sectors)
+
+pub read_rows-requires-clause-layout : goal.read_rows-requires-clause-layout
+read_rows-requires-clause-layout g c = c.new-tree.ensures.layout ∙ c.tree_layout-layout.ensures.layout
+
+pub check_alternates-requires-clause-value : goal.check_alternates-requires-clause-value
+check_alternates-requires-clause-value g c = c.listing_part-value.ensures.long
+
+pub check_pages-requires-clause-unspent : goal.check_pages-requires-clause-unspent
+check_pages-requires-clause-unspent g c = c.requires.unspent
+
+pub check_pages-requires-clause-sectors : goal.check_pages-requires-clause-sectors
+check_pages-requires-clause-sectors g c = c.requires.sectors
+
+pub read_listing-requires : goal.read_listing-requires
+read_listing-requires g c = c.listing_part-value.ensures.long
+
+pub next_arrival-next-requires : goal.next_arrival-next-requires
+next_arrival-next-requires g c = c.listing_part-value.ensures.long
+
+pub prime_root-requires : goal.prime_root-requires
+prime_root-requires g c = c.listing_part-value.ensures.long
+
+pub listing_part-value-requires : goal.listing_part-value-requires
+listing_part-value-requires g c = listing_fits (mark_of c.args.pages.now) c.args.entry.now.value c.requires.lengths.1
+
+pub is_counted-requires : goal.is_counted-requires
+is_counted-requires g c =
+    long_by c.requires.lengths.1 c.value.ensures (c.mark.ensures.is
+    ∙ c.read_rows.ensures.looks.unchanged.committed.mark ∙ c.check_pages.ensures.looks.unchanged.committed.mark)

@@ -5,7 +5,7 @@ use Rattle.station.specs.Disk.{Sector}
 use Rattle.btree_pages.specs.declared.row_layout.RowLayout.{RowLayout}
 use Rattle.btree.specs.Calls.{pages_on}
 use Rattle.btree.specs.Entries.{Entry, HasLengths, entries_of}
-use Rattle.records.specs.declared.fault.StoreFault.TheVariants.{Device, Damaged}
+use Rattle.records.specs.declared.fault.StoreFault.TheVariants.{Device, Damaged, Memory}
 use Rattle.records.specs.Files.{IsRow}
 use Rattle.records.specs.Rows.{Row}
 use Rattle.records.specs.Stores.{spec_of}
@@ -13,8 +13,10 @@ use Rattle.file_bytes.specs.Stored.{rows_of}
 use Rattle.volume_format.specs.Calls.{LooksAt}
 use Rattle.volume_format.proofs.Looks.{looks_blamed, looks_then}
 use Rattle.file_recovery.specs.Rows.{FindsRows}
-use Rattle.file_recovery.proofs.Calling.{on_tree_before, looks_on, unspent_kept}
-use Rattle.file_recovery.proofs.Faults.{memory_not_device, search_passed}
+use Rattle.file_recovery.proofs.Calling.{on_tree_before, looks_on, unspent_kept, sectors_kept}
+use Rattle.file_recovery.proofs.Faults.{memory_not_device, memory_not_damaged, search_passed}
+use Rattle.file_recovery.proofs.Faults.{cause_passed}
+use Rattle.btree.proofs.Passing.{if_refused, never_ok, was_error}
 use Rattle.btree.proofs.Ascending.{entry_at, first_at}
 use Rattle.file_recovery.proofs.ChainedRows.{rows_added, rows_are_so, found_none, found_all}
 use Rattle.file_recovery.proofs.Walked.{next_entry, row_here, no_row_here}
@@ -138,3 +140,118 @@ returns-in_err-next-in-Some-clause-cause g c =
     c.next_in.ensures.spent
     (unspent_kept g.D.Device ⊥ c.args.pages.now c.read_row.new.pages c.args.device.now c.read_row.new.device
     (row_looks g (goal.at.returns-in_err-next-in-Some-clause-cause g c).After-read_row) c.requires.unspent)
+
+pub first_in-requires : goal.first_in-requires
+first_in-requires g c = record { sectors = c.requires.sectors }
+
+pub read_row-requires-clause-unspent : goal.read_row-requires-clause-unspent
+read_row-requires-clause-unspent g c =
+    unspent_kept g.D.Device ⊥ c.args.pages.now c.loop-turn.pages c.args.device.now c.loop-turn.device
+    c.loop-turn.invariant.looks
+    c.requires.unspent
+
+pub read_row-requires-clause-sectors : goal.read_row-requires-clause-sectors
+read_row-requires-clause-sectors g c =
+    sectors_kept g.D.Device ⊥ c.args.pages.now c.loop-turn.pages c.args.device.now c.loop-turn.device
+    c.loop-turn.invariant.looks
+    c.requires.sectors
+
+pub next_in-requires : goal.next_in-requires
+next_in-requires g c =
+    record {
+      sectors = sectors_kept g.D.Device ⊥ c.args.pages.now c.read_row.new.pages c.args.device.now c.read_row.new.device
+          (row_looks g (goal.at.next_in-requires g c).After-read_row) c.requires.sectors;
+    }
+
+pub returns-in-None-clause-looks : goal.returns-in-None-clause-looks
+returns-in-None-clause-looks g c =
+    looks_blamed g.D.Device ⊥ _ c.args.pages.now c.loop-turn.pages c.args.device.now c.loop-turn.device
+    (λ is. never_ok is)
+    c.loop-turn.invariant.looks
+
+pub returns-in-None-clause-are : goal.returns-in-None-clause-are
+returns-in-None-clause-are g c = c.loop-turn.invariant.are
+
+pub returns-in-None-clause-damaged : goal.returns-in-None-clause-damaged
+returns-in-None-clause-damaged g c = λ honest agrees levels holds told. never_ok told
+
+pub returns-in-None-clause-cause : goal.returns-in-None-clause-cause
+returns-in-None-clause-cause g c = tt
+
+pub returns-in_err-next-clause-looks : goal.returns-in_err-next-clause-looks
+returns-in_err-next-clause-looks g c =
+    looks_blamed g.D.Device (c.first_in.result ≡ Err Device) _ c.args.pages.now c.first_in.new.pages c.args.device.now
+    c.first_in.new.device (λ is. was_error c.from_residual.result c.first_in.result c.in_err-next.field-0.0 Device
+    c.from_residual.ensures.1 c.in_err-next.was is) c.first_in.ensures.looks
+
+pub returns-in_err-next-clause-are : goal.returns-in_err-next-clause-are
+returns-in_err-next-clause-are g c =
+    if_refused c.from_residual.result c.in_err-next.field-0.0
+    c.from_residual.ensures.1 _
+
+pub returns-in_err-next-clause-rows : goal.returns-in_err-next-clause-rows
+returns-in_err-next-clause-rows g c =
+    λ honest agrees levels holds. if_refused c.from_residual.result c.in_err-next.field-0.0
+    c.from_residual.ensures.1 _
+
+pub returns-in_err-row-in-Some-clause-are : goal.returns-in_err-row-in-Some-clause-are
+returns-in_err-row-in-Some-clause-are g c =
+    if_refused c.from_residual-in_err-row-in-Some.result c.in_err-row-in-Some.field-0.0
+    c.from_residual-in_err-row-in-Some.ensures.1 _
+
+pub returns-in_err-row-in-Some-clause-rows : goal.returns-in_err-row-in-Some-clause-rows
+returns-in_err-row-in-Some-clause-rows g c =
+    λ honest agrees levels holds. if_refused c.from_residual-in_err-row-in-Some.result c.in_err-row-in-Some.field-0.0
+    c.from_residual-in_err-row-in-Some.ensures.1 _
+
+pub returns-in_err-row-in-Some-clause-cause : goal.returns-in_err-row-in-Some-clause-cause
+returns-in_err-row-in-Some-clause-cause g c =
+    cause_passed c.from_residual-in_err-row-in-Some.result c.in_err-row-in-Some.field-0.0
+    c.from_residual-in_err-row-in-Some.ensures.1 c.in_err-row-in-Some.ensures.cause
+
+pub returns-in_err-push-in-Some-clause-are : goal.returns-in_err-push-in-Some-clause-are
+returns-in_err-push-in-Some-clause-are g c =
+    if_refused c.from_residual-in_err-push-in-Some.result Memory
+    c.from_residual-in_err-push-in-Some.ensures.1 _
+
+pub returns-in_err-push-in-Some-clause-rows : goal.returns-in_err-push-in-Some-clause-rows
+returns-in_err-push-in-Some-clause-rows g c =
+    λ honest agrees levels holds. if_refused c.from_residual-in_err-push-in-Some.result Memory
+    c.from_residual-in_err-push-in-Some.ensures.1 _
+
+pub returns-in_err-push-in-Some-clause-cause : goal.returns-in_err-push-in-Some-clause-cause
+returns-in_err-push-in-Some-clause-cause g c =
+    cause_passed c.from_residual-in_err-push-in-Some.result Memory
+    c.from_residual-in_err-push-in-Some.ensures.1 tt
+
+pub returns-in_err-push-in-Some-clause-damaged : goal.returns-in_err-push-in-Some-clause-damaged
+returns-in_err-push-in-Some-clause-damaged g c =
+    λ honest agrees levels holds told. memory_not_damaged c.from_residual-in_err-push-in-Some.result
+    c.from_residual-in_err-push-in-Some.ensures.1 told
+
+pub returns-in_err-next-in-Some-clause-are : goal.returns-in_err-next-in-Some-clause-are
+returns-in_err-next-in-Some-clause-are g c =
+    if_refused c.from_residual-in_err-next-in-Some.result c.in_err-next-in-Some.field-0.0
+    c.from_residual-in_err-next-in-Some.ensures.1 _
+
+pub returns-in_err-next-in-Some-clause-rows : goal.returns-in_err-next-in-Some-clause-rows
+returns-in_err-next-in-Some-clause-rows g c =
+    λ honest agrees levels holds. if_refused c.from_residual-in_err-next-in-Some.result c.in_err-next-in-Some.field-0.0
+    c.from_residual-in_err-next-in-Some.ensures.1 _
+
+pub returns-clause-looks : goal.returns-clause-looks
+returns-clause-looks g c =
+    looks_blamed g.D.Device ⊥ _ c.args.pages.now c.loop-turn.pages c.args.device.now c.loop-turn.device
+    (λ is. let never : ⊥ = cc in absurd never) c.loop-turn.invariant.looks
+
+pub returns-clause-are : goal.returns-clause-are
+returns-clause-are g c = tt
+
+pub returns-clause-rows : goal.returns-clause-rows
+returns-clause-rows g c = λ honest agrees levels holds. tt
+
+pub returns-clause-damaged : goal.returns-clause-damaged
+returns-clause-damaged g c = λ honest agrees levels holds told. let never : ⊥ = cc in absurd never
+
+pub returns-clause-cause : goal.returns-clause-cause
+returns-clause-cause g c = tt
