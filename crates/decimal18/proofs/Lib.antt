@@ -13,6 +13,7 @@ pub mod Powers
 pub mod ProductLaws
 pub mod QuotientLaws
 pub mod QuotientScales
+pub mod Quotients
 pub mod Raised
 pub mod ReceiverLaws
 pub mod Receivers

@@ -29,7 +29,7 @@ minus : (n m : ℕ) → (n ≡ 0 → m ≡ 0) → neg_ℤ (pos m) ≡ signed_int
 minus zero m h = ap (λ k. neg_ℤ (pos k)) (h refl) ∙ sym (ap pos (h refl))
 minus (suc n) m h = refl
 
-div-both : (n b : ℕ) → int_div (signed_integer true n) (negsuc b) ≡ pos (n / suc b)
+pub div-both : (n b : ℕ) → int_div (signed_integer true n) (negsuc b) ≡ pos (n / suc b)
 div-both zero b = ap (λ m. neg_ℤ (pos m)) (zero-div (suc b)) ∙ sym (ap pos (zero-div (suc b)))
 div-both (suc n) b = refl
 

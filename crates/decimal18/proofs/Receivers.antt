@@ -4,7 +4,7 @@ use Rattle.std.proofs.Common.{unsigned_abs, ℤ, pos, int_div, nat_lt, if◌then
 use Rattle.std.proofs.lemmas.Bool.{le-leb, lt-leb, cases_lt, lt-ltb, le-ltb}
 use Rattle.std.proofs.lemmas.Nat.{mod_below}
 use Rattle.decimal18.specs.TotalOrder.{ten_pos}
-use Rattle.decimal18.specs.Fraction.{Fraction, is_negative, signed_integer}
+use Rattle.decimal18.specs.Fraction.{Fraction, is_negative, of_parts, signed_integer}
 use Rattle.decimal18.specs.Arithmetic.{size_error}
 use Rattle.decimal18.specs.Receiver.{digits_at, at_scale, fitted_decimal, low_digits, truncated_decimal}
 use Rattle.decimal18.specs.declared.size_error.Size.{Size}
@@ -94,3 +94,37 @@ pub low_at : (x : Fraction) (digits scale : ℕ) (rounding : Rounding)
     → (low_digits x digits scale rounding).scale ≡ scale
 unfolding low_digits
 low_at x digits scale rounding = refl
+
+-- The same of what a call returned.
+pub held_below : (x : Fraction) (digits scale : ℕ) (rounding : Rounding) (r : Result Fraction Size)
+    → r ≡ fitted_decimal x digits scale rounding → IfOk r (λ kept. unsigned_abs kept.coefficient < 10 ^ digits)
+held_below x digits scale rounding r e =
+    subst (λ r. IfOk r (λ kept. unsigned_abs kept.coefficient < 10 ^ digits)) (sym e)
+    (fitted_below x digits scale rounding)
+
+pub held_at : (x : Fraction) (digits scale : ℕ) (rounding : Rounding) (r : Result Fraction Size)
+    → r ≡ fitted_decimal x digits scale rounding → IfOk r (λ kept. kept.scale ≡ scale)
+held_at x digits scale rounding r e =
+    subst (λ r. IfOk r (λ kept. kept.scale ≡ scale)) (sym e) (fitted_at x digits scale rounding)
+
+pub kept_below : (x : Fraction) (digits scale : ℕ) (rounding : Rounding) (z : Fraction)
+    → z ≡ low_digits x digits scale rounding → unsigned_abs z.coefficient < 10 ^ digits
+kept_below x digits scale rounding z e =
+    subst (λ (f : Fraction). unsigned_abs f.coefficient < 10 ^ digits) (sym e) (low_below_limit x digits scale rounding)
+
+pub kept_at : (x : Fraction) (digits scale : ℕ) (rounding : Rounding) (z : Fraction)
+    → z ≡ low_digits x digits scale rounding → z.scale ≡ scale
+kept_at x digits scale rounding z e =
+    ap (λ (f : Fraction). f.scale) e ∙ low_at x digits scale rounding
+
+-- The number of low digits, by its sign and its digits.
+pub low_made : (x : Fraction) (digits scale : ℕ) (rounding : Rounding) (b : Bool) (m from kept : ℕ) (z : Fraction)
+    → b ≡ is_negative x.coefficient → m ≡ unsigned_abs x.coefficient → from ≡ x.scale
+    → kept ≡ digits_at m from scale rounding % 10 ^ digits → z ≡ of_parts b kept scale
+    → z ≡ low_digits x digits scale rounding
+low_made x digits scale rounding b m from kept z eb em ef ek ez =
+    let same : kept ≡ digits_at (unsigned_abs x.coefficient) x.scale scale rounding % 10 ^ digits = ek
+    ∙ ap (λ n. digits_at n from scale rounding % 10 ^ digits) em
+    ∙ ap (λ n. digits_at (unsigned_abs x.coefficient) n scale rounding % 10 ^ digits) ef in
+    ez ∙ ap (λ t. of_parts t kept scale) eb ∙ ap (λ n. of_parts (is_negative x.coefficient) n scale) same
+    ∙ sym (low_by x digits scale rounding)

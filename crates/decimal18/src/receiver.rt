@@ -135,7 +135,6 @@ impl Dec {
     /// The low digits that fit, in 128 bits.
     #[cold]
     #[inline(never)]
-    #[tactic(auto, using(crate::proofs::Receivers::low_by, crate::proofs::Powers::power_le))]
     fn long_cut(self, digits: u8, scale: u8, rounding: Rounding) -> Dec
         requires digits { digits ≤ 38 }
         requires scale { scale ≤ 18 }
@@ -149,7 +148,6 @@ impl Dec {
     /// What a receiver of `digits` digits (at most 38), `scale` of them decimals (at most 18), holds of the number: a size
     /// error where it would have more whole digits than that.
     #[inline]
-    #[tactic(auto, using(crate::proofs::Receivers::fitted_below, crate::proofs::Receivers::fitted_at))]
     pub fn fit(self, digits: u8, scale: u8, rounding: Rounding) -> Result<Dec, Size>
         requires digits { digits ≤ 38 }
         requires scale { scale ≤ 18 }
@@ -168,7 +166,6 @@ impl Dec {
 
     /// What such a receiver holds where no size error is told: the low digits that fit.
     #[inline]
-    #[tactic(auto, using(crate::proofs::Receivers::low_below_limit, crate::proofs::Receivers::low_at))]
     pub fn cut(self, digits: u8, scale: u8, rounding: Rounding) -> Dec
         requires digits { digits ≤ 38 }
         requires scale { scale ≤ 18 }

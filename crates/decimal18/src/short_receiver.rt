@@ -143,7 +143,6 @@ impl Dec {
     }
 
     /// The low digits that fit, of this number, whose coefficient is known to fit 64 bits.
-    #[tactic(auto, using(crate::proofs::Receivers::low_by))]
     pub(crate) fn short_cut(
         self,
         coefficient: i64,
