@@ -6,3 +6,4 @@ pub mod Going
 pub mod Ends
 pub mod Descent
 mod Examples
+pub mod Beginnings

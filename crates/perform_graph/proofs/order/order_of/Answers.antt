@@ -1,12 +1,15 @@
-use Rattle.std.proofs.Common.{◌≡◌, List, ℕ, ◌<◌, ◌-◌, length, drop, take, map, sym, ap, subst, ◌∙◌, arith}
+use Rattle.std.proofs.Common.{◌≡◌, List, ℕ, ◌<◌, ◌-◌, true, length, drop, take, map, sym, ap, subst, ◌∙◌}
+use Rattle.std.proofs.Common.{arith, rules}
 use Rattle.std.specs.Prelude.{All}
-use Rattle.std.proofs.lemmas.List.{take_rest}
-use Rattle.std.proofs.lemmas.Option.{MatchOption-at_some}
+use Rattle.std.proofs.lemmas.List.{take_rest, get_or_read}
+use Rattle.std.proofs.lemmas.Option.{MatchOption-at_some, MatchOption-at_none}
+use Rattle.perform_graph.specs.declared.progress.Progress.TheVariants.{Unseen}
 use Rattle.perform_graph.specs.declared.visit.Visit.{Visit}
 use Rattle.perform_graph.specs.Order.{AreRanks, IsRange, PerformOneAnother, marks}
-use Rattle.perform_graph.specs.Walk.{IsCycle, IsWalked, rank_of}
+use Rattle.perform_graph.specs.Walk.{IsCycle, IsWalked, IsWalkState, is_seen, state, rank_of}
 use Rattle.perform_graph.proofs.Ends.{are_heights, perform_one_another, ring_within}
-use Rattle.std.proofs.lemmas.Grind.{common_steps}
+use Rattle.perform_graph.proofs.Beginnings.{walk_new, length_new, seen_next, not_seen, ranges_as, grouped_as}
+use Rattle.perform_graph.proofs.Beginnings.{begins_within}
 use Rattle.perform_graph.proofs.order.order_of.Goals as goal
 use Rattle.perform_graph.proofs.order.order_of.Goals.{In-Some}
 
@@ -62,37 +65,92 @@ returns c =
     c.loop-paragraph.invariant.same seen ranges))
 
 pub loop-paragraph-init : goal.loop-paragraph-init
-loop-paragraph-init c = grind (arith, common_steps)
+loop-paragraph-init c =
+    let walk = c.in_ok-walk.walk in
+    record {
+      stands = walk_new c.in_ok-performs.performs.performed.now c.args.count walk.states.items walk.placed
+          c.in_ok-walk.ensures.states c.in_ok-walk.ensures.placed;
+      path = c.in_ok-walk.ensures.path;
+      same = length_new c.args.count walk.states.items c.in_ok-walk.ensures.states;
+      seen = λ paragraph lt. absurd (omega arith);
+    }
 
 pub loop-paragraph-preserved : goal.loop-paragraph-preserved
-loop-paragraph-preserved c = grind (arith, common_steps)
+loop-paragraph-preserved c =
+    let performed = c.in_ok-performs.performs.performed.now in
+    let paragraph = c.loop-paragraph.paragraph in
+    let states = c.loop-paragraph.walk.states.items in
+    let new = c.cycle_from.new.self in
+    let walked : IsWalked performed paragraph states new.states.items new.path.items new.placed =
+    MatchOption-at_none (IsWalked performed paragraph states new.states.items new.path.items new.placed)
+    (λ from. IsCycle performed (length states) (drop from new.path.items)) (search rules) c.in_ok-depth.ensures in
+    record {
+      stands = subst (λ p. IsWalkState performed new.states.items p new.placed) walked.done walked.stands;
+      path = walked.done;
+      same = walked.same ∙ c.loop-paragraph.invariant.same;
+      seen = seen_next paragraph states new.states.items c.loop-paragraph.invariant.seen walked.seen walked.root_seen;
+    }
 
 pub loop-paragraph-preserved-then-is_seen : goal.loop-paragraph-preserved-then-is_seen
-loop-paragraph-preserved-then-is_seen c = grind (arith, common_steps)
+loop-paragraph-preserved-then-is_seen c =
+    let states = c.loop-paragraph.walk.states.items in
+    let one = c.index.result.now in
+    let within : c.loop-paragraph.paragraph < length states = omega (arith, c.loop-paragraph.invariant.same) in
+    let seen : is_seen (state states c.loop-paragraph.paragraph) ≡ true =
+    ap is_seen (sym (get_or_read states c.loop-paragraph.paragraph one within c.index.ensures Unseen))
+    ∙ sym c.is_seen.ensures ∙ c.if-is_seen.true in
+    record {
+      stands = c.loop-paragraph.invariant.stands;
+      path = c.loop-paragraph.invariant.path;
+      same = c.loop-paragraph.invariant.same;
+      seen = seen_next c.loop-paragraph.paragraph states states c.loop-paragraph.invariant.seen (λ p h. h) seen;
+    }
 
 pub loop-paragraph-smaller : goal.loop-paragraph-smaller
-loop-paragraph-smaller c = grind (arith, common_steps)
+loop-paragraph-smaller c = omega arith
 
 pub loop-paragraph-smaller-then-is_seen : goal.loop-paragraph-smaller-then-is_seen
-loop-paragraph-smaller-then-is_seen c = grind (arith, common_steps)
+loop-paragraph-smaller-then-is_seen c = omega arith
 
 pub cycle_from-requires-clause-ranges : goal.cycle_from-requires-clause-ranges
-cycle_from-requires-clause-ranges c = grind (arith, common_steps)
+cycle_from-requires-clause-ranges c =
+    ranges_as c.args.count (length c.loop-paragraph.walk.states.items) c.in_ok-performs.performs.performed.now
+    c.args.performed.now c.loop-paragraph.invariant.same c.in_ok-performs.ensures.performed c.requires
 
 pub cycle_from-requires-clause-grouped : goal.cycle_from-requires-clause-grouped
-cycle_from-requires-clause-grouped c = grind (arith, common_steps)
+cycle_from-requires-clause-grouped c =
+    let performs = c.in_ok-performs.performs in
+    grouped_as c.args.count (length c.loop-paragraph.walk.states.items) performs.performed.now c.args.performed.now
+    performs.last.items performs.before.items c.loop-paragraph.invariant.same c.in_ok-performs.ensures.performed
+    c.in_ok-performs.ensures.grouped
 
 pub cycle_from-requires-clause-stands : goal.cycle_from-requires-clause-stands
-cycle_from-requires-clause-stands c = grind (arith, common_steps)
+cycle_from-requires-clause-stands c = c.loop-paragraph.invariant.stands
+
+pub cycle_from-requires-clause-path : goal.cycle_from-requires-clause-path
+cycle_from-requires-clause-path c = c.loop-paragraph.invariant.path
+
+pub cycle_from-requires-clause-within : goal.cycle_from-requires-clause-within
+cycle_from-requires-clause-within c = omega (arith, c.loop-paragraph.invariant.same)
 
 pub cycle_from-requires-clause-unseen : goal.cycle_from-requires-clause-unseen
-cycle_from-requires-clause-unseen c = grind (arith, common_steps)
+cycle_from-requires-clause-unseen c =
+    let states = c.loop-paragraph.walk.states.items in
+    let one = c.index.result.now in
+    let within : c.loop-paragraph.paragraph < length states = omega (arith, c.loop-paragraph.invariant.same) in
+    sym (get_or_read states c.loop-paragraph.paragraph one within c.index.ensures Unseen)
+    ∙ not_seen one (sym c.is_seen.ensures ∙ c.if-is_seen.false)
 
 pub slice_bounds-marks_of-start : goal.slice_bounds-marks_of-start
-slice_bounds-marks_of-start c = grind (arith, common_steps)
+slice_bounds-marks_of-start c =
+    begins_within c.cycle_from.new.self.path.items c.deref.result.now c.in-Some.depth c.deref.ensures.value
+    (the_ring (goal.at.slice_bounds-marks_of-start c).In-Some).some
 
 pub slice_bounds-marks_of-end : goal.slice_bounds-marks_of-end
-slice_bounds-marks_of-end c = grind (arith, common_steps)
+slice_bounds-marks_of-end c = omega arith
 
 pub slice_bounds-marks_of-count : goal.slice_bounds-marks_of-count
-slice_bounds-marks_of-count c = grind (arith, common_steps)
+slice_bounds-marks_of-count c =
+    let within = begins_within c.cycle_from.new.self.path.items c.deref.result.now c.in-Some.depth
+    c.deref.ensures.value (the_ring (goal.at.slice_bounds-marks_of-count c).In-Some).some in
+    omega arith
