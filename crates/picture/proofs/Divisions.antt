@@ -1,6 +1,7 @@
 -- The principle that divides a picture loses none: however a picture is divided, the reader passes it.
-use Rattle.std.proofs.Common.{◌≡◌, Bool, true, false, not, ◌&&◌, if◌then◌else◌, nat_lt, List, [], ◌∷◌, ◌++◌, inl, inr}
-use Rattle.std.proofs.Common.{refl, sym, ap, ◌∙◌, subst, arith}
+use Rattle.std.proofs.Common.{◌≡◌, ℕ, zero, suc, Bool, true, false, not, ◌&&◌, if◌then◌else◌, nat_lt, List, [], ◌∷◌}
+use Rattle.std.proofs.Common.{◌++◌, None, Some, inl, inr, refl, sym, ap, ◌∙◌, subst}
+use Rattle.std.specs.Prelude.{slice_get}
 use Rattle.picture.specs.declared.run.Run.{Run}
 use Rattle.picture.specs.declared.class.Class.{Class}
 use Rattle.picture.specs.declared.class.Class.TheVariants as c
@@ -23,47 +24,76 @@ Apart one other = (x : Symbol) → class_has one x ≡ true → class_has other 
 apart : Class → Class → Symbol → Bool
 apart one other x = not (class_has one x && class_has other x)
 
+abbrev every_of : {X : Type 0} → List X → (X → Bool) → Bool
+every_of [] test = true
+every_of (x ∷ more) test = test x && every_of more test
+
+abbrev symbols : List Symbol
+symbols =
+    s.A ∷ s.X ∷ s.Nine ∷ s.S ∷ s.V ∷ s.B ∷ s.Zero ∷ s.Slash ∷ s.Comma ∷ s.Point ∷ s.Z ∷ s.Star ∷ s.Plus ∷ s.Minus
+    ∷ s.Currency ∷ s.Cr ∷ s.Db ∷ []
+
+abbrev suppressions : List Suppression
+suppressions =
+    z.Nothing ∷ z.Spaces ∷ z.Asterisks ∷ z.FloatingCurrency ∷ z.FloatingPlus ∷ z.FloatingMinus ∷ []
+
 unfoldable pub every_symbol : (Symbol → Bool) → Bool
-every_symbol test =
-    test s.A && test s.X && test s.Nine && test s.S && test s.V && test s.B && test s.Zero && test s.Slash
-    && test s.Comma
-    && test s.Point && test s.Z && test s.Star && test s.Plus && test s.Minus && test s.Currency && test s.Cr
-    && test s.Db
+every_symbol test = every_of symbols test
 
 unfoldable pub every_suppression : (Suppression → Bool) → Bool
-every_suppression test =
-    test z.Nothing && test z.Spaces && test z.Asterisks && test z.FloatingCurrency && test z.FloatingPlus
-    && test z.FloatingMinus
+every_suppression test = every_of suppressions test
+
+left : (a b : Bool) → (a && b) ≡ true → a ≡ true
+left true b e = refl
+left false b e = e
+
+right : (a b : Bool) → (a && b) ≡ true → b ≡ true
+right true b e = e
+right false true e = refl
+right false false e = e
+
+some_is : {X : Type 0} (x y : X) → Some x ≡ Some y → x ≡ y
+some_is x y e = cc
+
+none_is : {A X : Type 0} (x : X) → None ≡ Some x → A
+none_is x e = cc
+
+holds_at : {X : Type 0} (test : X → Bool) (all : List X) → every_of all test ≡ true → (n : ℕ) (x : X)
+    → slice_get all n ≡ Some x → test x ≡ true
+holds_at test [] h n x e = none_is x e
+holds_at test (y ∷ all) h zero x e =
+    subst (λ value. test value ≡ true) (some_is y x e) (left (test y) (every_of all test) h)
+holds_at test (y ∷ all) h (suc n) x e = holds_at test all (right (test y) (every_of all test) h) n x e
 
 pub symbol_holds : (test : Symbol → Bool) → every_symbol test ≡ true → (x : Symbol) → test x ≡ true
 unfolding every_symbol
-symbol_holds test h s.A = grind arith
-symbol_holds test h s.X = grind arith
-symbol_holds test h s.Nine = grind arith
-symbol_holds test h s.S = grind arith
-symbol_holds test h s.V = grind arith
-symbol_holds test h s.B = grind arith
-symbol_holds test h s.Zero = grind arith
-symbol_holds test h s.Slash = grind arith
-symbol_holds test h s.Comma = grind arith
-symbol_holds test h s.Point = grind arith
-symbol_holds test h s.Z = grind arith
-symbol_holds test h s.Star = grind arith
-symbol_holds test h s.Plus = grind arith
-symbol_holds test h s.Minus = grind arith
-symbol_holds test h s.Currency = grind arith
-symbol_holds test h s.Cr = grind arith
-symbol_holds test h s.Db = grind arith
+symbol_holds test h s.A = holds_at test symbols h 0 s.A refl
+symbol_holds test h s.X = holds_at test symbols h 1 s.X refl
+symbol_holds test h s.Nine = holds_at test symbols h 2 s.Nine refl
+symbol_holds test h s.S = holds_at test symbols h 3 s.S refl
+symbol_holds test h s.V = holds_at test symbols h 4 s.V refl
+symbol_holds test h s.B = holds_at test symbols h 5 s.B refl
+symbol_holds test h s.Zero = holds_at test symbols h 6 s.Zero refl
+symbol_holds test h s.Slash = holds_at test symbols h 7 s.Slash refl
+symbol_holds test h s.Comma = holds_at test symbols h 8 s.Comma refl
+symbol_holds test h s.Point = holds_at test symbols h 9 s.Point refl
+symbol_holds test h s.Z = holds_at test symbols h 10 s.Z refl
+symbol_holds test h s.Star = holds_at test symbols h 11 s.Star refl
+symbol_holds test h s.Plus = holds_at test symbols h 12 s.Plus refl
+symbol_holds test h s.Minus = holds_at test symbols h 13 s.Minus refl
+symbol_holds test h s.Currency = holds_at test symbols h 14 s.Currency refl
+symbol_holds test h s.Cr = holds_at test symbols h 15 s.Cr refl
+symbol_holds test h s.Db = holds_at test symbols h 16 s.Db refl
 
 pub suppression_holds : (test : Suppression → Bool) → every_suppression test ≡ true → (by : Suppression)
     → test by ≡ true
 unfolding every_suppression
-suppression_holds test h z.Nothing = grind arith
-suppression_holds test h z.Spaces = grind arith
-suppression_holds test h z.Asterisks = grind arith
-suppression_holds test h z.FloatingCurrency = grind arith
-suppression_holds test h z.FloatingPlus = grind arith
-suppression_holds test h z.FloatingMinus = grind arith
+suppression_holds test h z.Nothing = holds_at test suppressions h 0 z.Nothing refl
+suppression_holds test h z.Spaces = holds_at test suppressions h 1 z.Spaces refl
+suppression_holds test h z.Asterisks = holds_at test suppressions h 2 z.Asterisks refl
+suppression_holds test h z.FloatingCurrency = holds_at test suppressions h 3 z.FloatingCurrency refl
+suppression_holds test h z.FloatingPlus = holds_at test suppressions h 4 z.FloatingPlus refl
+suppression_holds test h z.FloatingMinus = holds_at test suppressions h 5 z.FloatingMinus refl
 
 both : (a b : Bool) → not (a && b) ≡ true → a ≡ true → b ≡ true → ⊥
 both true true e f g = cc
