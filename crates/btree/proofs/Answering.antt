@@ -57,6 +57,13 @@ looks_there layout pages page bytes key sought entry (Below child) is looks = re
   child_is = looks.child_is;
 }
 
+-- an answer is one thing
+pub below_not_here : {A : Type 0} {child : ℕ} → Below child ≡ Here → A
+below_not_here is = cc
+
+pub missing_not_here : {A : Type 0} → Missing ≡ Here → A
+missing_not_here is = cc
+
 -- A page alone: nothing stands left or right of it.
 alone : (layout : RowLayout) (key : List ℕ) (rows : List (List ℕ)) → IsAround layout key rows [] rows []
 alone layout key rows = record {

@@ -9,9 +9,11 @@ use Rattle.std.specs.Ordering.{is_gt}
 use Rattle.std.proofs.lemmas.List.{map-append}
 use Rattle.std.proofs.lemmas.List.Elements.{All-head, All-tail, Contains-append_right}
 use Rattle.std.proofs.lemmas.Bool.{cases_lt}
+use Rattle.std.proofs.lemmas.Option.{same_Some}
 use Rattle.station.specs.Disk.{Sector}
 use Rattle.btree_pages.specs.declared.row_layout.RowLayout.{RowLayout}
-use Rattle.btree_pages.specs.declared.row_layout.Kind.TheVariants.{Leaf}
+use Rattle.btree_pages.specs.declared.row_layout.Kind.{Kind}
+use Rattle.btree_pages.specs.declared.row_layout.Kind.TheVariants.{Leaf, Inner}
 use Rattle.btree_pages.specs.Keys.{key_cmp, key_of, keys_of, Ascend, Precedes, AllAbove}
 use Rattle.btree_pages.specs.Node.{Node, node_in}
 use Rattle.btree.specs.declared.place.LeafPlace.{LeafPlace}
@@ -20,7 +22,7 @@ use Rattle.btree.specs.Tree.{TreeNode, rows_of, rows_in_order, leaves_of, IsTree
 use Rattle.btree.specs.Tree.{node_on}
 use Rattle.btree.specs.Path.{LevelZipper, level_of}
 use Rattle.btree.specs.Entries.{Entry, entry_of, entries_of_rows, first_entry_after, first_entry}
-use Rattle.btree.specs.Places.{HasLeaf, IsLeafPlace, next_within, IsNextIn, IsNextOf}
+use Rattle.btree.specs.Places.{HasLeaf, IsLeafPlace, next_within, IsNextIn, IsNextOf, SpellsLeaf}
 use Rattle.btree.proofs.Order.{Up, up_head, up_left, up_right, not_itself, greater_is, all_below_first}
 use Rattle.btree.proofs.Order.{all_below_weaker}
 use Rattle.btree.proofs.Runs.{in_head, in_none, in_cases}
@@ -28,6 +30,24 @@ use Rattle.btree.proofs.Ways.{rows_around}
 use Rattle.btree.proofs.Descents.{spot_in}
 use Rattle.btree.proofs.Found.{after_passes}
 use Rattle.btree.proofs.Answering.{in_both, one_of_first, entry_there, first_at_end}
+
+-- Bytes that spell an inner page spell no leaf, and those that spell a leaf do.
+leaf_or_inner : Leaf ≡ Inner → ⊥
+leaf_or_inner is = cc
+
+pub inner_no_leaf : (layout : RowLayout) (bytes : Sector) (node : Node) (rows : List (List ℕ))
+    → node_in layout bytes ≡ Some node → node.kind ≡ Inner → node_in layout bytes ≡ Some (node_of layout Leaf rows) → ⊥
+inner_no_leaf layout bytes node rows is inner leaf =
+    let same : node_of layout Leaf rows ≡ node = same_Some (node_of layout Leaf rows) node (sym leaf ∙ is) in
+    leaf_or_inner (ap (λ (n : Node). n.kind) same ∙ inner)
+
+pub spells_leaf : (layout : RowLayout) (bytes : Sector) (node : Node) → node_in layout bytes ≡ Some node
+    → node.layout ≡ layout → node.kind ≡ Leaf → SpellsLeaf layout bytes
+spells_leaf layout bytes node is layout_is leaf = (
+  node.rows,
+  is ∙ ap (λ (kind : Kind). Some (node_of node.layout kind node.rows)) leaf
+      ∙ ap (λ (l : RowLayout). Some (node_of l Leaf node.rows)) layout_is,
+)
 
 -- Entries of rows above a key are above it.
 above_at : (layout : RowLayout) (low : List ℕ) (rows : List (List ℕ)) (n : ℕ) (entry : Entry) → AllAbove layout low rows

@@ -153,6 +153,22 @@ put_is_insert Memory why = tt
 put_is_insert Spent why = tt
 put_is_insert ForeignMark why = why
 
+pub put_is_write : (e : PagesError) → IsPutRefusal e → IsWriteRefusal e
+put_is_write Device why = why
+put_is_write Full why = absurd why
+put_is_write Damaged why = why
+put_is_write Memory why = tt
+put_is_write Spent why = tt
+put_is_write ForeignMark why = why
+
+pub write_is_parent : (e : PagesError) → IsWriteRefusal e → IsParentRefusal e
+write_is_parent Device why = why
+write_is_parent Full why = tt
+write_is_parent Damaged why = absurd why
+write_is_parent Memory why = tt
+write_is_parent Spent why = tt
+write_is_parent ForeignMark why = why
+
 pub read_is_search : (layout : RowLayout) (e : PagesError) → IsReadRefusal e → IsSearchRefusal layout e
 read_is_search layout Device why = tt
 read_is_search layout Full why = why
@@ -199,6 +215,22 @@ rest_not_device x why is = absurd (subst IsRestRefusal (same_error is) why)
 pub write_not_device : {T A : Type 0} (x : PagesError) → IsWriteRefusal x
     → (◌≡◌ {A = Result T PagesError} (Err x) (Err Device)) → A
 write_not_device x why is = absurd (subst IsWriteRefusal (same_error is) why)
+
+pub put_not_full : {T A : Type 0} (x : PagesError) → IsPutRefusal x
+    → (◌≡◌ {A = Result T PagesError} (Err x) (Err Full)) → A
+put_not_full x why is = absurd (subst IsPutRefusal (same_error is) why)
+
+pub put_so_write : {T : Type 0} (r : Result T PagesError) → IfErr r IsPutRefusal → IfErr r IsWriteRefusal
+put_so_write (Ok y) why = tt
+put_so_write (Err e) why = put_is_write e why
+
+pub put_so_not_full : {T A : Type 0} (r : Result T PagesError) → IfErr r IsPutRefusal → r ≡ Err Full → A
+put_so_not_full (Ok y) why is = never_ok is
+put_so_not_full (Err e) why is = put_not_full e why is
+
+pub write_not_damaged : {T A : Type 0} (x : PagesError) → IsWriteRefusal x
+    → (◌≡◌ {A = Result T PagesError} (Err x) (Err Damaged)) → A
+write_not_damaged x why is = absurd (subst IsWriteRefusal (same_error is) why)
 
 pub damaged_alone : {T A : Type 0} (r : Result T PagesError) → OnErr r (r ≡ Err Damaged) → r ≡ Err Device → A
 damaged_alone (Ok x) why is = never_ok is
@@ -314,6 +346,9 @@ changes_two old one mid two new first second =
 -- how many more there are after two calls
 pub few_then : (old mid new m n : ℕ) → mid ≤ old + m → new ≤ mid + n → new ≤ old + (m + n)
 few_then old mid new m n first second = omega arith
+
+pub one_spare : (n : ℕ) → n + 1 ≤ n + 1
+one_spare n = omega arith
 
 pub few_none : (old new m : ℕ) → new ≤ old + m → new + 0 ≤ old + m
 few_none old new m few = omega arith

@@ -6,6 +6,12 @@ use Rattle.btree_pages.specs.Node.{Node}
 use Rattle.btree_pages.specs.Edits.{node_with_row}
 use Rattle.btree.specs.Changes.{pages_of_map}
 use Rattle.btree.proofs.Writes.{put_node}
+use Rattle.std.specs.Prelude.{Err, IfErr, ◌↔◌}
+use Rattle.std.proofs.Common.{true}
+use Rattle.pages.specs.Pages.{is_spent}
+use Rattle.pages.specs.declared.error.PagesError.TheVariants.{Spent}
+use Rattle.btree.specs.Refusals.{IsWriteRefusal}
+use Rattle.btree.proofs.Passing.{passed, never_ok, still_error, if_refused}
 use Rattle.btree.proofs.put_new.first_leaf.Goals as goal
 
 pub returns-clause-pages : goal.returns-clause-pages
@@ -22,3 +28,50 @@ pub returns-in_err-page-clause-full : goal.returns-in_err-page-clause-full
 returns-in_err-page-clause-full c = λ is.
     let told = rw is at c.from_residual.ensures.1 in
     c.in_err-page.ensures.full (cc told)
+
+pub returns-in_err-page-clause-some : goal.returns-in_err-page-clause-some
+returns-in_err-page-clause-some c =
+    if_refused c.from_residual.result c.in_err-page.field-0.0 c.from_residual.ensures.1 _
+
+pub returns-in_err-page-clause-pages : goal.returns-in_err-page-clause-pages
+returns-in_err-page-clause-pages c =
+    if_refused c.from_residual.result c.in_err-page.field-0.0 c.from_residual.ensures.1 _
+
+pub returns-in_err-page-clause-changed_pages : goal.returns-in_err-page-clause-changed_pages
+returns-in_err-page-clause-changed_pages c = c.put_new.ensures.changed_pages
+
+pub returns-clause-changed_pages : goal.returns-clause-changed_pages
+returns-clause-changed_pages c = c.put_new.ensures.changed_pages
+
+pub returns-in_err-page-clause-filled : goal.returns-in_err-page-clause-filled
+returns-in_err-page-clause-filled c = c.put_new.ensures.filled
+
+pub returns-clause-filled : goal.returns-clause-filled
+returns-clause-filled c = c.put_new.ensures.filled
+
+pub returns-in_err-page-clause-keeps : goal.returns-in_err-page-clause-keeps
+returns-in_err-page-clause-keeps c = c.put_new.ensures.keeps
+
+pub returns-clause-keeps : goal.returns-clause-keeps
+returns-clause-keeps c = c.put_new.ensures.keeps
+
+pub returns-in_err-page-clause-cause : goal.returns-in_err-page-clause-cause
+returns-in_err-page-clause-cause c = passed c.from_residual.result c.in_err-page.field-0.0 c.from_residual.ensures.1
+    (λ r. IfErr r IsWriteRefusal)
+    c.in_err-page.ensures.cause
+
+pub returns-in_err-page-clause-spent : goal.returns-in_err-page-clause-spent
+returns-in_err-page-clause-spent c =
+    let told = c.in_err-page.ensures.spent in
+    passed c.from_residual.result c.in_err-page.field-0.0 c.from_residual.ensures.1
+    (λ r. (r ≡ Err Spent) ↔ (is_spent c.args.pages.now ≡ true))
+    (λ is. told.0 (still_error is), λ was. still_error (told.1 was))
+
+pub returns-clause-some : goal.returns-clause-some
+returns-clause-some c = c.in_ok-page.ensures.some
+
+pub returns-clause-full : goal.returns-clause-full
+returns-clause-full c = λ is. never_ok is
+
+pub returns-clause-spent : goal.returns-clause-spent
+returns-clause-spent c = (λ is. never_ok is, λ was. never_ok (c.in_ok-page.ensures.spent.1 was))

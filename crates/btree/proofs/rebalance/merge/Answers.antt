@@ -6,7 +6,7 @@ use Rattle.pages.specs.declared.error.PagesError.TheVariants.{Spent}
 use Rattle.btree_pages.specs.Node.{Node}
 use Rattle.btree.specs.Changes.{pages_of_map}
 use Rattle.btree.specs.Refusals.{IsPutRefusal}
-use Rattle.btree.proofs.Passing.{passed, never_ok, still_error}
+use Rattle.btree.proofs.Passing.{passed, never_ok, still_error, if_refused, on_refused}
 use Rattle.btree.proofs.Sharing.{write_joined, spells_two}
 use Rattle.btree.proofs.rebalance.merge.Goals as goal
 
@@ -45,3 +45,39 @@ pub returns-in_err-edit_and_release-clause-cause : goal.returns-in_err-edit_and_
 returns-in_err-edit_and_release-clause-cause c =
     passed c.from_residual.result c.in_err-edit_and_release.field-0.0 c.from_residual.ensures.1
     (λ r. IfErr r IsPutRefusal) c.in_err-edit_and_release.ensures.cause
+
+pub returns-in_err-edit_and_release-clause-rows : goal.returns-in_err-edit_and_release-clause-rows
+returns-in_err-edit_and_release-clause-rows c =
+    if_refused c.from_residual.result c.in_err-edit_and_release.field-0.0 c.from_residual.ensures.1 _
+
+pub returns-in_err-edit_and_release-clause-pages : goal.returns-in_err-edit_and_release-clause-pages
+returns-in_err-edit_and_release-clause-pages c =
+    if_refused c.from_residual.result c.in_err-edit_and_release.field-0.0 c.from_residual.ensures.1 _
+
+pub returns-in_err-edit_and_release-clause-joined : goal.returns-in_err-edit_and_release-clause-joined
+returns-in_err-edit_and_release-clause-joined c =
+    if_refused c.from_residual.result c.in_err-edit_and_release.field-0.0 c.from_residual.ensures.1 _
+
+pub returns-in_err-edit_and_release-clause-even : goal.returns-in_err-edit_and_release-clause-even
+returns-in_err-edit_and_release-clause-even c =
+    if_refused c.from_residual.result c.in_err-edit_and_release.field-0.0 c.from_residual.ensures.1 _
+
+pub returns-in_err-edit_and_release-clause-changed_pages : goal.returns-in_err-edit_and_release-clause-changed_pages
+returns-in_err-edit_and_release-clause-changed_pages c =
+    on_refused c.from_residual.result c.in_err-edit_and_release.field-0.0 c.from_residual.ensures.1 _
+
+pub returns-clause-changed_pages : goal.returns-clause-changed_pages
+returns-clause-changed_pages c = c.in_ok-edit_and_release.ensures.changed_pages
+
+pub returns-in_err-edit_and_release-clause-filled : goal.returns-in_err-edit_and_release-clause-filled
+returns-in_err-edit_and_release-clause-filled c =
+    on_refused c.from_residual.result c.in_err-edit_and_release.field-0.0 c.from_residual.ensures.1 _
+
+pub returns-clause-filled : goal.returns-clause-filled
+returns-clause-filled c = c.in_ok-edit_and_release.ensures.filled
+
+pub returns-in_err-edit_and_release-clause-keeps : goal.returns-in_err-edit_and_release-clause-keeps
+returns-in_err-edit_and_release-clause-keeps c = c.edit_and_release.ensures.keeps
+
+pub returns-clause-keeps : goal.returns-clause-keeps
+returns-clause-keeps c = c.edit_and_release.ensures.keeps

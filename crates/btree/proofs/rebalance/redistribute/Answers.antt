@@ -6,7 +6,7 @@ use Rattle.pages.specs.declared.error.PagesError.TheVariants.{Spent}
 use Rattle.btree.specs.Propagates.{node_with}
 use Rattle.btree.specs.Refusals.{IsPutRefusal}
 use Rattle.btree.proofs.JoinedPairs.{halved}
-use Rattle.btree.proofs.Passing.{passed, never_ok, still_error}
+use Rattle.btree.proofs.Passing.{passed, never_ok, still_error, if_refused, on_refused}
 use Rattle.btree.proofs.Sharing.{write_shared, spells_two, shared_evenly}
 use Rattle.btree.proofs.rebalance.redistribute.Goals as goal
 
@@ -53,3 +53,39 @@ pub returns-in_err-edit_two-clause-cause : goal.returns-in_err-edit_two-clause-c
 returns-in_err-edit_two-clause-cause c =
     passed c.from_residual.result c.in_err-edit_two.field-0.0 c.from_residual.ensures.1
     (λ r. IfErr r IsPutRefusal) c.in_err-edit_two.ensures.cause
+
+pub returns-in_err-edit_two-clause-rows : goal.returns-in_err-edit_two-clause-rows
+returns-in_err-edit_two-clause-rows c =
+    if_refused c.from_residual.result c.in_err-edit_two.field-0.0 c.from_residual.ensures.1 _
+
+pub returns-in_err-edit_two-clause-pages : goal.returns-in_err-edit_two-clause-pages
+returns-in_err-edit_two-clause-pages c =
+    if_refused c.from_residual.result c.in_err-edit_two.field-0.0 c.from_residual.ensures.1 _
+
+pub returns-in_err-edit_two-clause-joined : goal.returns-in_err-edit_two-clause-joined
+returns-in_err-edit_two-clause-joined c =
+    if_refused c.from_residual.result c.in_err-edit_two.field-0.0 c.from_residual.ensures.1 _
+
+pub returns-in_err-edit_two-clause-even : goal.returns-in_err-edit_two-clause-even
+returns-in_err-edit_two-clause-even c =
+    if_refused c.from_residual.result c.in_err-edit_two.field-0.0 c.from_residual.ensures.1 _
+
+pub returns-in_err-edit_two-clause-changed_pages : goal.returns-in_err-edit_two-clause-changed_pages
+returns-in_err-edit_two-clause-changed_pages c =
+    on_refused c.from_residual.result c.in_err-edit_two.field-0.0 c.from_residual.ensures.1 _
+
+pub returns-clause-changed_pages : goal.returns-clause-changed_pages
+returns-clause-changed_pages c = c.in_ok-edit_two.ensures.changed_pages
+
+pub returns-in_err-edit_two-clause-filled : goal.returns-in_err-edit_two-clause-filled
+returns-in_err-edit_two-clause-filled c =
+    on_refused c.from_residual.result c.in_err-edit_two.field-0.0 c.from_residual.ensures.1 _
+
+pub returns-clause-filled : goal.returns-clause-filled
+returns-clause-filled c = c.in_ok-edit_two.ensures.filled
+
+pub returns-in_err-edit_two-clause-keeps : goal.returns-in_err-edit_two-clause-keeps
+returns-in_err-edit_two-clause-keeps c = c.edit_two.ensures.keeps
+
+pub returns-clause-keeps : goal.returns-clause-keeps
+returns-clause-keeps c = c.edit_two.ensures.keeps

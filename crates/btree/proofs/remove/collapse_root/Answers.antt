@@ -8,6 +8,15 @@ use Rattle.btree.proofs.Frames.{false_unless, ok_or_err}
 use Rattle.btree.proofs.TreeNodes.{few_pages}
 use Rattle.btree.proofs.Lessening.{has_room, write_none, true_or_false}
 use Rattle.btree.proofs.Collapsing.{page_named}
+use Rattle.std.specs.Prelude.{Err, IfErr}
+use Rattle.std.proofs.Common.{true}
+use Rattle.pages.specs.Pages.{changed_pages_of}
+use Rattle.pages.specs.declared.error.PagesError.TheVariants.{Damaged}
+use Rattle.btree.specs.Refusals.{IsRestRefusal}
+use Rattle.btree.proofs.ChangedPages.{changes_count}
+use Rattle.btree.proofs.Clearing.{keeps_still}
+use Rattle.btree.proofs.Passing.{passed, never_ok, still_error, if_refused, on_refused, damaged_not_spent}
+use Rattle.btree.proofs.Passing.{edit_is_put, put_is_rest, put_not_damaged}
 use Rattle.btree.proofs.remove.collapse_root.Goals as goal
 
 pub returns-then-not-is_page-clause-damaged : goal.returns-then-not-is_page-clause-damaged
@@ -30,3 +39,58 @@ returns-clause-gives c = λ image.
           (c.in_ok-release.ensures.map image) (omega (arith, page.1, count));
       names = λ page is_in is. c.child.ensures ∙ page_named before page _ few is_in is;
     }
+
+pub returns-then-not-is_page-clause-keeps : goal.returns-then-not-is_page-clause-keeps
+returns-then-not-is_page-clause-keeps c = keeps_still c.args.pages.now
+
+pub returns-then-not-is_page-clause-spent : goal.returns-then-not-is_page-clause-spent
+returns-then-not-is_page-clause-spent c = λ is. damaged_not_spent is
+
+pub returns-in_err-release-clause-gives : goal.returns-in_err-release-clause-gives
+returns-in_err-release-clause-gives c =
+    if_refused c.from_residual.result c.in_err-release.field-0.0 c.from_residual.ensures.1 _
+
+pub returns-in_err-release-clause-changed_pages : goal.returns-in_err-release-clause-changed_pages
+returns-in_err-release-clause-changed_pages c =
+    on_refused c.from_residual.result c.in_err-release.field-0.0 c.from_residual.ensures.1 _
+
+pub returns-in_err-release-clause-filled : goal.returns-in_err-release-clause-filled
+returns-in_err-release-clause-filled c =
+    on_refused c.from_residual.result c.in_err-release.field-0.0 c.from_residual.ensures.1 _
+
+pub returns-in_err-release-clause-keeps : goal.returns-in_err-release-clause-keeps
+returns-in_err-release-clause-keeps c = c.release.ensures.keeps
+
+pub returns-in_err-release-clause-damaged : goal.returns-in_err-release-clause-damaged
+returns-in_err-release-clause-damaged c = λ is image some is_in.
+    let e = c.in_err-release.field-0.0 in
+    passed c.from_residual.result e c.from_residual.ensures.1 (λ r. r ≡ Err Damaged → ⊥)
+    (λ damaged. put_not_damaged e (edit_is_put e c.in_err-release.ensures.cause) damaged) is
+
+pub returns-in_err-release-clause-spent : goal.returns-in_err-release-clause-spent
+returns-in_err-release-clause-spent c =
+    passed c.from_residual.result c.in_err-release.field-0.0 c.from_residual.ensures.1
+    (λ r. r ≡ Err Spent → is_spent c.args.pages.now ≡ true)
+    (λ is. c.in_err-release.ensures.spent.0 (still_error is))
+
+pub returns-in_err-release-clause-cause : goal.returns-in_err-release-clause-cause
+returns-in_err-release-clause-cause c =
+    let e = c.in_err-release.field-0.0 in
+    passed c.from_residual.result e c.from_residual.ensures.1 (λ r. IfErr r IsRestRefusal)
+    (put_is_rest e (edit_is_put e c.in_err-release.ensures.cause))
+
+pub returns-clause-changed_pages : goal.returns-clause-changed_pages
+returns-clause-changed_pages c = changes_count (changed_pages_of c.args.pages.now) c.args.lone.page
+    (changed_pages_of c.release.new.self) c.in_ok-release.ensures.changes_page
+
+pub returns-clause-filled : goal.returns-clause-filled
+returns-clause-filled c = omega (arith, c.release.ensures.filled)
+
+pub returns-clause-keeps : goal.returns-clause-keeps
+returns-clause-keeps c = c.release.ensures.keeps
+
+pub returns-clause-damaged : goal.returns-clause-damaged
+returns-clause-damaged c = λ is image some is_in. never_ok is
+
+pub returns-clause-spent : goal.returns-clause-spent
+returns-clause-spent c = λ is. never_ok is

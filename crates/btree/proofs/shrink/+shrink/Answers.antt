@@ -17,7 +17,7 @@ use Rattle.station.proofs.Calls.{reads_then, reads_nothing}
 use Rattle.pages.specs.Pages.{is_spent}
 use Rattle.pages.specs.declared.error.PagesError.TheVariants.{Device, Spent}
 use Rattle.btree.specs.Refusals.{IsChangeRefusal}
-use Rattle.btree.proofs.Passing.{passed, never_ok, still_error}
+use Rattle.btree.proofs.Passing.{passed, never_ok, still_error, if_refused}
 use Rattle.btree.proofs.Passing.{reads_where, committed_on}
 use Rattle.btree.proofs.ShrinkCalls.{shrinks_more}
 use Rattle.btree.proofs.shrink.+shrink.Goals as goal
@@ -141,3 +141,52 @@ returns-in_err-below-clause-cause g t c =
     passed c.from_residual.result c.in_err-below.field-0.0 c.from_residual.ensures.1
     (λ r. IfErr r IsChangeRefusal)
     (c.in_err-below.ensures.cause)
+
+pub returns-in_err-below-clause-fits : goal.returns-in_err-below-clause-fits
+returns-in_err-below-clause-fits g t c =
+    if_refused c.from_residual.result c.in_err-below.field-0.0 c.from_residual.ensures.1 _
+
+pub returns-in_err-below-clause-changed_pages : goal.returns-in_err-below-clause-changed_pages
+returns-in_err-below-clause-changed_pages g t c =
+    if_refused c.from_residual.result c.in_err-below.field-0.0 c.from_residual.ensures.1 _
+
+pub returns-in_err-below-clause-filled : goal.returns-in_err-below-clause-filled
+returns-in_err-below-clause-filled g t c =
+    if_refused c.from_residual.result c.in_err-below.field-0.0 c.from_residual.ensures.1 _
+
+pub returns-in_err-below-clause-shrinks : goal.returns-in_err-below-clause-shrinks
+returns-in_err-below-clause-shrinks g t c = λ honest agrees.
+    if_refused c.from_residual.result c.in_err-below.field-0.0 c.from_residual.ensures.1 _
+
+pub returns-in_err-below-clause-committed : goal.returns-in_err-below-clause-committed
+returns-in_err-below-clause-committed g t c = c.shrink.ensures.committed
+
+pub returns-in_err-below-clause-catalog : goal.returns-in_err-below-clause-catalog
+returns-in_err-below-clause-catalog g t c = c.shrink.ensures.catalog
+
+pub returns-in_err-below-clause-agrees : goal.returns-in_err-below-clause-agrees
+returns-in_err-below-clause-agrees g t c = c.shrink.ensures.agrees
+
+pub returns-in-Kept-clause-committed : goal.returns-in-Kept-clause-committed
+returns-in-Kept-clause-committed g t c = c.shrink.ensures.committed
+
+pub returns-in-Kept-clause-catalog : goal.returns-in-Kept-clause-catalog
+returns-in-Kept-clause-catalog g t c = c.shrink.ensures.catalog
+
+pub returns-in-Kept-clause-agrees : goal.returns-in-Kept-clause-agrees
+returns-in-Kept-clause-agrees g t c = c.shrink.ensures.agrees
+
+pub returns-in-Kept-clause-damaged : goal.returns-in-Kept-clause-damaged
+returns-in-Kept-clause-damaged g t c = λ honest agrees is. never_ok is
+
+pub returns-in-None-clause-damaged : goal.returns-in-None-clause-damaged
+returns-in-None-clause-damaged g t c = λ honest agrees is. never_ok is
+
+pub returns-in-None-clause-fits : goal.returns-in-None-clause-fits
+returns-in-None-clause-fits g t c = c.requires.fits
+
+pub returns-in_default-clause-fits : goal.returns-in_default-clause-fits
+returns-in_default-clause-fits g t c = c.shrink_at.ensures.fits
+
+pub returns-in_default-clause-cause : goal.returns-in_default-clause-cause
+returns-in_default-clause-cause g t c = c.shrink_at.ensures.cause

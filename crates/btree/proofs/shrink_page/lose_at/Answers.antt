@@ -3,6 +3,14 @@ use Rattle.btree_pages.specs.declared.row_layout.Kind.TheVariants.{Inner}
 use Rattle.pages.specs.Pages.{page_count}
 use Rattle.btree.specs.Changes.{pages_of_map}
 use Rattle.btree.proofs.Lessening.{front_fares, removed_rows, has_room, true_or_false}
+use Rattle.std.proofs.Common.{◌≡◌, true}
+use Rattle.std.specs.Prelude.{Err, IfErr}
+use Rattle.pages.specs.Pages.{is_spent}
+use Rattle.pages.specs.declared.error.PagesError.TheVariants.{Damaged, Spent}
+use Rattle.btree.specs.Refusals.{IsRestRefusal}
+use Rattle.btree.proofs.Clearing.{keeps_still}
+use Rattle.btree.proofs.Passing.{passed, never_ok, still_error, if_refused, damaged_not_spent, put_is_rest}
+use Rattle.btree.proofs.Passing.{put_not_damaged}
 use Rattle.btree.proofs.shrink_page.lose_at.Goals as goal
 
 pub returns-then-not-leads-clause-damaged : goal.returns-then-not-leads-clause-damaged
@@ -22,3 +30,60 @@ returns-clause-pages c = λ image can.
     c.args.step.place node c.remove.new.self (drop (c.args.step.place + 1) node.rows) Inner c.in_ok-outcome.outcome
     (removed_rows node c.remove.new.self c.args.step.place c.remove.ensures) leads.0 leads.1
     (c.in_ok-outcome.ensures.pages image node.rows can.is_in)
+
+pub returns-then-not-leads-clause-keeps : goal.returns-then-not-leads-clause-keeps
+returns-then-not-leads-clause-keeps c = keeps_still c.args.pages.now
+
+pub returns-then-not-leads-clause-spent : goal.returns-then-not-leads-clause-spent
+returns-then-not-leads-clause-spent c = λ is. damaged_not_spent is
+
+pub returns-in_err-outcome-clause-pages : goal.returns-in_err-outcome-clause-pages
+returns-in_err-outcome-clause-pages c =
+    if_refused c.from_residual.result c.in_err-outcome.field-0.0 c.from_residual.ensures.1 _
+
+pub returns-in_err-outcome-clause-fits : goal.returns-in_err-outcome-clause-fits
+returns-in_err-outcome-clause-fits c =
+    if_refused c.from_residual.result c.in_err-outcome.field-0.0 c.from_residual.ensures.1 _
+
+pub returns-in_err-outcome-clause-changed_pages : goal.returns-in_err-outcome-clause-changed_pages
+returns-in_err-outcome-clause-changed_pages c =
+    if_refused c.from_residual.result c.in_err-outcome.field-0.0 c.from_residual.ensures.1 _
+
+pub returns-in_err-outcome-clause-filled : goal.returns-in_err-outcome-clause-filled
+returns-in_err-outcome-clause-filled c =
+    if_refused c.from_residual.result c.in_err-outcome.field-0.0 c.from_residual.ensures.1 _
+
+pub returns-in_err-outcome-clause-keeps : goal.returns-in_err-outcome-clause-keeps
+returns-in_err-outcome-clause-keeps c = c.write_back.ensures.keeps
+
+pub returns-in_err-outcome-clause-damaged : goal.returns-in_err-outcome-clause-damaged
+returns-in_err-outcome-clause-damaged c = λ is image inner low some is_in.
+    passed c.from_residual.result c.in_err-outcome.field-0.0 c.from_residual.ensures.1 (λ r. r ≡ Err Damaged → ⊥)
+    (λ damaged. put_not_damaged c.in_err-outcome.field-0.0 c.in_err-outcome.ensures.cause damaged) is
+
+pub returns-in_err-outcome-clause-spent : goal.returns-in_err-outcome-clause-spent
+returns-in_err-outcome-clause-spent c =
+    passed c.from_residual.result c.in_err-outcome.field-0.0 c.from_residual.ensures.1
+    (λ r. r ≡ Err Spent → is_spent c.args.pages.now ≡ true)
+    (λ is. c.in_err-outcome.ensures.spent (still_error is))
+
+pub returns-in_err-outcome-clause-cause : goal.returns-in_err-outcome-clause-cause
+returns-in_err-outcome-clause-cause c =
+    passed c.from_residual.result c.in_err-outcome.field-0.0 c.from_residual.ensures.1
+    (λ r. IfErr r IsRestRefusal)
+    (put_is_rest c.in_err-outcome.field-0.0 c.in_err-outcome.ensures.cause)
+
+pub returns-clause-changed_pages : goal.returns-clause-changed_pages
+returns-clause-changed_pages c = c.in_ok-outcome.ensures.changed_pages
+
+pub returns-clause-filled : goal.returns-clause-filled
+returns-clause-filled c = c.in_ok-outcome.ensures.filled
+
+pub returns-clause-keeps : goal.returns-clause-keeps
+returns-clause-keeps c = c.write_back.ensures.keeps
+
+pub returns-clause-damaged : goal.returns-clause-damaged
+returns-clause-damaged c = λ is image inner low some is_in. never_ok is
+
+pub returns-clause-spent : goal.returns-clause-spent
+returns-clause-spent c = λ is. never_ok is

@@ -12,9 +12,10 @@ use Rattle.std.proofs.Common.{◌≡◌, true}
 use Rattle.pages.specs.Pages.{is_spent, changed_pages_of, filled_of}
 use Rattle.pages.specs.declared.error.PagesError.TheVariants.{Spent}
 use Rattle.btree.specs.Refusals.{IsPutRefusal}
-use Rattle.btree.proofs.Passing.{passed, never_ok, still_error}
+use Rattle.btree.proofs.Passing.{passed, never_ok, still_error, if_refused}
+use Rattle.btree.proofs.Clearing.{keeps_still}
 use Rattle.btree.proofs.Passing.{edit_is_put}
-use Rattle.btree.proofs.Passing.{few_none}
+use Rattle.btree.proofs.Passing.{few_none, one_spare}
 use Rattle.btree.proofs.ChangedPages.{changes_count}
 use Rattle.btree.proofs.shrink_page.write_back.Goals as goal
 use Rattle.btree.proofs.shrink_page.write_back.Goals.{In_ok-edit}
@@ -116,3 +117,63 @@ returns-then-keeps_least-clause-filled c =
 
 pub returns-clause-filled : goal.returns-clause-filled
 returns-clause-filled c = few_none (filled_of c.args.pages.now) (filled_of c.edit.new.self) 1 c.edit.ensures.filled
+
+pub returns-in_err-release-clause-pages : goal.returns-in_err-release-clause-pages
+returns-in_err-release-clause-pages c =
+    if_refused c.from_residual.result c.in_err-release.field-0.0 c.from_residual.ensures.1 _
+
+pub returns-in_err-release-clause-fits : goal.returns-in_err-release-clause-fits
+returns-in_err-release-clause-fits c =
+    if_refused c.from_residual.result c.in_err-release.field-0.0 c.from_residual.ensures.1 _
+
+pub returns-in_err-release-clause-changed_pages : goal.returns-in_err-release-clause-changed_pages
+returns-in_err-release-clause-changed_pages c =
+    if_refused c.from_residual.result c.in_err-release.field-0.0 c.from_residual.ensures.1 _
+
+pub returns-in_err-release-clause-filled : goal.returns-in_err-release-clause-filled
+returns-in_err-release-clause-filled c =
+    if_refused c.from_residual.result c.in_err-release.field-0.0 c.from_residual.ensures.1 _
+
+pub returns-in_err-edit-clause-pages : goal.returns-in_err-edit-clause-pages
+returns-in_err-edit-clause-pages c =
+    if_refused c.from_residual-in_err-edit.result c.in_err-edit.field-0.0 c.from_residual-in_err-edit.ensures.1 _
+
+pub returns-in_err-edit-clause-fits : goal.returns-in_err-edit-clause-fits
+returns-in_err-edit-clause-fits c =
+    if_refused c.from_residual-in_err-edit.result c.in_err-edit.field-0.0 c.from_residual-in_err-edit.ensures.1 _
+
+pub returns-in_err-edit-clause-changed_pages : goal.returns-in_err-edit-clause-changed_pages
+returns-in_err-edit-clause-changed_pages c =
+    if_refused c.from_residual-in_err-edit.result c.in_err-edit.field-0.0 c.from_residual-in_err-edit.ensures.1 _
+
+pub returns-in_err-edit-clause-filled : goal.returns-in_err-edit-clause-filled
+returns-in_err-edit-clause-filled c =
+    if_refused c.from_residual-in_err-edit.result c.in_err-edit.field-0.0 c.from_residual-in_err-edit.ensures.1 _
+
+pub returns-in_err-release-clause-keeps : goal.returns-in_err-release-clause-keeps
+returns-in_err-release-clause-keeps c = c.release.ensures.keeps
+
+pub returns-then-count-eq0-clause-keeps : goal.returns-then-count-eq0-clause-keeps
+returns-then-count-eq0-clause-keeps c = c.release.ensures.keeps
+
+pub returns-in_err-edit-clause-keeps : goal.returns-in_err-edit-clause-keeps
+returns-in_err-edit-clause-keeps c = c.edit.ensures.keeps
+
+pub returns-then-keeps_least-clause-keeps : goal.returns-then-keeps_least-clause-keeps
+returns-then-keeps_least-clause-keeps c = c.edit.ensures.keeps
+
+pub returns-clause-keeps : goal.returns-clause-keeps
+returns-clause-keeps c = c.edit.ensures.keeps
+
+pub returns-then-is_short-clause-keeps : goal.returns-then-is_short-clause-keeps
+returns-then-is_short-clause-keeps c = keeps_still c.args.pages.now
+
+pub returns-then-count-eq0-clause-filled : goal.returns-then-count-eq0-clause-filled
+returns-then-count-eq0-clause-filled c = few_none (filled_of c.args.pages.now) (filled_of c.release.new.self) 1
+    (omega (arith, c.release.ensures.filled))
+
+pub returns-then-is_short-clause-changed_pages : goal.returns-then-is_short-clause-changed_pages
+returns-then-is_short-clause-changed_pages c = one_spare (length (changed_pages_of c.args.pages.now))
+
+pub returns-then-is_short-clause-filled : goal.returns-then-is_short-clause-filled
+returns-then-is_short-clause-filled c = one_spare (filled_of c.args.pages.now)
