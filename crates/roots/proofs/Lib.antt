@@ -8,3 +8,5 @@ pub mod Within
 pub mod Examples
 -- Known families behind references
 pub mod Families
+-- The root sectors of a device
+pub mod RootReads

@@ -79,7 +79,7 @@ single root r is =
       subst (λ (q : Roots). q.newest.mark.family ≡ 0) same (eqb-true root.mark.family 0 low),
     )) (λ _ never. absurd never) is
 
-newest_is : (first second : RootSector) (r : Roots) → IsThat (newest_root first second) r
+pub newest_is : (first second : RootSector) (r : Roots) → IsThat (newest_root first second) r
     → IsNewest first second r
 newest_is Blank Blank r never = absurd never
 newest_is Blank Broken r never = absurd never
