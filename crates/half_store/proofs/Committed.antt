@@ -1,7 +1,8 @@
 -- A change of the files that are there, from what is made in memory to what is written.
-use Rattle.std.proofs.Common.{◌≡◌, ◌≢◌, inl, inr, ◌≤◌, ◌<◌, ◌+◌, ◌^◌, Bool, true, false, ℕ, List, length, map, get_or}
+use Rattle.std.proofs.Common.{◌≡◌, ◌≢◌, inl, inr, ⊎_elim, refl, ◌≤◌, ◌<◌, ◌+◌, ◌^◌, Bool, true, false, ℕ, List, length}
+use Rattle.std.proofs.Common.{map, get_or}
 use Rattle.std.proofs.Common.{Some, sym, ◌∙◌, ap, subst, arith}
-use Rattle.std.specs.Prelude.{Result, Ok, Err, IfErr, OnOk}
+use Rattle.std.specs.Prelude.{Result, Ok, Err, IfErr, OnOk, OnErr}
 use Rattle.std.specs.List.{AllByRecursion}
 use Rattle.std.specs.Result.{IsErrAnd}
 use Rattle.std.proofs.lemmas.Result.{err_from_is_err_and}
@@ -9,10 +10,12 @@ use Rattle.station.specs.Disk.{Disk}
 use Rattle.station.specs.History.{Through}
 use Rattle.station.specs.Blocks.{CrashLeaves}
 use Rattle.station.specs.declared.device.Device.{Ghosts as Devices}
+use Rattle.station.specs.Calls.{OnlyWrites}
+use Rattle.station.proofs.Calls.{blamed_where, writes_nothing}
 use Rattle.station.proofs.Spans.{stays}
 use Rattle.records.specs.declared.answer.Outcome.{Outcome}
 use Rattle.records.specs.declared.fault.StoreFault.{StoreFault}
-use Rattle.records.specs.declared.fault.StoreFault.TheVariants.{Full, Damaged, Old}
+use Rattle.records.specs.declared.fault.StoreFault.TheVariants.{Device, Full, Damaged, Memory, Spent, Layout, Old}
 use Rattle.records.specs.declared.file_spec.FileSpec.{FileSpec}
 use Rattle.records.specs.declared.keeps.Keeps.{Ghosts as Stores}
 use Rattle.records.specs.Calls as calls
@@ -34,7 +37,9 @@ use Rattle.half_store.specs.Half.{Holds, Rests, AreHalfFiles}
 use Rattle.half_store.specs.Seeking.{AreRecords}
 use Rattle.half_store.specs.Settled.{CommitsFiles}
 use Rattle.half_store.specs.Stands.{Represents, LacksRoom}
+use Rattle.half_store.specs.Changing.{IsMemoryCause}
 use Rattle.half_store.specs.Write.{IsCause}
+use Rattle.half_store.proofs.Passed.{passed, on_refused, never_ok, same_error}
 use Rattle.half_store.proofs.Written.{at_rest}
 use Rattle.half_store.proofs.Placed.{early_held, early_after, early_with, no_change, counted, found_there, held_is}
 use Rattle.half_store.proofs.Placed.{records_held, rows_ascend}
@@ -244,3 +249,64 @@ written_settles {D} {d} {T} {value} {n} {g} {before} {made} {after} {old} {new} 
       moments = moments;
       full = λ e. absurd {0} cc;
     })
+
+-- which causes a change in memory and a write don't have
+not_change : {T A : Type 0} (told : Result T StoreFault) (fault : StoreFault) → IsErrAnd told (λ e. e ≡ fault)
+    → IsMemoryCause fault → (bad : StoreFault) → (Full ≡ bad → ⊥) → (Memory ≡ bad → ⊥) → (Damaged ≡ bad → ⊥)
+    → told ≡ Err bad → A
+not_change {T} {A} told fault is cause bad full memory damaged = passed told fault is (λ r. r ≡ Err bad → A)
+    (λ e. absurd (⊎_elim (λ a. full (sym a ∙ same_error e))
+    (λ rest. ⊎_elim (λ a. memory (sym a ∙ same_error e)) (λ a. damaged (sym a ∙ same_error e)) rest) cause))
+
+not_cause : {T A : Type 0} (result : Result T StoreFault) → IfErr result IsCause → (bad : StoreFault)
+    → (Device ≡ bad → ⊥) → (Full ≡ bad → ⊥) → (Memory ≡ bad → ⊥) → result ≡ Err bad → A
+not_cause (Ok x) cause bad device full memory is = never_ok is
+not_cause (Err e) cause bad device full memory is = absurd (⊎_elim (λ a. device (sym a ∙ same_error is))
+    (λ rest. ⊎_elim (λ a. full (sym a ∙ same_error is)) (λ a. memory (sym a ∙ same_error is)) rest) cause)
+
+spent_clash : {A : Type 0} (b : Bool) → b ≡ false → b ≡ true → A
+spent_clash b off on = cc
+
+-- what a call on the store keeps, from what it writes
+module _ {C : Type 0} {c : Stores C} {D : Type 0} {d : Devices D} {self self' : C} {device : D} where
+  -- nothing was written
+  pub refused_changes : {T : Type 0} (told : Result T StoreFault) (fault : StoreFault) → IsErrAnd told (λ e. e ≡ fault)
+      → IsMemoryCause fault → c.needs self' ≡ c.needs self → calls.Changes c d told self device self' device
+  refused_changes told fault is cause needs = record {
+    only = blamed_where d _ _ _ _ (λ e. not_change told fault is cause Device (λ a. cc) (λ a. cc) (λ a. cc) e)
+        (writes_nothing d device);
+    needs = needs;
+    same = on_refused told fault is _;
+    spent = λ e. not_change told fault is cause Spent (λ a. cc) (λ a. cc) (λ a. cc) e;
+    own_layout = not_change told fault is cause Layout (λ a. cc) (λ a. cc) (λ a. cc);
+    unwritten = λ lacking honest. refl;
+  }
+
+  -- the files were written
+  pub committed_changes : {T : Type 0} {result : Result T StoreFault} {device' : D}
+      → OnlyWrites d (result ≡ Err Device) device device' → c.needs self' ≡ c.needs self
+      → OnOk result (c.is_spent self' ≡ false) → c.is_spent self ≡ false → IfErr result IsCause
+      → (result ≡ Err Full → d.is_honest device → d.state device' ≡ d.state device)
+      → calls.Changes c d result self device self' device'
+  committed_changes {T} {result} only needs unspent was cause unwritten = record {
+    only = only;
+    needs = needs;
+    same = on_up result unspent (λ is. is ∙ sym was);
+    spent = λ e. not_cause result cause Spent (λ a. cc) (λ a. cc) (λ a. cc) e;
+    own_layout = not_cause result cause Layout (λ a. cc) (λ a. cc) (λ a. cc);
+    unwritten = λ lacking honest. ⊎_elim (λ full. unwritten full honest)
+        (λ old. absurd (cause_takes result cause old)) lacking;
+  }
+
+-- and how it is spent
+module _ {C : Type 0} {c : Stores C} {self self' : C} where
+  pub refused_spends : {T : Type 0} (told : Result T StoreFault) (fault : StoreFault) → IsErrAnd told (λ e. e ≡ fault)
+      → c.is_spent self ≡ false → c.is_spent self' ≡ true → calls.Spends c told self self'
+  refused_spends told fault is was now = record {
+    refuses = λ spent. spent_clash (c.is_spent self) was spent;
+    refused = passed told fault is (λ r. OnErr r (c.is_spent self' ≡ true)) now;
+  }
+
+  pub committed_spends : {T : Type 0} {result : Result T StoreFault} → c.is_spent self ≡ false
+      → OnErr result (c.is_spent self' ≡ true) → calls.Spends c result self self'
+  committed_spends was now = record { refuses = λ spent. spent_clash (c.is_spent self) was spent; refused = now }

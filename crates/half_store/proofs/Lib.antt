@@ -18,3 +18,5 @@ mod PrimeOrder
 mod OneList
 mod Rooms
 mod Committed
+mod Passed
+mod Pushed

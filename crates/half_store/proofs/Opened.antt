@@ -102,10 +102,34 @@ stands_now store old new is holds = record {
   memory = refl;
 }
 
-pub holds_some : {T : Type 0} {P Q : T → Type 0} (result : Result T StoreFault) → ((x : T) → P x → Q x) → IfOk result P
-    → IfOk result Q
-holds_some (Ok x) from so = from x so
-holds_some (Err e) from so = tt
+-- the store that was read once the device was synced
+module _ (result : Result HalfStore StoreFault) (old synced : State) (is : synced ≡ state_after_sync old)
+    (holds : IfOk result (λ store. HoldsAt store.sectors store.generation synced.disk.present
+    (files_of store.files.items))) where
+  pub opened_stands : (new : State) → new ≡ synced
+      → IfOk result (λ store. Represents store new.disk (files_of store.files.items))
+  opened_stands new same = by result holds
+    where
+      by : (result : Result HalfStore StoreFault) → IfOk result (λ store. HoldsAt store.sectors store.generation
+          synced.disk.present (files_of store.files.items))
+          → IfOk result (λ store. Represents store new.disk (files_of store.files.items))
+      by (Ok store) holds = stands_now store old new (same ∙ is) (subst (λ (s : State). HoldsAt store.sectors
+          store.generation s.disk.present (files_of store.files.items)) is holds)
+      by (Err e) holds = tt
+
+  pub opened_holds : IfOk result (λ store. Holds old.disk.present (files_of store.files.items))
+  opened_holds = by result holds
+    where
+      by : (result : Result HalfStore StoreFault) → IfOk result (λ store. HoldsAt store.sectors store.generation
+          synced.disk.present (files_of store.files.items))
+          → IfOk result (λ store. Holds old.disk.present (files_of store.files.items))
+      by (Ok store) holds = (
+        store.sectors,
+        store.generation,
+        subst (λ (s : State). HoldsAt store.sectors store.generation s.disk.present (files_of store.files.items)) is
+            holds,
+      )
+      by (Err e) holds = tt
 
 older_least : (n : ℕ) (older : Option Root) → IfSome older (IsWithinVolume n)
     → IfSome older (λ (root : Root). 1024 ≤ root.sectors)

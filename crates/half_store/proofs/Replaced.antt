@@ -1,7 +1,8 @@
 -- Another record for a row among rows in memory, and a row that is taken out.
 use Rattle.std.proofs.Common.{◌≡◌, ◌≤◌, ◌<◌, ◌+◌, Bool, true, false, not, ◌&&◌, ◌||◌, cond, ℕ, zero, suc, List, [], ◌∷◌}
 use Rattle.std.proofs.Common.{◌++◌, length, drop, map, set, get_or, append_assoc, refl, sym, ◌∙◌, ap, subst, arith}
-use Rattle.std.specs.Prelude.{Option, Some, None, Ok, Vec, filter}
+use Rattle.std.specs.Prelude.{Option, Some, None, Result, Ok, Vec, filter}
+use Rattle.std.specs.Result.{IsErrAnd}
 use Rattle.std.specs.Vec.{with_item}
 use Rattle.std.specs.declared.alloc.Global.{Global}
 use Rattle.std.specs.List.{AllByRecursion, list_any, remove}
@@ -14,6 +15,8 @@ use Rattle.records.specs.declared.file_spec.AlternateKey.{AlternateKey}
 use Rattle.records.specs.declared.file_spec.Organization.{Organization}
 use Rattle.records.specs.declared.answer.Outcome.{Outcome}
 use Rattle.records.specs.declared.answer.Outcome.TheVariants.{Done, Taken}
+use Rattle.records.specs.declared.fault.StoreFault.{StoreFault}
+use Rattle.records.specs.declared.fault.StoreFault.TheVariants.{Memory}
 use Rattle.records.specs.Files.{File}
 use Rattle.records.specs.Stores.{is_change}
 use Rattle.records.specs.Rows.{Row, Pair, pair_cmp, prime_pair, named_pair}
@@ -27,6 +30,7 @@ use Rattle.file_bytes.specs.declared.stored.StoredFile.{StoredFile}
 use Rattle.file_bytes.specs.declared.stored.StoredRow.{StoredRow}
 use Rattle.file_bytes.specs.Stored.{row_of, file_of}
 use Rattle.half_store.specs.Changing.{Becomes}
+use Rattle.half_store.proofs.Passed.{if_refused, on_refused, memory_never_full, memory_never_damaged}
 
 -- tests of what a filter leaves
 kept : {A : Type 0} (b : Bool) (p : A → Bool) (x : A) (xs : List A) (rest : Bool) → list_any p xs ≡ rest
@@ -353,3 +357,16 @@ removed_becomes {file} {pair} {place} {old} is ascend left left_is =
       changes = λ e. absurd cc;
       sound = λ e. absurd cc;
     })
+
+-- a change that is refused for want of memory
+pub memory_becomes : {changed : FileChange} {old new : StoredFile} (r : Result Outcome StoreFault) (x : StoreFault)
+    → IsErrAnd r (λ e. e ≡ x) → x ≡ Memory → Becomes r changed old new
+memory_becomes {changed} {old} {new} r x is why = record {
+  outcome = if_refused r x is _;
+  after = on_refused r x is _;
+  spec = on_refused r x is _;
+  idle = if_refused r x is _;
+  full = memory_never_full r x is why;
+  changes = memory_never_full r x is why;
+  sound = memory_never_damaged r x is why;
+}

@@ -1,6 +1,8 @@
 //! Files as bytes.
-ghost use Rattle.std.specs.Prelude.{◌≡◌, ◌++◌, map, OnOk, IfOk, IsOkUnless};
+ghost use Rattle.std.specs.Prelude.{◌≡◌, ◌≤◌, ◌++◌, length, map, OnOk, IfOk, IsOkUnless};
 ghost use Rattle.std.specs.List.{flat_map};
+ghost use Rattle.byteorder.specs.Endian.{big_bytes};
+ghost use Rattle.file_bytes.specs.Description.{padded_name};
 ghost use Rattle.file_bytes.specs.Rows.{row_bytes};
 ghost use Rattle.file_bytes.specs.Stored.{row_of, named_of, files_of};
 ghost use Rattle.half_store.specs.Spelled.{file_bytes, files_bytes};
@@ -28,12 +30,31 @@ fn push_file(out: &mut Vec<u8>, file: &StoredFile) -> Result<(), StoreFault>
     ensures bytes { OnOk result (out.new.items ≡ out.old.items ++ file_bytes (named_of file.now)) }
     ensures memory { IsOkUnless result StoreFault.Memory }
 {
-    out.extend_from_slice(&pad_name(&file.spec.name))?;
+    push_name(out, &file.spec.name)?;
     push_description(out, &file.spec)?;
     push_zeros(out, 32)?;
-    out.extend_from_slice(&file.next_arrival.to_be_bytes())?;
-    out.extend_from_slice(&(file.rows.len() as u64).to_be_bytes())?;
+    push_number(out, file.next_arrival)?;
+    push_number(out, file.rows.len() as u64)?;
     push_rows(out, file.spec.organization, &file.rows)
+}
+
+/// The name of a file.
+fn push_name(out: &mut Vec<u8>, name: &[u8]) -> Result<(), StoreFault>
+    requires { length name.now ≤ 30 }
+    ensures bytes { OnOk result (out.new.items ≡ out.old.items ++ padded_name name.now) }
+    ensures memory { IsOkUnless result StoreFault.Memory }
+{
+    out.extend_from_slice(&pad_name(name))?;
+    Ok(())
+}
+
+/// A number in eight bytes.
+fn push_number(out: &mut Vec<u8>, number: u64) -> Result<(), StoreFault>
+    ensures bytes { OnOk result (out.new.items ≡ out.old.items ++ big_bytes 8 number) }
+    ensures memory { IsOkUnless result StoreFault.Memory }
+{
+    out.extend_from_slice(&number.to_be_bytes())?;
+    Ok(())
 }
 
 /// Rows, in order.
