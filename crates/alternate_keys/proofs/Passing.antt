@@ -1,6 +1,7 @@
 -- What is known after a refusal that is passed on, and after two calls.
 use Rattle.std.proofs.Common.{◌≡◌, true, false, refl, sym, ap, subst, ◌∙◌}
 use Rattle.std.specs.Prelude.{Result, Option, None, Err, IsSome, is_some}
+use Rattle.std.specs.Result.{IsErrAnd}
 use Rattle.pages.specs.Pages.{is_spent, SameCommitted}
 use Rattle.pages.specs.declared.page_map.PageMap.{PageMap}
 use Rattle.pages.specs.declared.error.PagesError.{PagesError}
@@ -13,7 +14,7 @@ use Rattle.records.specs.declared.fault.StoreFault.TheVariants.{Device, Full, Da
 use Rattle.volume_format.specs.Faults.{fault_of}
 use Rattle.alternate_keys.specs.Faults.{IsReadFault, IsWriteFault}
 pub use Rattle.btree.proofs.Passing.{passed, never_ok, same_error, still_error, committed_on, reads_where}
-pub use Rattle.btree.proofs.Passing.{if_refused, on_refused}
+pub use Rattle.btree.proofs.Passing.{if_refused, on_refused, refused_never, few_more}
 
 -- an answer is one thing
 pub none_or_some : {T A : Type 0} {o : Option T} → o ≡ None → IsSome o → A
@@ -104,11 +105,39 @@ pub damaged_not_spent : {T A : Type 0} (fault : StoreFault) → fault ≡ Damage
     → (◌≡◌ {A = Result T StoreFault} (Err fault) (Err Spent)) → A
 damaged_not_spent fault why is = let same : fault ≡ Spent = same_error is in cc (why, same)
 
+pub memory_not_device : {T A : Type 0} (fault : StoreFault) → fault ≡ Memory
+    → (◌≡◌ {A = Result T StoreFault} (Err fault) (Err Device)) → A
+memory_not_device fault why is = absurd ((memory_or fault why).1 (same_error is))
+
+-- nor is what a refusal for want of memory is passed on as
+never_other : {T A : Type 0} (r : Result T StoreFault) (x bad : StoreFault) → IsErrAnd r (λ e. e ≡ x) → x ≡ Memory
+    → (Memory ≡ bad → ⊥) → r ≡ Err bad → A
+never_other {T} {A} r x bad is why clash = passed r x is (λ r. r ≡ Err bad → A)
+    (λ e. absurd (clash (sym why ∙ same_error e)))
+
+pub memory_never_full : {T A : Type 0} (r : Result T StoreFault) (x : StoreFault) → IsErrAnd r (λ e. e ≡ x) → x ≡ Memory
+    → r ≡ Err Full → A
+memory_never_full r x is why = never_other r x Full is why (λ e. cc)
+
+pub memory_never_damaged : {T A : Type 0} (r : Result T StoreFault) (x : StoreFault) → IsErrAnd r (λ e. e ≡ x)
+    → x ≡ Memory → r ≡ Err Damaged → A
+memory_never_damaged r x is why = never_other r x Damaged is why (λ e. cc)
+
+pub memory_never_spent : {T A : Type 0} (r : Result T StoreFault) (x : StoreFault) → IsErrAnd r (λ e. e ≡ x)
+    → x ≡ Memory → r ≡ Err Spent → A
+memory_never_spent r x is why = never_other r x Spent is why (λ e. cc)
+
 damaged_or_device : Damaged ≡ Device → ⊥
 damaged_or_device is = cc
 
 pub damaged_not_device : {T A : Type 0} → (◌≡◌ {A = Result T StoreFault} (Err Damaged) (Err Device)) → A
 damaged_not_device is = absurd (damaged_or_device (same_error is))
+
+damaged_or_full : Damaged ≡ Full → ⊥
+damaged_or_full is = cc
+
+pub damaged_not_full : {T A : Type 0} → (◌≡◌ {A = Result T StoreFault} (Err Damaged) (Err Full)) → A
+damaged_not_full is = absurd (damaged_or_full (same_error is))
 
 -- which refusal of the pages was passed on
 pub spent_back : (error : PagesError) → fault_of error ≡ Spent → error ≡ pages.Spent

@@ -35,7 +35,18 @@ pub(crate) fn arrival_in(file: &FileSpec, key: u8, old: &[u8]) -> u64
 {
     // How many keys there are is needed below.
     let _count = file.alternates.len();
-    BigEndian::read_u64(&old[file.record_length as usize + ARRIVAL_BYTES * key as usize..])
+    number_at(
+        old,
+        file.record_length as usize + ARRIVAL_BYTES * key as usize,
+    )
+}
+
+/// The number of eight bytes from a place on.
+fn number_at(bytes: &[u8], at: usize) -> u64
+    requires { at + 8 ≤ length bytes.now }
+    ensures { result ≡ big_number 8 (drop at bytes.now) }
+{
+    BigEndian::read_u64(&bytes[at..])
 }
 
 /// The key of its pair in the tree of an alternate key.

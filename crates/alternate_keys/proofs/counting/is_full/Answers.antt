@@ -18,6 +18,12 @@ use Rattle.alternate_keys.proofs.CatalogEntries.{catalog_there, first_listed, mo
 use Rattle.alternate_keys.proofs.Catalogs.{catalog_holds}
 use Rattle.alternate_keys.proofs.Faults.{refused_by_call}
 use Rattle.alternate_keys.proofs.counting.is_full.Given.{Over}
+use Rattle.std.specs.Prelude.{IfErr}
+use Rattle.alternate_keys.proofs.Passing.{passed, if_refused, never_ok, still_error, spent_before}
+use Rattle.btree.proofs.Passing.{never_true}
+use Rattle.volume_format.specs.Calls.{LooksAt}
+use Rattle.alternate_keys.specs.Faults.{IsReadFault}
+use Rattle.alternate_keys.proofs.Calling.{sectors_still}
 use Rattle.alternate_keys.proofs.counting.is_full.Goals as goal
 use Rattle.alternate_keys.proofs.counting.is_full.Goals.{After-next_in}
 
@@ -120,3 +126,86 @@ returns-in_err-next-in-Some-clause-damaged g c = λ honest agrees files holds re
     c.next_in.ensures.damaged (looks.only.honest.0 honest) (looks.agrees honest agrees) holds.keeps.catalog
     (still_there g at honest files holds)
     (refused_by_call c.in_err-next-in-Some.was c.from_residual-in_err-next-in-Some.ensures.1 refused)
+
+pub returns-in_err-next-clause-looks : goal.returns-in_err-next-clause-looks
+returns-in_err-next-clause-looks g c =
+    passed c.from_residual.result c.in_err-next.field-0.0 c.from_residual.ensures.1
+    (λ r. LooksAt g.D.Device (r ≡ Err Device) c.args.pages.now c.args.device.now c.first_in.new.pages
+    c.first_in.new.device) (looks_blamed g.D.Device _ _ _ _ _ _ (λ is. still_error is) c.in_err-next.ensures.looks)
+
+pub returns-in_err-next-clause-full : goal.returns-in_err-next-clause-full
+returns-in_err-next-clause-full g c =
+    λ honest agrees files holds. if_refused c.from_residual.result c.in_err-next.field-0.0 c.from_residual.ensures.1 _
+
+pub returns-in_err-next-clause-room : goal.returns-in_err-next-clause-room
+returns-in_err-next-clause-room g c =
+    λ honest agrees files holds. if_refused c.from_residual.result c.in_err-next.field-0.0 c.from_residual.ensures.1 _
+
+pub returns-in_err-next-clause-spent : goal.returns-in_err-next-clause-spent
+returns-in_err-next-clause-spent g c =
+    λ is. c.first_in.ensures.spent (refused_by_call c.in_err-next.was c.from_residual.ensures.1 is)
+
+pub returns-in_err-next-clause-cause : goal.returns-in_err-next-clause-cause
+returns-in_err-next-clause-cause g c =
+    passed c.from_residual.result c.in_err-next.field-0.0 c.from_residual.ensures.1 (λ r. IfErr r IsReadFault)
+    c.in_err-next.ensures.cause
+
+pub returns-in_err-next-in-Some-clause-full : goal.returns-in_err-next-in-Some-clause-full
+returns-in_err-next-in-Some-clause-full g c =
+    λ honest agrees files holds. if_refused c.from_residual-in_err-next-in-Some.result c.in_err-next-in-Some.field-0.0
+    c.from_residual-in_err-next-in-Some.ensures.1 _
+
+pub returns-in_err-next-in-Some-clause-room : goal.returns-in_err-next-in-Some-clause-room
+returns-in_err-next-in-Some-clause-room g c =
+    λ honest agrees files holds. if_refused c.from_residual-in_err-next-in-Some.result c.in_err-next-in-Some.field-0.0
+    c.from_residual-in_err-next-in-Some.ensures.1 _
+
+pub returns-in_err-next-in-Some-clause-spent : goal.returns-in_err-next-in-Some-clause-spent
+returns-in_err-next-in-Some-clause-spent g c =
+    λ is. spent_before c.args.pages.now c.loop-turn.pages c.loop-turn.invariant.looks.unchanged.committed
+    (c.next_in.ensures.spent (refused_by_call c.in_err-next-in-Some.was c.from_residual-in_err-next-in-Some.ensures.1
+    is))
+
+pub returns-in_err-next-in-Some-clause-cause : goal.returns-in_err-next-in-Some-clause-cause
+returns-in_err-next-in-Some-clause-cause g c =
+    passed c.from_residual-in_err-next-in-Some.result c.in_err-next-in-Some.field-0.0
+    c.from_residual-in_err-next-in-Some.ensures.1
+    (λ r. IfErr r IsReadFault) c.in_err-next-in-Some.ensures.cause
+
+pub returns-in-None-clause-looks : goal.returns-in-None-clause-looks
+returns-in-None-clause-looks g c =
+    looks_blamed g.D.Device ⊥ _ _ _ _ _ (λ is. never_ok is) c.loop-turn.invariant.looks
+
+pub returns-in-None-clause-full : goal.returns-in-None-clause-full
+returns-in-None-clause-full g c =
+    λ honest agrees files holds yes. never_true refl yes
+
+pub returns-in-None-clause-damaged : goal.returns-in-None-clause-damaged
+returns-in-None-clause-damaged g c =
+    λ honest agrees files holds is. never_ok is
+
+pub returns-in-None-clause-spent : goal.returns-in-None-clause-spent
+returns-in-None-clause-spent g c =
+    λ is. never_ok is
+
+pub returns-clause-looks : goal.returns-clause-looks
+returns-clause-looks g c =
+    looks_blamed g.D.Device ⊥ _ _ _ _ _ (λ is. never_ok is) c.loop-turn.invariant.looks
+
+pub returns-clause-room : goal.returns-clause-room
+returns-clause-room g c =
+    λ honest agrees files holds none. never_true none refl
+
+pub returns-clause-damaged : goal.returns-clause-damaged
+returns-clause-damaged g c =
+    λ honest agrees files holds is. never_ok is
+
+pub returns-clause-spent : goal.returns-clause-spent
+returns-clause-spent g c =
+    λ is. never_ok is
+
+pub next_in-requires : goal.next_in-requires
+next_in-requires g c = record {
+  sectors = sectors_still g.D.Device _ c.args.pages.now c.loop-turn.pages c.args.device.now c.loop-turn.device
+      c.loop-turn.invariant.looks.only c.loop-turn.invariant.looks.unchanged.committed c.requires.sectors;
+}

@@ -1,12 +1,13 @@
-use Rattle.std.proofs.Common.{◌≡◌, inr, Result, Err, ◌+◌, ◌≤◌, true, ℕ, Bool, List, length, sym, ap, subst, ◌∙◌, arith}
-use Rattle.std.specs.Prelude.{take, drop, Ok, Option, Some, IfSome}
+use Rattle.std.proofs.Common.{◌≡◌, inr, Result, Err, ◌+◌, ◌≤◌, true, ℕ, Bool, List, length, refl, sym, ap, subst, ◌∙◌}
+use Rattle.std.proofs.Common.{arith}
+use Rattle.std.specs.Prelude.{take, drop, Ok, Option, Some, IfSome, OnErr}
 use Rattle.std.specs.List.{flat_map}
 use Rattle.std.specs.Result.{IsErrAnd}
 use Rattle.std.proofs.lemmas.List.{length-append, take_at}
 use Rattle.std.proofs.lemmas.List.Elements.{All-contains}
 use Rattle.byteorder.specs.Endian.{big_bytes, big_number}
 use Rattle.station.specs.Disk.{Sector}
-use Rattle.pages.specs.Pages.{map_now}
+use Rattle.pages.specs.Pages.{map_now, is_spent}
 use Rattle.btree.specs.Rooted.{RootedTree}
 use Rattle.btree.specs.Entries.{Entry, entries_of, entry_with}
 use Rattle.btree.specs.Calls.{pages_on}
@@ -24,9 +25,10 @@ use Rattle.alternate_keys.specs.Aims.{found_entry}
 use Rattle.alternate_keys.specs.Searches.{OnPairEntry}
 use Rattle.alternate_keys.specs.Seen.{begins_with_value, IsPairEntry}
 use Rattle.volume_format.specs.Trees.{entry_under}
-use Rattle.btree.proofs.Passing.{never_ok, same_error}
+use Rattle.btree.proofs.Passing.{passed, if_refused, on_refused, never_ok, same_error}
+use Rattle.btree.proofs.Passing.{damaged_not_spent}
 use Rattle.pages.specs.declared.error.PagesError.{PagesError}
-use Rattle.pages.specs.declared.error.PagesError.TheVariants.{Device, Damaged}
+use Rattle.pages.specs.declared.error.PagesError.TheVariants.{Device, Damaged, Spent}
 use Rattle.volume_format.specs.Calls.{LooksAt}
 use Rattle.volume_format.proofs.Looks.{looks_blamed, looks_nowhere, looks_then}
 use Rattle.alternate_keys.proofs.Tells.{repeated_is, row_there, alternate_number, alternate_long}
@@ -180,3 +182,68 @@ returns-then-branch-clause-bytes g c = λ honest agrees spec i rows row told fit
 
 pub returns-clause-kept : goal.returns-clause-kept
 returns-clause-kept g c = c.read_row.ensures.missing (c.in_ok-read_row.was ∙ ap Ok c.if-branch.false)
+
+pub returns-in_err-number-clause-found : goal.returns-in_err-number-clause-found
+returns-in_err-number-clause-found g c =
+    λ honest agrees spec i rows row told near.
+    if_refused c.from_residual.result c.in_err-number.field-0.0 c.from_residual.ensures.1 _
+
+pub returns-in_err-number-clause-bytes : goal.returns-in_err-number-clause-bytes
+returns-in_err-number-clause-bytes g c =
+    λ honest agrees spec i rows row told fits.
+    on_refused c.from_residual.result c.in_err-number.field-0.0 c.from_residual.ensures.1 _
+
+pub returns-in_err-number-clause-file : goal.returns-in_err-number-clause-file
+returns-in_err-number-clause-file g c =
+    (refl, refl)
+
+pub returns-in_err-number-clause-place : goal.returns-in_err-number-clause-place
+returns-in_err-number-clause-place g c =
+    λ honest agrees near. near
+
+pub returns-in_err-number-clause-spent : goal.returns-in_err-number-clause-spent
+returns-in_err-number-clause-spent g c =
+    passed c.from_residual.result c.in_err-number.field-0.0 c.from_residual.ensures.1
+    (λ r. r ≡ Err Spent → is_spent c.args.pages.now ≡ true)
+    (λ is. damaged_not_spent (ap Err (sym c.in_err-number.ensures.err.0) ∙ is))
+
+pub returns-in_err-number-clause-kept : goal.returns-in_err-number-clause-kept
+returns-in_err-number-clause-kept g c =
+    passed c.from_residual.result c.in_err-number.field-0.0 c.from_residual.ensures.1
+    (λ r. OnErr r (c.args.bytes.now ≡ c.args.bytes.now)) refl
+
+pub returns-in_err-repeated-clause-found : goal.returns-in_err-repeated-clause-found
+returns-in_err-repeated-clause-found g c =
+    λ honest agrees spec i rows row told near. if_refused c.from_residual-in_err-repeated.result
+    c.in_err-repeated.field-0.0 c.from_residual-in_err-repeated.ensures.1 _
+
+pub returns-in_err-repeated-clause-bytes : goal.returns-in_err-repeated-clause-bytes
+returns-in_err-repeated-clause-bytes g c =
+    λ honest agrees spec i rows row told fits. on_refused c.from_residual-in_err-repeated.result
+    c.in_err-repeated.field-0.0 c.from_residual-in_err-repeated.ensures.1 _
+
+pub returns-in_err-repeated-clause-file : goal.returns-in_err-repeated-clause-file
+returns-in_err-repeated-clause-file g c =
+    (refl, refl)
+
+pub returns-in_err-repeated-clause-place : goal.returns-in_err-repeated-clause-place
+returns-in_err-repeated-clause-place g c =
+    c.is_repeated.ensures.place
+
+pub returns-in_err-read_row-clause-found : goal.returns-in_err-read_row-clause-found
+returns-in_err-read_row-clause-found g c =
+    λ honest agrees spec i rows row told near. if_refused c.from_residual-in_err-read_row.result
+    c.in_err-read_row.field-0.0 c.from_residual-in_err-read_row.ensures.1 _
+
+pub returns-in_err-read_row-clause-bytes : goal.returns-in_err-read_row-clause-bytes
+returns-in_err-read_row-clause-bytes g c =
+    λ honest agrees spec i rows row told fits. on_refused c.from_residual-in_err-read_row.result
+    c.in_err-read_row.field-0.0 c.from_residual-in_err-read_row.ensures.1 _
+
+pub returns-in_err-read_row-clause-file : goal.returns-in_err-read_row-clause-file
+returns-in_err-read_row-clause-file g c =
+    (refl, refl)
+
+pub returns-in_err-read_row-clause-place : goal.returns-in_err-read_row-clause-place
+returns-in_err-read_row-clause-place g c =
+    c.is_repeated.ensures.place

@@ -10,6 +10,9 @@ use Rattle.volume_format.specs.Catalog.{catalog_layout}
 use Rattle.file_bytes.specs.Description.{padded_name}
 use Rattle.alternate_keys.proofs.Catalogs.{listed, catalog_holds}
 use Rattle.volume_format.proofs.Faults.{damaged_back}
+use Rattle.alternate_keys.proofs.Passing.{never_ok, same_error}
+use Rattle.volume_format.proofs.Faults.{device_back}
+use Rattle.alternate_keys.proofs.Passing.{reads_where, search_is_read}
 use Rattle.alternate_keys.proofs.listing.find_listing.Goals as goal
 
 pub returns-in-Ok-clause-listed : goal.returns-in-Ok-clause-listed
@@ -51,3 +54,25 @@ returns-in-Err-clause-damaged g c = λ honest agrees files holds is.
     let fault : c.in-Err.error ≡ pages.Damaged = damaged_back c.in-Err.error (sym c.to_fault.ensures ∙ told) in
     c.in-Err.ensures.damaged honest agrees (ap Err fault) holds.keeps.catalog
     (catalog_holds m files holds tree layout root)
+
+pub returns-in-Ok-clause-only : goal.returns-in-Ok-clause-only
+returns-in-Ok-clause-only g c =
+    reads_where g.D.Device _ _ _ _ (λ is. never_ok is) c.in-Ok.ensures.only
+
+pub returns-in-Ok-clause-damaged : goal.returns-in-Ok-clause-damaged
+returns-in-Ok-clause-damaged g c =
+    λ honest agrees files holds is. never_ok is
+
+pub returns-in-Ok-clause-spent : goal.returns-in-Ok-clause-spent
+returns-in-Ok-clause-spent g c =
+    λ is. never_ok is
+
+pub returns-in-Err-clause-only : goal.returns-in-Err-clause-only
+returns-in-Err-clause-only g c =
+    reads_where g.D.Device _ _ _ _ (λ is. ap Err (device_back c.in-Err.error (sym c.to_fault.ensures ∙ same_error is)))
+    c.in-Err.ensures.only
+
+pub returns-in-Err-clause-cause : goal.returns-in-Err-clause-cause
+returns-in-Err-clause-cause g c =
+    search_is_read c.catalog_tree-catalog.result.layout c.in-Err.error c.to_fault.result c.in-Err.ensures.cause
+    c.to_fault.ensures

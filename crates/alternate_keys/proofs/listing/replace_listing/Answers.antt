@@ -16,6 +16,21 @@ use Rattle.alternate_keys.proofs.Among.{grows}
 use Rattle.alternate_keys.proofs.Becoming.{replaces_among, never_missing}
 use Rattle.alternate_keys.proofs.Keeping.{same_tree}
 use Rattle.alternate_keys.proofs.listing.replace_listing.Given.{Over}
+use Rattle.row_trees.specs.Calls.{EditsPages}
+use Rattle.alternate_keys.proofs.Calling.{edits_blamed, edits_nothing}
+use Rattle.alternate_keys.proofs.Passing.{passed, memory_not_device}
+use Rattle.records.specs.declared.fault.StoreFault.TheVariants.{Device}
+use Rattle.alternate_keys.proofs.Passing.{on_refused}
+use Rattle.alternate_keys.proofs.Passing.{memory_never_damaged}
+use Rattle.alternate_keys.proofs.Passing.{few_more}
+use Rattle.alternate_keys.proofs.Passing.{memory_never_spent}
+use Rattle.std.specs.Prelude.{IfErr}
+use Rattle.alternate_keys.proofs.Passing.{memory_is_read}
+use Rattle.alternate_keys.specs.Faults.{IsReadFault}
+use Rattle.std.proofs.Common.{refl}
+use Rattle.alternate_keys.proofs.Passing.{never_ok, same_error, spent_back, change_is_read, damaged_not_device}
+use Rattle.alternate_keys.proofs.Passing.{damaged_not_spent}
+use Rattle.volume_format.proofs.Faults.{device_back}
 use Rattle.alternate_keys.proofs.listing.replace_listing.Goals as goal
 use Rattle.alternate_keys.proofs.listing.replace_listing.Goals.{After-replace}
 
@@ -66,3 +81,98 @@ returns-clause-damaged g c = λ honest agrees left right entries stands some is.
     let fault : c.in-Err.error ≡ pages.Damaged = damaged_back c.in-Err.error (sym c.to_fault.ensures ∙ told) in
     c.in-Err.ensures.damaged honest agrees (ap Err fault) there.levels
     (grows before left right c.catalog_tree-catalog.result entries there)
+
+pub returns-in_err-value-clause-edits : goal.returns-in_err-value-clause-edits
+returns-in_err-value-clause-edits g c =
+    passed c.from_residual.result c.in_err-value.field-0.0 c.from_residual.ensures.1
+    (λ r. EditsPages g.D.Device (r ≡ Err Device) c.args.pages.now c.args.device.now c.args.pages.now c.args.device.now)
+    (edits_blamed g.D.Device _ _ _ _ _ _ (λ e. memory_not_device _ c.in_err-value.ensures.memory e)
+    (edits_nothing g.D.Device c.args.pages.now c.args.device.now))
+
+pub returns-in_err-value-clause-replaced : goal.returns-in_err-value-clause-replaced
+returns-in_err-value-clause-replaced g c =
+    λ honest agrees left right entries stands.
+    on_refused c.from_residual.result c.in_err-value.field-0.0 c.from_residual.ensures.1 _
+
+pub returns-in_err-value-clause-damaged : goal.returns-in_err-value-clause-damaged
+returns-in_err-value-clause-damaged g c =
+    λ honest agrees left right entries stands some is.
+    memory_never_damaged c.from_residual.result c.in_err-value.field-0.0 c.from_residual.ensures.1
+    c.in_err-value.ensures.memory is
+
+pub returns-in_err-value-clause-few : goal.returns-in_err-value-clause-few
+returns-in_err-value-clause-few g c =
+    few_more _ _
+
+pub returns-in_err-value-clause-filled : goal.returns-in_err-value-clause-filled
+returns-in_err-value-clause-filled g c =
+    few_more _ _
+
+pub returns-in_err-value-clause-spent : goal.returns-in_err-value-clause-spent
+returns-in_err-value-clause-spent g c =
+    λ is.
+    memory_never_spent c.from_residual.result c.in_err-value.field-0.0 c.from_residual.ensures.1
+    c.in_err-value.ensures.memory is
+
+pub returns-in_err-value-clause-cause : goal.returns-in_err-value-clause-cause
+returns-in_err-value-clause-cause g c =
+    passed c.from_residual.result c.in_err-value.field-0.0 c.from_residual.ensures.1
+    (λ r. IfErr r IsReadFault) (memory_is_read _ c.in_err-value.ensures.memory)
+
+pub returns-in-Ok-true-clause-edits : goal.returns-in-Ok-true-clause-edits
+returns-in-Ok-true-clause-edits g c =
+    edits_blamed g.D.Device _ _ _ _ _ _ (λ is. never_ok is) c.in-Ok-true.ensures.edits
+
+pub returns-in-Ok-true-clause-damaged : goal.returns-in-Ok-true-clause-damaged
+returns-in-Ok-true-clause-damaged g c =
+    λ honest agrees left right entries stands some is. never_ok is
+
+pub returns-in-Ok-true-clause-spent : goal.returns-in-Ok-true-clause-spent
+returns-in-Ok-true-clause-spent g c =
+    λ is. never_ok is
+
+pub returns-in-Ok-false-clause-edits : goal.returns-in-Ok-false-clause-edits
+returns-in-Ok-false-clause-edits g c =
+    edits_blamed g.D.Device _ _ _ _ _ _ (λ is. damaged_not_device is) c.in-Ok-false.ensures.edits
+
+pub returns-in-Ok-false-clause-spent : goal.returns-in-Ok-false-clause-spent
+returns-in-Ok-false-clause-spent g c =
+    λ is. damaged_not_spent Damaged refl is
+
+pub returns-clause-edits : goal.returns-clause-edits
+returns-clause-edits g c =
+    edits_blamed g.D.Device _ _ _ _ _ _
+    (λ is. ap Err (device_back c.in-Err.error (sym c.to_fault.ensures ∙ same_error is)))
+    c.in-Err.ensures.edits
+
+pub returns-clause-cause : goal.returns-clause-cause
+returns-clause-cause g c =
+    change_is_read c.in-Err.error c.to_fault.result c.in-Err.ensures.cause c.to_fault.ensures
+
+pub returns-clause-spent : goal.returns-clause-spent
+returns-clause-spent g c =
+    λ is. (c.in-Err.ensures.spent.0 (ap Err (spent_back c.in-Err.error (sym c.to_fault.ensures ∙ same_error is)))).0
+
+pub returns-in-Ok-true-clause-few : goal.returns-in-Ok-true-clause-few
+returns-in-Ok-true-clause-few g c =
+    c.replace.ensures.changed_pages
+
+pub returns-in-Ok-true-clause-filled : goal.returns-in-Ok-true-clause-filled
+returns-in-Ok-true-clause-filled g c =
+    c.replace.ensures.filled
+
+pub returns-in-Ok-false-clause-few : goal.returns-in-Ok-false-clause-few
+returns-in-Ok-false-clause-few g c =
+    c.replace.ensures.changed_pages
+
+pub returns-in-Ok-false-clause-filled : goal.returns-in-Ok-false-clause-filled
+returns-in-Ok-false-clause-filled g c =
+    c.replace.ensures.filled
+
+pub returns-clause-few : goal.returns-clause-few
+returns-clause-few g c =
+    c.replace.ensures.changed_pages
+
+pub returns-clause-filled : goal.returns-clause-filled
+returns-clause-filled g c =
+    c.replace.ensures.filled

@@ -9,6 +9,13 @@ use Rattle.alternate_keys.specs.Moved.{old_key}
 use Rattle.alternate_keys.proofs.Passing.{memory_is_read, passed}
 use Rattle.alternate_keys.proofs.Faults.{never_spent, refused_by_call}
 use Rattle.alternate_keys.specs.Faults.{IsReadFault}
+use Rattle.row_trees.specs.Calls.{EditsPages}
+use Rattle.alternate_keys.proofs.Calling.{edits_blamed, edits_nothing}
+use Rattle.std.specs.Prelude.{Err}
+use Rattle.alternate_keys.proofs.Passing.{memory_not_device}
+use Rattle.records.specs.declared.fault.StoreFault.TheVariants.{Device}
+use Rattle.alternate_keys.proofs.Passing.{on_refused}
+use Rattle.alternate_keys.proofs.Passing.{memory_never_damaged}
 use Rattle.alternate_keys.proofs.move_pairs.take_pair.Goals as goal
 
 pub returns-clause-taken : goal.returns-clause-taken
@@ -37,3 +44,26 @@ pub returns-in_err-at-clause-cause : goal.returns-in_err-at-clause-cause
 returns-in_err-at-clause-cause g c =
     passed c.from_residual.result c.in_err-at.field-0.0 c.from_residual.ensures.1 (λ r. IfErr r IsReadFault)
     (memory_is_read c.in_err-at.field-0.0 c.in_err-at.ensures.memory)
+
+pub returns-in_err-at-clause-edits : goal.returns-in_err-at-clause-edits
+returns-in_err-at-clause-edits g c =
+    passed c.from_residual.result c.in_err-at.field-0.0 c.from_residual.ensures.1
+    (λ r. EditsPages g.D.Device (r ≡ Err Device) c.args.pages.now c.args.device.now c.args.pages.now c.args.device.now)
+    (edits_blamed g.D.Device _ _ _ _ _ _ (λ e. memory_not_device _ c.in_err-at.ensures.memory e)
+    (edits_nothing g.D.Device c.args.pages.now c.args.device.now))
+
+pub returns-in_err-at-clause-taken : goal.returns-in_err-at-clause-taken
+returns-in_err-at-clause-taken g c =
+    λ honest agrees left right entries stands.
+    on_refused c.from_residual.result c.in_err-at.field-0.0 c.from_residual.ensures.1 _
+
+pub returns-in_err-at-clause-damaged : goal.returns-in_err-at-clause-damaged
+returns-in_err-at-clause-damaged g c =
+    λ honest agrees left right entries stands some is.
+    memory_never_damaged c.from_residual.result c.in_err-at.field-0.0 c.from_residual.ensures.1
+    c.in_err-at.ensures.memory is
+
+pub returns-in_err-at-clause-few : goal.returns-in_err-at-clause-few
+returns-in_err-at-clause-few g c =
+    λ honest agrees left right entries stands.
+    on_refused c.from_residual.result c.in_err-at.field-0.0 c.from_residual.ensures.1 _

@@ -10,6 +10,12 @@ use Rattle.alternate_keys.proofs.Rooting.{placed_by}
 use Rattle.alternate_keys.proofs.Passing.{memory_is_write, never_ok, passed}
 use Rattle.alternate_keys.proofs.Faults.{never_full_memory, never_spent, refused_by_call}
 use Rattle.alternate_keys.specs.Faults.{IsWriteFault}
+use Rattle.std.proofs.Common.{◌≡◌}
+use Rattle.std.specs.Prelude.{Err}
+use Rattle.row_trees.specs.Calls.{EditsPages}
+use Rattle.records.specs.declared.fault.StoreFault.TheVariants.{Device}
+use Rattle.alternate_keys.proofs.Calling.{edits_blamed}
+use Rattle.alternate_keys.proofs.Passing.{if_refused, on_refused, still_error, memory_not_device, memory_never_damaged}
 use Rattle.alternate_keys.proofs.move_row.move_row.Goals as goal
 
 pub returns-in_err-roots-clause-room : goal.returns-in_err-roots-clause-room
@@ -80,3 +86,64 @@ returns-in_err-new-clause-room g c =
 
 pub returns-clause-spent : goal.returns-clause-spent
 returns-clause-spent g c = λ is. never_ok is
+
+pub returns-in_err-roots-clause-edits : goal.returns-in_err-roots-clause-edits
+returns-in_err-roots-clause-edits g c =
+    passed c.from_residual.result c.in_err-roots.field-0.0 c.from_residual.ensures.1
+    (λ r. EditsPages g.D.Device (r ≡ Err Device) c.args.pages.now c.args.device.now c.move_pairs.new.pages
+    c.move_pairs.new.device)
+    (edits_blamed g.D.Device _ _ _ _ _ _ (λ is. still_error is) c.in_err-roots.ensures.edits)
+
+pub returns-in_err-new-clause-edits : goal.returns-in_err-new-clause-edits
+returns-in_err-new-clause-edits g c =
+    passed c.from_residual-in_err-new.result c.in_err-new.field-0.0 c.from_residual-in_err-new.ensures.1
+    (λ r. EditsPages g.D.Device (r ≡ Err Device) c.args.pages.now c.args.device.now c.move_pairs.new.pages
+    c.move_pairs.new.device)
+    (edits_blamed g.D.Device _ _ _ _ _ _ (λ is. memory_not_device _ c.in_err-new.ensures.memory is)
+    c.in_ok-roots.ensures.edits)
+
+pub returns-clause-edits : goal.returns-clause-edits
+returns-clause-edits g c =
+    edits_blamed g.D.Device _ _ _ _ _ _ (λ is. never_ok is) c.in_ok-roots.ensures.edits
+
+pub returns-in_err-new-clause-damaged : goal.returns-in_err-new-clause-damaged
+returns-in_err-new-clause-damaged g c =
+    λ honest agrees held after generation left right m may is.
+    memory_never_damaged c.from_residual-in_err-new.result c.in_err-new.field-0.0 c.from_residual-in_err-new.ensures.1
+    c.in_err-new.ensures.memory is
+
+pub returns-clause-room : goal.returns-clause-room
+returns-clause-room g c =
+    λ honest agrees held after generation left right m is. never_ok is
+
+pub returns-clause-damaged : goal.returns-clause-damaged
+returns-clause-damaged g c =
+    λ honest agrees held after generation left right m may is. never_ok is
+
+pub returns-in_err-roots-clause-placed : goal.returns-in_err-roots-clause-placed
+returns-in_err-roots-clause-placed g c =
+    λ honest agrees held after generation left right m.
+    if_refused c.from_residual.result c.in_err-roots.field-0.0 c.from_residual.ensures.1 _
+
+pub returns-in_err-roots-clause-few : goal.returns-in_err-roots-clause-few
+returns-in_err-roots-clause-few g c =
+    λ honest agrees held after generation left right m.
+    on_refused c.from_residual.result c.in_err-roots.field-0.0 c.from_residual.ensures.1 _
+
+pub returns-in_err-roots-clause-long : goal.returns-in_err-roots-clause-long
+returns-in_err-roots-clause-long g c =
+    if_refused c.from_residual.result c.in_err-roots.field-0.0 c.from_residual.ensures.1 _
+
+pub returns-in_err-new-clause-placed : goal.returns-in_err-new-clause-placed
+returns-in_err-new-clause-placed g c =
+    λ honest agrees held after generation left right m.
+    if_refused c.from_residual-in_err-new.result c.in_err-new.field-0.0 c.from_residual-in_err-new.ensures.1 _
+
+pub returns-in_err-new-clause-few : goal.returns-in_err-new-clause-few
+returns-in_err-new-clause-few g c =
+    λ honest agrees held after generation left right m.
+    on_refused c.from_residual-in_err-new.result c.in_err-new.field-0.0 c.from_residual-in_err-new.ensures.1 _
+
+pub returns-in_err-new-clause-long : goal.returns-in_err-new-clause-long
+returns-in_err-new-clause-long g c =
+    if_refused c.from_residual-in_err-new.result c.in_err-new.field-0.0 c.from_residual-in_err-new.ensures.1 _

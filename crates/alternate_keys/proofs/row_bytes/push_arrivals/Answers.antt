@@ -1,6 +1,7 @@
-use Rattle.std.proofs.Common.{◌++◌, List, ℕ, take, append_assoc, sym, ap, ◌∙◌, arith}
+use Rattle.std.proofs.Common.{◌++◌, List, ℕ, take, append_assoc, take_all, sym, ap, ◌∙◌, arith}
 use Rattle.std.specs.Prelude.{map}
 use Rattle.std.specs.List.{flat_map}
+use Rattle.std.proofs.lemmas.List.{append-nil}
 use Rattle.byteorder.specs.Endian.{big_bytes}
 use Rattle.records.specs.declared.file_spec.AlternateKey.{AlternateKey}
 use Rattle.alternate_keys.proofs.Arrivals.{arrivals_more}
@@ -19,3 +20,13 @@ loop-key-preserved c =
     ∙ append_assoc out done (big_bytes 8 arrival)
     ∙ ap (λ (l : List ℕ). out ++ l) (sym (arrivals_more keys c.loop-key.key-index arrival
     (omega (arith, c.loop-key-test.true, c.loop-key.auto.key-index-end))))
+
+pub loop-key-init : goal.loop-key-init
+loop-key-init c = sym (append-nil c.args.out.now.items)
+
+pub returns-clause-bytes : goal.returns-clause-bytes
+returns-clause-bytes c =
+    let keys : List AlternateKey = c.args.keys.now in
+    c.loop-key.invariant ∙ ap (λ (l : List AlternateKey). c.args.out.now.items
+    ++ flat_map (big_bytes 8) (map (λ (key : AlternateKey). c.args.arrival) l))
+    (take_all c.loop-key.key-index keys (omega (arith, c.loop-key-test.false, c.loop-key.auto.key-index-end)))

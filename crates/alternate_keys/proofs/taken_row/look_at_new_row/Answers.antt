@@ -22,6 +22,8 @@ use Rattle.alternate_keys.proofs.Passing.{never_ok, passed, spent_before}
 use Rattle.alternate_keys.proofs.Still.{same_volume}
 use Rattle.alternate_keys.proofs.TakenRow.{new_row_changes}
 use Rattle.alternate_keys.proofs.taken_row.look_at_new_row.Given.{Over}
+use Rattle.alternate_keys.proofs.Passing.{if_refused}
+use Rattle.btree.proofs.Passing.{never_true}
 use Rattle.alternate_keys.proofs.taken_row.look_at_new_row.Goals as goal
 use Rattle.alternate_keys.proofs.taken_row.look_at_new_row.Goals.{After-is_row_there}
 
@@ -178,3 +180,80 @@ returns-then-branch-clause-spent g c = λ is. never_ok is
 
 pub returns-clause-spent : goal.returns-clause-spent
 returns-clause-spent g c = λ is. never_ok is
+
+pub returns-in_err-outcome-clause-told : goal.returns-in_err-outcome-clause-told
+returns-in_err-outcome-clause-told g c =
+    λ honest agrees named generation left right has.
+    if_refused c.from_residual.result c.in_err-outcome.field-0.0 c.from_residual.ensures.1 _
+
+pub returns-in_err-outcome-clause-taken : goal.returns-in_err-outcome-clause-taken
+returns-in_err-outcome-clause-taken g c =
+    λ honest agrees named generation left right has.
+    if_refused c.from_residual.result c.in_err-outcome.field-0.0 c.from_residual.ensures.1 _
+
+pub returns-in_err-outcome-clause-free : goal.returns-in_err-outcome-clause-free
+returns-in_err-outcome-clause-free g c =
+    λ unspent honest agrees named generation left right has.
+    if_refused c.from_residual.result c.in_err-outcome.field-0.0 c.from_residual.ensures.1 _
+
+pub returns-in_err-is_row_there-clause-told : goal.returns-in_err-is_row_there-clause-told
+returns-in_err-is_row_there-clause-told g c =
+    λ honest agrees named generation left right has.
+    if_refused c.from_residual-in_err-is_row_there.result c.in_err-is_row_there.field-0.0
+    c.from_residual-in_err-is_row_there.ensures.1 _
+
+pub returns-in_err-is_row_there-clause-taken : goal.returns-in_err-is_row_there-clause-taken
+returns-in_err-is_row_there-clause-taken g c =
+    λ honest agrees named generation left right has.
+    if_refused c.from_residual-in_err-is_row_there.result c.in_err-is_row_there.field-0.0
+    c.from_residual-in_err-is_row_there.ensures.1 _
+
+pub returns-in_err-is_row_there-clause-free : goal.returns-in_err-is_row_there-clause-free
+returns-in_err-is_row_there-clause-free g c =
+    λ unspent honest agrees named generation left right has.
+    if_refused c.from_residual-in_err-is_row_there.result c.in_err-is_row_there.field-0.0
+    c.from_residual-in_err-is_row_there.ensures.1 _
+
+pub returns-then-not-is_done-clause-told : goal.returns-then-not-is_done-clause-told
+returns-then-not-is_done-clause-told g c =
+    λ honest agrees named generation left right has told.
+    never_true (sym c.is_done.ensures ∙ c.if-not-is_done.true) told
+
+pub returns-then-not-is_done-clause-free : goal.returns-then-not-is_done-clause-free
+returns-then-not-is_done-clause-free g c =
+    λ unspent honest agrees named generation left right has told few.
+    never_true (sym c.is_done.ensures ∙ c.if-not-is_done.true) told
+
+pub returns-then-not-is_scarce-clause-taken : goal.returns-then-not-is_scarce-clause-taken
+returns-then-not-is_scarce-clause-taken g c =
+    λ honest agrees named generation left right has none.
+    never_true none (sym c.is_done.ensures ∙ c.if-not-is_done.false)
+
+pub returns-clause-taken : goal.returns-clause-taken
+returns-clause-taken g c =
+    λ honest agrees named generation left right has none.
+    never_true none (sym c.is_done.ensures ∙ c.if-not-is_done.false)
+
+pub returns-then-branch-clause-told : goal.returns-then-branch-clause-told
+returns-then-branch-clause-told g c =
+    λ honest agrees named generation left right has told. never_true refl told
+
+pub returns-then-branch-clause-free : goal.returns-then-branch-clause-free
+returns-then-branch-clause-free g c =
+    λ unspent honest agrees named generation left right has told few. never_true refl told
+
+pub returns-then-not-is_done-clause-damaged : goal.returns-then-not-is_done-clause-damaged
+returns-then-not-is_done-clause-damaged g c =
+    λ honest agrees named generation left right has is. never_ok is
+
+pub returns-then-not-is_scarce-clause-damaged : goal.returns-then-not-is_scarce-clause-damaged
+returns-then-not-is_scarce-clause-damaged g c =
+    λ honest agrees named generation left right has is. never_ok is
+
+pub returns-then-branch-clause-damaged : goal.returns-then-branch-clause-damaged
+returns-then-branch-clause-damaged g c =
+    λ honest agrees named generation left right has is. never_ok is
+
+pub returns-clause-damaged : goal.returns-clause-damaged
+returns-clause-damaged g c =
+    λ honest agrees named generation left right has is. never_ok is

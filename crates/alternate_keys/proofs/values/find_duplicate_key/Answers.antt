@@ -21,6 +21,11 @@ use Rattle.alternate_keys.proofs.Walks.{any_more, any_at, all_taken, allowed, an
 use Rattle.alternate_keys.proofs.Passing.{never_ok}
 use Rattle.alternate_keys.proofs.Faults.{refused_by_call}
 use Rattle.alternate_keys.proofs.values.find_duplicate_key.Given.{Over}
+use Rattle.std.specs.Prelude.{IfErr}
+use Rattle.alternate_keys.proofs.Passing.{if_refused, passed, spent_before}
+use Rattle.volume_format.proofs.Looks.{looks_blamed}
+use Rattle.alternate_keys.specs.Faults.{IsReadFault}
+use Rattle.alternate_keys.proofs.Calling.{sectors_still}
 use Rattle.alternate_keys.proofs.values.find_duplicate_key.Goals as goal
 use Rattle.alternate_keys.proofs.values.find_duplicate_key.Goals.{After-is_repeated}
 
@@ -191,3 +196,55 @@ returns-clause-told g c = λ honest agrees rows pairs.
     loop.auto.key-end in omega (arith, n, test, end)) in
     let so_far = loop.invariant.told honest agrees rows pairs in
     free keys rows bytes new loop.key all so_far.0 false (sym c.if-duplicate.false ∙ so_far.1)
+
+pub returns-in_err-repeated-clause-told : goal.returns-in_err-repeated-clause-told
+returns-in_err-repeated-clause-told g c =
+    λ honest agrees rows pairs.
+    if_refused c.from_residual.result c.in_err-repeated.field-0.0 c.from_residual.ensures.1 _
+
+pub returns-in_err-repeated-clause-spent : goal.returns-in_err-repeated-clause-spent
+returns-in_err-repeated-clause-spent g c =
+    λ is. spent_before c.args.pages.now c.loop-key.pages c.loop-key.invariant.looks.unchanged.committed
+    (c.is_repeated.ensures.spent (refused_by_call c.in_err-repeated.was c.from_residual.ensures.1 is))
+
+pub returns-in_err-repeated-clause-cause : goal.returns-in_err-repeated-clause-cause
+returns-in_err-repeated-clause-cause g c =
+    passed c.from_residual.result c.in_err-repeated.field-0.0 c.from_residual.ensures.1
+    (λ r. IfErr r IsReadFault) c.in_err-repeated.ensures.cause
+
+pub returns-then-is_barred-clause-damaged : goal.returns-then-is_barred-clause-damaged
+returns-then-is_barred-clause-damaged g c =
+    λ honest agrees rows pairs is. never_ok is
+
+pub returns-then-is_barred-clause-spent : goal.returns-then-is_barred-clause-spent
+returns-then-is_barred-clause-spent g c =
+    λ is. never_ok is
+
+pub returns-then-duplicate-clause-looks : goal.returns-then-duplicate-clause-looks
+returns-then-duplicate-clause-looks g c =
+    looks_blamed g.D.Device ⊥ _ _ _ _ _ (λ is. never_ok is) c.loop-key.invariant.looks
+
+pub returns-then-duplicate-clause-damaged : goal.returns-then-duplicate-clause-damaged
+returns-then-duplicate-clause-damaged g c =
+    λ honest agrees rows pairs is. never_ok is
+
+pub returns-then-duplicate-clause-spent : goal.returns-then-duplicate-clause-spent
+returns-then-duplicate-clause-spent g c =
+    λ is. never_ok is
+
+pub returns-clause-looks : goal.returns-clause-looks
+returns-clause-looks g c =
+    looks_blamed g.D.Device ⊥ _ _ _ _ _ (λ is. never_ok is) c.loop-key.invariant.looks
+
+pub returns-clause-damaged : goal.returns-clause-damaged
+returns-clause-damaged g c =
+    λ honest agrees rows pairs is. never_ok is
+
+pub returns-clause-spent : goal.returns-clause-spent
+returns-clause-spent g c =
+    λ is. never_ok is
+
+pub is_repeated-requires-clause-sectors : goal.is_repeated-requires-clause-sectors
+is_repeated-requires-clause-sectors g c =
+    sectors_still g.D.Device _ c.args.pages.now c.loop-key.pages c.args.device.now
+    c.loop-key.device c.loop-key.invariant.looks.only c.loop-key.invariant.looks.unchanged.committed c.requires.sectors
