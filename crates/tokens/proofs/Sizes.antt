@@ -2,6 +2,7 @@
 use Rattle.std.proofs.Common.{IfOk, Result, ◌&&◌, not, ◌≡◌, ◌≤◌, ◌+◌, ◌-◌, ℕ, zero, suc, Bool, true, false, ◌||◌, cond}
 use Rattle.std.proofs.Common.{eqb, List, [], ◌∷◌, length, drop, Option, None, Some, Ok, Err, refl, subst, arith}
 use Rattle.std.proofs.Common.{length-drop, one-add}
+use Rattle.std.specs.Prelude.{nat_lt, ◌==◌}
 use Rattle.std.proofs.Math.Dec.{eqb-suc-zero}
 use Rattle.std.proofs.lemmas.List.Sums.{prefix_len-le-length}
 use Rattle.source_lines.specs.declared.lines.Character.{Character}
@@ -9,8 +10,10 @@ use Rattle.lexical.specs.declared.place.Place.{Place}
 use Rattle.tokens.specs.declared.character.Class.{Class}
 use Rattle.tokens.specs.declared.character.Class.TheVariants as class
 use Rattle.tokens.specs.declared.context.Context.{Context}
+use Rattle.tokens.specs.declared.fault.FaultKind.TheVariants as fault
 use Rattle.tokens.specs.declared.fault.TokenFault.{TokenFault}
 use Rattle.tokens.specs.declared.lexeme.Lexeme.{Lexeme}
+use Rattle.tokens.specs.declared.token.Kind.TheVariants as k
 use Rattle.tokens.specs.declared.token.Operator.{Operator}
 use Rattle.tokens.specs.declared.token.Operator.TheVariants as o
 use Rattle.tokens.specs.declared.fault.TokenError.{TokenError}
@@ -25,7 +28,7 @@ use Rattle.tokens.specs.Lexemes.{word_or_number, signed_lexeme, sign_here}
 use Rattle.tokens.specs.Literals.{numeric, nonnumeric, quoted_characters, closed_literal, after_point, begins_number}
 use Rattle.tokens.specs.Literals.{point_size, sign_size}
 use Rattle.tokens.specs.Pictures.{picture, picture_size}
-use Rattle.tokens.specs.Words.{Outcome, word}
+use Rattle.tokens.specs.Words.{Outcome, word, refusal_at, token}
 
 -- what an outcome's size is between
 pub data Sized (n : ℕ) : Outcome → Type 0 where
@@ -117,9 +120,16 @@ quoted_passed mark false text size (c ∷ more) =
     passed_if (eqb c.byte mark) (passed_more (length more) (quoted_passed mark true _ (size + 1) more))
     (passed_more (length more) (quoted_passed mark false _ (size + 1) more))
 
+-- a text with its marks, by whether it is refused
+closed_by : (place : Place) (text : List ℕ) {size n : ℕ} (is_refused : Bool) → 1 ≤ size → size ≤ n
+    → Sized n (cond is_refused (refusal_at fault.WrongNonnumericLiteral place) (Ok (token (k.Nonnumeric text) size)))
+closed_by place text true l h = none
+closed_by place text false l h = some l h
+
 closed_sized : (place : Place) {n : ℕ} {x : Option (List ℕ × ℕ)} → Passed 1 n x → Sized n (closed_literal place x)
 closed_sized place open_text = none
-closed_sized place (closed_text l h) = sized_if _ none (some l h)
+closed_sized place (closed_text {text = text} l h) =
+    closed_by place text (length text == 0 || nat_lt 160 (length text)) l h
 
 nonnumeric_sized : (place : Place) (mark : ℕ) (cs : List Character) → Sized (suc (length cs)) (nonnumeric place mark cs)
 unfolding nonnumeric

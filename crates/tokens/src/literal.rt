@@ -61,12 +61,13 @@ pub fn nonnumeric(
 ) -> Result<Lexeme, TokenError>
     ensures { Gives (λ lexeme. lexeme) fault_of result (spec.nonnumeric place mark characters.now) }
 {
-    match quoted(alloc, mark, characters)? {
-        Some((text, size)) if !text.is_empty() && text.len() <= MAX_TEXT => {
-            Ok(token(Kind::Nonnumeric(text), size))
-        }
-        _ => Err(refused(FaultKind::WrongNonnumericLiteral, place)),
+    let Some((text, size)) = quoted(alloc, mark, characters)? else {
+        return Err(refused(FaultKind::WrongNonnumericLiteral, place));
+    };
+    if text.is_empty() || text.len() > MAX_TEXT {
+        return Err(refused(FaultKind::WrongNonnumericLiteral, place));
     }
+    Ok(token(Kind::Nonnumeric(text), size))
 }
 
 fn after_point(characters: &[Character]) -> &[Character]
@@ -100,15 +101,15 @@ fn point_size(decimals: usize) -> usize
 fn quoted(
     alloc: Global,
     mark: u8,
-    characters: &[Character],
+    mut characters: &[Character],
 ) -> Result<Option<(Items<u8>, usize)>, TokenError>
     ensures { Gives (λ text. text) fault_of result
-        (Ok (spec.quoted_characters mark false [] 1 characters.now)) }
+        (Ok (spec.quoted_characters mark false [] 1 characters.entry.now)) }
 {
     let mut text = Vec::new(alloc);
     let mut is_after_mark = false;
     let mut size = 1;
-    for one in characters {
+    while let [one, more @ ..] = characters {
         if one.byte == mark && !is_after_mark {
             is_after_mark = true;
         } else if is_after_mark && one.byte != mark {
@@ -118,6 +119,7 @@ fn quoted(
             is_after_mark = false;
         }
         size += 1;
+        characters = more;
     }
     if is_after_mark {
         Ok(Some((Items::from_vec(text), size)))
