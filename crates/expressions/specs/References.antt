@@ -77,6 +77,14 @@ subscripted_reader item first = do
   part ← part_behind_reader
   pure (record { item = item; subscripts = first ∷ more; part = part })
 
+-- the subscripts, of which this is the first, and the part behind them
+unfoldable pub numbers_from_reader : Subscript → Parser (List Subscript × Option ItemPart)
+numbers_from_reader first = do
+  more ← r.any subscript_reader begins_subscript
+  one_token right_in
+  part ← part_behind_reader
+  pure (first ∷ more, part)
+
 unfoldable pub after_number_reader : QualifiedName → Subscript → Parser Reference
 after_number_reader item first i = if begins_colon i then item_part_reader item first i else subscripted_reader item first i
 

@@ -6,7 +6,7 @@ ghost use Rattle.expressions.specs.References as spec;
 
 use crate::marks::{begins_left, colon, left, right};
 use crate::subscripts::{begins_subscript, subscript};
-use grammar::{ReadFault, Tokens};
+use grammar::{ReadFault, Tokens, beside};
 use source_tree::{BoxedPart, Part, Subscript};
 use std::alloc::Global;
 
@@ -22,18 +22,26 @@ pub fn part_behind(alloc: Global, tokens: &mut Tokens<'_>) -> Result<Option<Boxe
     }
 }
 
-/// The rest of a part after its first place: from the colon to the right parenthesis.
-#[tactic(auto, unfolding(crate::specs::References::part_from_reader))]
-pub fn part_from(
+/// The rest of a part after its first place, with memory of its own.
+pub fn boxed_part_from(
     first: Subscript,
     alloc: Global,
     tokens: &mut Tokens<'_>,
-) -> Result<Part, ReadFault>
+) -> Result<BoxedPart, ReadFault>
     ensures { Reads (spec.part_from_reader first tokens.old) result tokens.new }
 {
-    colon(tokens)?;
-    let length = length(alloc, tokens)?;
-    right(tokens)?;
+    let part = part_from(first, alloc, tokens)?;
+    Ok(BoxedPart::new(alloc, part)?)
+}
+
+/// The rest of a part after its first place: from the colon to the right parenthesis.
+#[tactic(auto, unfolding(crate::specs::References::part_from_reader))]
+fn part_from(first: Subscript, alloc: Global, tokens: &mut Tokens<'_>) -> Result<Part, ReadFault>
+    ensures { Reads (spec.part_from_reader first tokens.old) result tokens.new }
+{
+    let (first, ()) = beside(first, colon(tokens))?;
+    let (first, length) = beside(first, length(alloc, tokens))?;
+    let ((first, length), ()) = beside((first, length), right(tokens))?;
     Ok(Part { first, length })
 }
 
@@ -43,8 +51,7 @@ fn some_part(alloc: Global, tokens: &mut Tokens<'_>) -> Result<Option<BoxedPart>
 {
     left(tokens)?;
     let first = subscript(alloc, tokens)?;
-    let part = part_from(first, alloc, tokens)?;
-    Ok(Some(BoxedPart::new(alloc, part)?))
+    Ok(Some(boxed_part_from(first, alloc, tokens)?))
 }
 
 /// A length, if there is one.

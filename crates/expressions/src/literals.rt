@@ -49,11 +49,10 @@ pub fn begins_number(tokens: &Tokens<'_>) -> bool
 }
 
 /// A numeric literal or ZERO.
-#[tactic(auto, unfolding(grammar::specs::Reading::one_token, grammar::specs::Reading::here))]
+#[tactic(auto, unfolding(grammar::specs::Reading::one_token))]
 pub fn number_literal(alloc: Global, tokens: &mut Tokens<'_>) -> Result<Literal, ReadFault>
     ensures { Reads (read.one_token spec.number_literal_in tokens.old) result tokens.new }
 {
-    let place = tokens.here()?;
     let [next, rest @ ..] = tokens.rest() else {
         return Err(tokens.refuse());
     };
@@ -68,7 +67,10 @@ pub fn number_literal(alloc: Global, tokens: &mut Tokens<'_>) -> Result<Literal,
         _ => return Err(tokens.refuse()),
     };
     tokens.go_to(rest);
-    Ok(Literal { value, place })
+    Ok(Literal {
+        value,
+        place: next.place,
+    })
 }
 
 /// The figurative constant that a word is.
@@ -117,11 +119,10 @@ fn all_literal(alloc: Global, tokens: &mut Tokens<'_>) -> Result<Literal, ReadFa
 }
 
 /// A literal of one token.
-#[tactic(auto, unfolding(grammar::specs::Reading::one_token, grammar::specs::Reading::here))]
+#[tactic(auto, unfolding(grammar::specs::Reading::one_token))]
 fn plain_literal(alloc: Global, tokens: &mut Tokens<'_>) -> Result<Literal, ReadFault>
     ensures { Reads (read.one_token spec.plain_in tokens.old) result tokens.new }
 {
-    let place = tokens.here()?;
     let [next, rest @ ..] = tokens.rest() else {
         return Err(tokens.refuse());
     };
@@ -137,7 +138,10 @@ fn plain_literal(alloc: Global, tokens: &mut Tokens<'_>) -> Result<Literal, Read
         _ => return Err(tokens.refuse()),
     };
     tokens.go_to(rest);
-    Ok(Literal { value, place })
+    Ok(Literal {
+        value,
+        place: next.place,
+    })
 }
 
 /// The word is ZERO.

@@ -11,7 +11,7 @@ use source_tree::Operator;
 use tokens::{Kind, Operator as Written, Token};
 
 /// A plus or minus before an operand or an integer.
-#[derive(Clone, Copy, PartialEq, Eq)]
+#[derive(Clone, Copy)]
 pub enum PlusOrMinus {
     Plus,
     Minus,

@@ -4,10 +4,10 @@ ghost use Rattle.std.specs.Prelude.{◌≡◌};
 ghost use Rattle.grammar.specs.Reading.{Reads};
 ghost use Rattle.expressions.specs.References as spec;
 
-use crate::item_parts::{part_behind, part_from};
+use crate::item_parts::{boxed_part_from, part_behind};
 use crate::marks::{begins_colon, begins_left, left, right};
 use crate::subscripts::{Subscripts, qualified, subscript};
-use grammar::{Part, ReadFault, Tokens, any, begins_name};
+use grammar::{Part, ReadFault, Tokens, any, begins_name, beside};
 use source_tree::{BoxedPart, QualifiedName, Reference, Subscript};
 use sqlite_items::Items;
 use std::alloc::Global;
@@ -71,8 +71,8 @@ fn enclosed_numbers(
 ) -> Result<Reference, ReadFault>
     ensures { Reads (spec.enclosed_numbers_reader item tokens.old) result tokens.new }
 {
-    left(tokens)?;
-    let first = subscript(alloc, tokens)?;
+    let (item, ()) = beside(item, left(tokens))?;
+    let (item, first) = beside(item, subscript(alloc, tokens))?;
     after_number(item, first, alloc, tokens)
 }
 
@@ -102,15 +102,15 @@ fn item_part(
 ) -> Result<Reference, ReadFault>
     ensures { Reads (spec.item_part_reader item first tokens.old) result tokens.new }
 {
-    let part = part_from(first, alloc, tokens)?;
+    let part = boxed_part_from(first, alloc, tokens)?;
     Ok(Reference {
         item,
         subscripts: Items::new(alloc),
-        part: Some(BoxedPart::new(alloc, part)?),
+        part: Some(part),
     })
 }
 
-#[tactic(auto, unfolding(crate::specs::References::subscripted_reader))]
+#[tactic(auto, using(crate::proofs::Numbers::subscripted_by))]
 fn subscripted(
     item: QualifiedName,
     first: Subscript,
@@ -119,14 +119,28 @@ fn subscripted(
 ) -> Result<Reference, ReadFault>
     ensures { Reads (spec.subscripted_reader item first tokens.old) result tokens.new }
 {
-    let mut subscripts = Items::new(alloc);
-    subscripts.push(first)?;
-    subscripts.append(any(&Subscripts, alloc, tokens)?)?;
-    right(tokens)?;
-    let part = part_behind(alloc, tokens)?;
+    let numbers = numbers_from(first, alloc, tokens)?;
+    let (subscripts, part) = numbers;
     Ok(Reference {
         item,
         subscripts,
         part,
     })
+}
+
+/// Subscripts, of which this is the first, and the part behind them.
+#[tactic(auto, unfolding(crate::specs::References::numbers_from_reader))]
+fn numbers_from(
+    first: Subscript,
+    alloc: Global,
+    tokens: &mut Tokens<'_>,
+) -> Result<(Items<Subscript>, Option<BoxedPart>), ReadFault>
+    ensures { Reads (spec.numbers_from_reader first tokens.old) result tokens.new }
+{
+    let mut subscripts = Items::new(alloc);
+    subscripts.push(first)?;
+    subscripts.append(any(&Subscripts, alloc, tokens)?)?;
+    right(tokens)?;
+    let part = part_behind(alloc, tokens)?;
+    Ok((subscripts, part))
 }

@@ -83,11 +83,10 @@ pub fn begins_integer(tokens: &Tokens<'_>) -> bool
 }
 
 /// A numeric literal without a sign and without a point.
-#[tactic(auto, unfolding(crate::specs::Subscripts::integer_reader, grammar::specs::Reading::one_token, grammar::specs::Reading::here))]
+#[tactic(auto, unfolding(crate::specs::Subscripts::integer_reader, grammar::specs::Reading::one_token))]
 pub fn integer(alloc: Global, tokens: &mut Tokens<'_>) -> Result<Integer, ReadFault>
     ensures { Reads (spec.integer_reader tokens.old) result tokens.new }
 {
-    let place = tokens.here()?;
     let [next, rest @ ..] = tokens.rest() else {
         return Err(tokens.refuse());
     };
@@ -101,7 +100,10 @@ pub fn integer(alloc: Global, tokens: &mut Tokens<'_>) -> Result<Integer, ReadFa
         _ => return Err(tokens.refuse()),
     };
     tokens.go_to(rest);
-    Ok(Integer { digits, place })
+    Ok(Integer {
+        digits,
+        place: next.place,
+    })
 }
 
 /// IN or OF, and a name.
