@@ -1,29 +1,33 @@
 //! ACCEPT.
 
 ghost use Rattle.std.specs.Prelude.{◌≡◌, Ok};
+ghost use Rattle.std.specs.Result.{result_map_both};
 ghost use Rattle.std.specs.Option.{option_copied};
 ghost use Rattle.grammar.specs.Reading.{Reads, left_out};
 ghost use Rattle.statements.specs.Accepting as spec;
+ghost use Rattle.source_tree.specs.declared.statement.Verb.TheVariants as verb;
 
 use expressions::reference;
 use grammar::{ReadFault, Tokens, after_word};
-use source_tree::{Statement, TextStatement, Verb};
+use source_tree::TextStatement;
 use std::alloc::Global;
 use tokens::{Reserved, Token};
 
 /// From the verb on.
 #[tactic(auto, unfolding(crate::specs::Accepting::accept_reader))]
-pub fn read_accept(alloc: Global, tokens: &mut Tokens<'_>) -> Result<Verb<Statement>, ReadFault>
-    ensures { Reads (spec.accept_reader tokens.old) result tokens.new }
+pub fn read_accept(alloc: Global, tokens: &mut Tokens<'_>) -> Result<TextStatement, ReadFault>
+    ensures { Reads (spec.accept_reader tokens.old)
+        (result_map_both verb.TextStatement (λ fault. fault) result)
+        tokens.new }
 {
     tokens.expect(Reserved::Accept)?;
     let receiver = reference(alloc, tokens)?;
     let console = is_from_console(tokens);
-    Ok(Verb::TextStatement(if console {
+    Ok(if console {
         TextStatement::Accept { receiver }
     } else {
         TextStatement::AcceptDate { receiver }
-    }))
+    })
 }
 
 /// Whether FROM DATE is left out. Where it comes next it is passed.

@@ -1,28 +1,32 @@
 //! DISPLAY.
 
 ghost use Rattle.std.specs.Prelude.{◌≡◌, Ok};
+ghost use Rattle.std.specs.Result.{result_map_both};
 ghost use Rattle.std.specs.Option.{option_copied};
 ghost use Rattle.grammar.specs.Reading.{Reads, left_out};
 ghost use Rattle.statements.specs.Display as spec;
+ghost use Rattle.source_tree.specs.declared.statement.Verb.TheVariants as verb;
 
 use expressions::Operands;
 use grammar::{ReadFault, Tokens, after_word, past_word, several};
-use source_tree::{Statement, TextStatement, Verb};
+use source_tree::TextStatement;
 use std::alloc::Global;
 use tokens::{Reserved, Token};
 
 /// From the verb on.
 #[tactic(auto, unfolding(crate::specs::Display::display_reader))]
-pub fn display(alloc: Global, tokens: &mut Tokens<'_>) -> Result<Verb<Statement>, ReadFault>
-    ensures { Reads (spec.display_reader tokens.old) result tokens.new }
+pub fn display(alloc: Global, tokens: &mut Tokens<'_>) -> Result<TextStatement, ReadFault>
+    ensures { Reads (spec.display_reader tokens.old)
+        (result_map_both verb.TextStatement (λ fault. fault) result)
+        tokens.new }
 {
     tokens.expect(Reserved::Display)?;
     let operands = several(&Operands, alloc, tokens)?;
     let advancing = is_advancing(tokens);
-    Ok(Verb::TextStatement(TextStatement::Display {
+    Ok(TextStatement::Display {
         operands,
         advancing,
-    }))
+    })
 }
 
 /// Whether `[WITH] NO ADVANCING` is left out. Where it comes next it is passed.

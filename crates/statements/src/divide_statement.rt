@@ -84,7 +84,10 @@ fn given(
     }
     match only(receivers) {
         Some(quotient) => remainder_of(alloc, first, order, second, quotient, tokens),
-        None => Err(tokens.refuse()),
+        None => {
+            drop((first, second));
+            Err(tokens.refuse())
+        }
     }
 }
 

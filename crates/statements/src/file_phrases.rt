@@ -20,11 +20,11 @@ impl<F: Fn(Global, &mut Tokens<'_>, usize) -> Result<Statement, ReadFault>> Nest
             tokens.old) result tokens.new }
     {
         let both = two_sided(Phrase::InvalidKey, self, self.alloc, tokens)?;
-        Ok(if has_phrase(&both) {
-            FilePhrases::InvalidKey(both)
-        } else {
-            FilePhrases::Absent
-        })
+        if has_phrase(&both) {
+            return Ok(FilePhrases::InvalidKey(both));
+        }
+        drop(both);
+        Ok(FilePhrases::Absent)
     }
 
     /// AT END and its opposite, where one of them stands, and else INVALID KEY and its opposite.
@@ -38,6 +38,7 @@ impl<F: Fn(Global, &mut Tokens<'_>, usize) -> Result<Statement, ReadFault>> Nest
         if has_phrase(&both) {
             Ok(FilePhrases::AtEnd(both))
         } else {
+            drop(both);
             self.key_phrases(tokens)
         }
     }

@@ -2,6 +2,8 @@
 //! proved by itself.
 
 ghost use Rattle.std.specs.Prelude.{◌≡◌};
+ghost use Rattle.std.specs.Result.{result_map_both};
+ghost use Rattle.source_tree.specs.declared.statement.Verb.TheVariants as verb;
 ghost use Rattle.grammar.specs.Reading.{Reads};
 ghost use Rattle.statements.specs.Reading as spec;
 ghost use Rattle.statements.specs.Nests.{Nests};
@@ -17,7 +19,7 @@ use crate::set_statement::read_set;
 use crate::stop_statement::stop_run;
 use crate::verb::{VerbWord, begins_statement, verb_at};
 use grammar::{Halt, Part, ReadFault, Tokens, several};
-use source_tree::{Statement, Verb};
+use source_tree::{ControlStatement, DataStatement, Statement, TextStatement, Verb};
 use sqlite_items::Items;
 use std::alloc::Global;
 
@@ -70,20 +72,20 @@ impl<F: Fn(Global, &mut Tokens<'_>, usize) -> Result<Statement, ReadFault>> Nest
             tokens.new }
     {
         match verb_at(tokens) {
-            Some(VerbWord::Accept) => read_accept(self.alloc, tokens),
+            Some(VerbWord::Accept) => as_text(read_accept(self.alloc, tokens)),
             Some(VerbWord::Arithmetic(verb)) => self.arithmetic(verb, tokens),
-            Some(VerbWord::Continue) => read_continue(tokens),
-            Some(VerbWord::Display) => display(self.alloc, tokens),
+            Some(VerbWord::Continue) => as_control(read_continue(tokens)),
+            Some(VerbWord::Display) => as_text(display(self.alloc, tokens)),
             Some(VerbWord::Evaluate) => self.read_evaluate(tokens),
-            Some(VerbWord::Exit) => read_exit(tokens),
+            Some(VerbWord::Exit) => as_control(read_exit(tokens)),
             Some(VerbWord::Filing(verb)) => self.read_file_statement(verb, tokens),
             Some(VerbWord::If) => self.read_if(tokens),
-            Some(VerbWord::Initialize) => read_initialize(self.alloc, tokens),
+            Some(VerbWord::Initialize) => as_data(read_initialize(self.alloc, tokens)),
             Some(VerbWord::Inspect) => read_inspect(self.alloc, tokens),
-            Some(VerbWord::Move) => read_move(self.alloc, tokens),
+            Some(VerbWord::Move) => as_data(read_move(self.alloc, tokens)),
             Some(VerbWord::Perform) => self.read_perform(tokens),
-            Some(VerbWord::Set) => read_set(self.alloc, tokens),
-            Some(VerbWord::Stop) => stop_run(tokens),
+            Some(VerbWord::Set) => as_data(read_set(self.alloc, tokens)),
+            Some(VerbWord::Stop) => as_control(stop_run(tokens)),
             Some(VerbWord::String) => self.read_string(tokens),
             None => Err(tokens.refuse()),
         }
@@ -100,6 +102,27 @@ impl<F: Fn(Global, &mut Tokens<'_>, usize) -> Result<Statement, ReadFault>> Nest
         let verb = self.verb(tokens)?;
         Ok(Statement { place, verb })
     }
+}
+
+/// What a statement on data does, as a verb.
+fn as_data(found: Result<DataStatement, ReadFault>) -> Result<Verb<Statement>, ReadFault>
+    ensures { result ≡ result_map_both verb.DataStatement (λ fault. fault) found }
+{
+    Ok(Verb::DataStatement(found?))
+}
+
+/// What a statement on text does, as a verb.
+fn as_text(found: Result<TextStatement, ReadFault>) -> Result<Verb<Statement>, ReadFault>
+    ensures { result ≡ result_map_both verb.TextStatement (λ fault. fault) found }
+{
+    Ok(Verb::TextStatement(found?))
+}
+
+/// What a statement on the flow of control does, as a verb.
+fn as_control(found: Result<ControlStatement, ReadFault>) -> Result<Verb<Statement>, ReadFault>
+    ensures { result ≡ result_map_both verb.ControlStatement (λ fault. fault) found }
+{
+    Ok(Verb::ControlStatement(found?))
 }
 
 /// A statement with at most this many statements in one another, itself among them.

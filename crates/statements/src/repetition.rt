@@ -14,23 +14,39 @@ use std::alloc::Global;
 use tokens::{Kind, Reserved, Token};
 
 /// The phrase, where one stands: a number or an item with TIMES, or UNTIL. `depth` is how deep a condition may nest.
-#[tactic(auto, unfolding(crate::specs::Turning::turns_reader, crate::specs::Turning::times_reader, crate::specs::Turning::counted_reader))]
+#[tactic(auto, unfolding(crate::specs::Turning::turns_reader))]
 pub fn turns(alloc: Global, depth: usize, tokens: &mut Tokens<'_>) -> Result<Repetition, ReadFault>
     ensures { Reads (rule.turns_reader depth tokens.old) result tokens.new }
 {
     if begins_integer(tokens) {
-        let count = integer(alloc, tokens)?;
-        tokens.expect(Reserved::Times)?;
-        Ok(Repetition::Times(count))
+        times(alloc, tokens)
     } else if begins_name(tokens) {
-        let item = reference(alloc, tokens)?;
-        tokens.expect(Reserved::Times)?;
-        Ok(Repetition::CountedBy(item))
+        counted(alloc, tokens)
     } else if begins_until(tokens) {
         until(alloc, depth, tokens)
     } else {
         Ok(Repetition::Once)
     }
+}
+
+/// A number, and TIMES.
+#[tactic(auto, unfolding(crate::specs::Turning::times_reader))]
+fn times(alloc: Global, tokens: &mut Tokens<'_>) -> Result<Repetition, ReadFault>
+    ensures { Reads (rule.times_reader tokens.old) result tokens.new }
+{
+    let count = integer(alloc, tokens)?;
+    let (count, ()) = beside(count, tokens.expect(Reserved::Times))?;
+    Ok(Repetition::Times(count))
+}
+
+/// An item with the number, and TIMES.
+#[tactic(auto, unfolding(crate::specs::Turning::counted_reader))]
+fn counted(alloc: Global, tokens: &mut Tokens<'_>) -> Result<Repetition, ReadFault>
+    ensures { Reads (rule.counted_reader tokens.old) result tokens.new }
+{
+    let item = reference(alloc, tokens)?;
+    let (item, ()) = beside(item, tokens.expect(Reserved::Times))?;
+    Ok(Repetition::CountedBy(item))
 }
 
 /// When the test comes, where the token says it.

@@ -7,7 +7,7 @@ use grammar::Tokens;
 use tokens::{Kind, Reserved};
 
 /// A verb of an arithmetic statement.
-#[derive(Clone, Copy, PartialEq, Eq)]
+#[derive(Clone, Copy)]
 pub enum ArithmeticVerb {
     Add,
     Subtract,
@@ -17,7 +17,7 @@ pub enum ArithmeticVerb {
 }
 
 /// A verb of a file statement.
-#[derive(Clone, Copy, PartialEq, Eq)]
+#[derive(Clone, Copy)]
 pub enum FileVerb {
     Open,
     Close,
@@ -29,7 +29,7 @@ pub enum FileVerb {
 }
 
 /// A reserved word that is a verb.
-#[derive(Clone, Copy, PartialEq, Eq)]
+#[derive(Clone, Copy)]
 pub enum VerbWord {
     Accept,
     Arithmetic(ArithmeticVerb),
