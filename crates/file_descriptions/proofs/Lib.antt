@@ -3,3 +3,4 @@ pub mod KeyOrder
 pub mod KeptClauses
 pub mod NumberedItems
 pub mod SameFile
+pub mod SourceData

@@ -1,7 +1,8 @@
 -- The records of a file, by its FD.
-use Rattle.std.specs.Prelude.{◌≡◌, ◌≤◌, ℕ, [], length, Option, Some, None}
+use Rattle.std.specs.Prelude.{◌≡◌, ◌≤◌, ℕ, List, [], length, Option, Some, None}
 use Rattle.std.specs.Borrow.{Bor}
 use Rattle.source_tree.specs.declared.name.Name.{Name}
+use Rattle.source_tree.specs.declared.entry.Entry.{Entry}
 use Rattle.source_tree.specs.declared.select.FileDescription.{FileDescription}
 use Rattle.source_tree.specs.declared.program.Program.{Program}
 use Rattle.source_tree.specs.Broken.{each}
@@ -12,6 +13,16 @@ use Rattle.source_tree.specs.ProgramFiles.{DescribedFile, described_file, sent_o
 pub use Rattle.source_tree.specs.Records.{record_length}
 use Rattle.source_tree.specs.Records.{storage_areas}
 use Rattle.file_descriptions.specs.declared.description.FileRecords.{FileRecords}
+
+-- a program with these entries and descriptions alone
+abbrev pub data_with : List Entry → List FileDescription → Program
+data_with storage files = record {
+  name = record { characters = []; place = record { line = 0; column = 0 } };
+  selects = [];
+  files = files;
+  storage = storage;
+  sections = [];
+}
 
 abbrev pub described_in : Program → Name → DescribedFile
 described_in program name = described_file (storage_areas program.storage) name program.files

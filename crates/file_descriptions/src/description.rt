@@ -9,7 +9,7 @@ ghost use Rattle.file_descriptions.specs.Descriptions.{AreRecords, IsDescribed, 
 
 use items::{Item, Kind};
 use layout::{record_length, sent_item, storage_areas};
-use source_tree::{FileDescription, Name, Program};
+use source_tree::{Entry, FileDescription, Name};
 use std::alloc::{AllocError, Global};
 
 /// The records of a file: their area, the bytes of the longest, and what READ INTO moves.
@@ -52,14 +52,16 @@ fn short_length(alloc: Global, file: &FileDescription) -> Result<u16, AllocError
 /// The records of the file of that name. Without an FD there are none.
 pub fn file_records(
     alloc: Global,
-    program: &Program,
+    storage: &[Entry],
+    files: &[FileDescription],
     name: &Name,
 ) -> Result<FileRecords, AllocError>
-    requires { KeepsDescriptions program.now }
-    ensures { IfOk result (AreRecords (spec.described_in program.now name.now)) }
+    requires { KeepsDescriptions (spec.data_with storage.now files.now) }
+    ensures { IfOk result
+        (AreRecords (spec.described_in (spec.data_with storage.now files.now) name.now)) }
 {
-    let first = storage_areas(program.storage.as_slice());
-    match described(program.files.as_slice(), first, name) {
+    let first = storage_areas(storage);
+    match described(files, first, name) {
         (area, Some(file)) => Ok(FileRecords {
             area,
             record_length: short_length(alloc, file)?,

@@ -5,7 +5,7 @@ ghost use Rattle.source_tree.specs.ProgramFiles as meaning;
 ghost use Rattle.file_descriptions.specs.Clauses.{KeepsClauses};
 ghost use Rattle.file_descriptions.specs.Descriptions.{KeepsDescriptions, described_in};
 ghost use Rattle.file_descriptions.specs.Files as spec;
-ghost use Rattle.file_descriptions.specs.Sources.{IsSource, items_in};
+ghost use Rattle.file_descriptions.specs.Sources.{IsSource, data_in, items_in};
 
 use crate::description::file_records;
 use crate::source::Source;
@@ -44,15 +44,15 @@ pub fn program_file<'a>(
     select: &'a Select,
 ) -> Result<ProgramFile<'a>, AllocError>
     requires source { IsSource source }
-    requires descriptions { KeepsDescriptions source.program.now }
+    requires descriptions { KeepsDescriptions (data_in source) }
     requires clauses { KeepsClauses (items_in source) select.now }
     ensures file { IfOk result
         (λ one. spec.file_in (items_in source.entry) one ≡ meaning.file_by (items_in source.entry)
-        number select.entry.now (described_in source.entry.program.now select.entry.now.name)) }
+        number select.entry.now (described_in (data_in source.entry) select.entry.now.name)) }
     ensures numbers { IfOk result (λ one. spec.numbers_in one
         ≡ spec.clause_numbers (items_in source.entry) select.entry.now) }
 {
-    let found = file_records(alloc, source.program, &select.name)?;
+    let found = file_records(alloc, source.storage, source.files, &select.name)?;
     let alternates = source.alternates(alloc, select.alternate_keys.as_slice())?;
     Ok(ProgramFile {
         select,

@@ -16,7 +16,7 @@ ghost use Rattle.file_descriptions.specs.Clauses.{KeepsClauses};
 ghost use Rattle.file_descriptions.specs.Descriptions.{KeepsDescriptions};
 ghost use Rattle.file_descriptions.specs.Files as spec;
 ghost use Rattle.file_descriptions.specs.Files.{AreFiles};
-ghost use Rattle.file_descriptions.specs.Sources.{IsSource, items_in};
+ghost use Rattle.file_descriptions.specs.Sources.{IsSource, data_in, items_in};
 
 use crate::file::{ProgramFile, program_file};
 use crate::source::Source;
@@ -41,11 +41,11 @@ fn put_files<'a>(
     out: &mut Vec<ProgramFile<'a>>,
 ) -> Result<(), AllocError>
     requires source { IsSource source }
-    requires descriptions { KeepsDescriptions source.program.now }
+    requires descriptions { KeepsDescriptions (data_in source) }
     requires clauses { AllByRecursion (KeepsClauses (items_in source)) selects.now }
     ensures files { OnOk result (map (spec.file_in (items_in source.entry)) out.new.items
         ≡ map (spec.file_in (items_in source.entry)) out.old.items
-        ++ spec.files_after source.entry.program.now 0 selects.entry.now) }
+        ++ spec.files_after (data_in source.entry) 0 selects.entry.now) }
     ensures numbers { OnOk result (map spec.numbers_in out.new.items ≡ map spec.numbers_in
         out.old.items ++ map (spec.clause_numbers (items_in source.entry)) selects.entry.now) }
 {
@@ -71,7 +71,8 @@ impl<'a> ProgramFiles<'a> {
         ensures { IfOk result (AreFiles (program_items program.entry.now) program.entry.now) }
     {
         let source = Source {
-            program,
+            storage: program.storage.as_slice(),
+            files: program.files.as_slice(),
             names,
             layout,
         };

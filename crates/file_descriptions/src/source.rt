@@ -9,12 +9,14 @@ ghost use Rattle.file_descriptions.specs.Sources.{IsSource, items_in};
 use layout::Layout;
 use name_table::{LookUp, NameTable, items_named};
 use records::KeyPlace;
-use source_tree::{Program, QualifiedName, Reference};
+use source_tree::{Entry, FileDescription, QualifiedName, Reference};
 
-/// A program with the names of its items, and where those stand.
+/// The entries and FDs of a program, with the names of its items, and where those stand. It has no statements, so what looks at it is
+/// handed none.
 #[derive(Clone, Copy)]
 pub struct Source<'a, 'b> {
-    pub program: &'a Program,
+    pub storage: &'a [Entry],
+    pub files: &'a [FileDescription],
     pub names: &'b NameTable<'a>,
     pub layout: &'b Layout,
 }
