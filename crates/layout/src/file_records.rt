@@ -2,18 +2,19 @@
 
 ghost use Rattle.std.specs.Prelude.{◌≡◌, ◌+◌, ◌<◌, ◌≤◌, ◌^◌, ◌++◌, [], length, IfOk, OnOk};
 ghost use Rattle.source_tree.specs.Levels.{forest_of};
-ghost use Rattle.source_tree.specs.Clauses.{nothing_around};
+ghost use Rattle.source_tree.specs.Clauses.{inside, nothing_around};
 ghost use Rattle.source_tree.specs.EntryRules.{most_entries};
 ghost use Rattle.source_tree.specs.FileRules.{description_rules};
 ghost use Rattle.source_tree.specs.ProgramFiles.{sent_of};
 ghost use Rattle.source_tree.specs.Records as tree;
-ghost use Rattle.layout.specs.Fits.{FitFiles, Fits};
+ghost use Rattle.source_tree.specs.Rooms.{item_with};
+ghost use Rattle.layout.specs.Fits.{FitFiles, Fits, FitsEntry};
 ghost use Rattle.layout.specs.Placing as spec;
 
 use crate::placed::PlacedItem;
 use crate::places::{NOTHING_AROUND, Surroundings, place_item};
 use crate::rooms::{describe, extent};
-use data_entries::next_item;
+use data_entries::{Sibling, next_item};
 use items::{Item, Kind};
 use source_tree::{Entry, FileDescription};
 use std::alloc::{AllocError, Global};
@@ -80,6 +81,17 @@ fn place_records(
     Ok(())
 }
 
+/// The item of a record.
+fn record_item(alloc: Global, one: Sibling<'_>) -> Result<Item, AllocError>
+    requires fits { FitsEntry nothing_around one.entry.now (forest_of one.inner.now) }
+    requires within { Fits (inside nothing_around one.entry.now) (forest_of one.inner.now) }
+    ensures { IfOk result (λ item. item
+        ≡ item_with nothing_around one.entry.entry.now (forest_of one.entry.inner.now)) }
+{
+    let described = describe(alloc, NOTHING_AROUND, one.entry, one.inner)?;
+    Ok(described.item)
+}
+
 /// The bytes of the longest of some records.
 fn longest(alloc: Global, entries: &[Entry]) -> Result<u32, AllocError>
     requires { Fits nothing_around (forest_of entries.now) }
@@ -88,8 +100,8 @@ fn longest(alloc: Global, entries: &[Entry]) -> Result<u32, AllocError>
     let mut most = 0;
     let mut rest = entries;
     'records: while let Some(one) = next_item(rest) {
-        let described = describe(alloc, NOTHING_AROUND, one.entry, one.inner)?;
-        most = extent(one.entry, described.item.length).max(most);
+        let item = record_item(alloc, one)?;
+        most = extent(one.entry, item.length).max(most);
         rest = one.next;
     }
     Ok(most)
@@ -103,8 +115,7 @@ fn sent_of(alloc: Global, entries: &[Entry]) -> Result<Item, AllocError>
 {
     if let Some(one) = next_item(entries) {
         if next_item(one.next).is_none() {
-            let described = describe(alloc, NOTHING_AROUND, one.entry, one.inner)?;
-            return Ok(described.item);
+            return record_item(alloc, one);
         }
     }
     let kind = Kind::Group;

@@ -1,10 +1,10 @@
 //! Where the items of a group stand.
 
-ghost use Rattle.std.specs.Prelude.{◌≡◌, ◌+◌, ◌*◌, ◌≤◌, ◌++◌, length, IfOk, OnOk, if◌then◌else◌};
+ghost use Rattle.std.specs.Prelude.{◌≡◌, ◌+◌, ◌*◌, ◌≤◌, [], ◌∷◌, ◌++◌, length, IfOk, OnOk, if◌then◌else◌};
 ghost use Rattle.source_tree.specs.Levels.{forest_of};
 ghost use Rattle.source_tree.specs.Clauses as clauses;
 ghost use Rattle.source_tree.specs.ClauseRules.{most_item_bytes, most_occurrences};
-ghost use Rattle.source_tree.specs.Rooms.{redefines, room};
+ghost use Rattle.source_tree.specs.Rooms.{item_with, redefines, room};
 ghost use Rattle.source_tree.specs.Places as tree;
 ghost use Rattle.layout.specs.Fits.{Fits, FitsEntry, most_offset};
 ghost use Rattle.layout.specs.Placing as spec;
@@ -61,6 +61,36 @@ fn beginning(entry: &ItemEntry, last: u32, next: u32) -> u32
     }
 }
 
+/// Places an item without those in it. Answers its bytes.
+fn place_own(
+    alloc: Global,
+    around: Surroundings<'_>,
+    one: Sibling<'_>,
+    offset: u32,
+    out: &mut Vec<PlacedItem>,
+) -> Result<u32, AllocError>
+    requires fits { FitsEntry around.around one.entry.now (forest_of one.inner.now) }
+    requires within { Fits (clauses.inside around.around one.entry.now) (forest_of one.inner.now) }
+    ensures items { OnOk result (out.new.items ≡ out.old.items
+        ++ spec.own_item around.entry.around around.entry.area around.entry.dimensions.now
+        one.entry.entry.now (item_with around.entry.around one.entry.entry.now
+        (forest_of one.entry.inner.now)) offset ∷ []) }
+    ensures length { IfOk result (λ length. length ≡ (item_with around.entry.around
+        one.entry.entry.now (forest_of one.entry.inner.now)).length) }
+{
+    let described = describe(alloc, around.around, one.entry, one.inner)?;
+    let length = described.item.length;
+    let dimensions = dimensions_of(alloc, around.dimensions, one.entry, length)?;
+    out.push(PlacedItem {
+        item: described.item,
+        editing: described.editing,
+        area: around.area,
+        offset,
+        dimensions,
+    })?;
+    Ok(length)
+}
+
 /// Places an item and those in it. Answers the bytes that it takes.
 #[cycle(places)]
 pub fn place_item(
@@ -79,23 +109,16 @@ pub fn place_item(
     ensures bytes { IfOk result (λ bytes. bytes ≡ spec.occupied_bytes around.entry.around
         one.entry.entry.now (forest_of one.entry.inner.now)) }
 {
-    let described = describe(alloc, around.around, one.entry, one.inner)?;
-    let length = described.item.length;
+    let length = place_own(alloc, around, one, offset, out)?;
     let dimensions = dimensions_of(alloc, around.dimensions, one.entry, length)?;
-    let held = Items::from_slice(alloc, dimensions.as_slice())?;
-    out.push(PlacedItem {
-        item: described.item,
-        editing: described.editing,
-        area: around.area,
-        offset,
-        dimensions: held,
-    })?;
     let within = Surroundings {
         around: inside(around.around, one.entry),
         area: around.area,
         dimensions: dimensions.as_slice(),
     };
-    place_group(alloc, within, one.inner, offset, out)?;
+    let placed = place_group(alloc, within, one.inner, offset, out);
+    drop(dimensions);
+    placed?;
     Ok(taken(one.entry, length))
 }
 
