@@ -4,8 +4,9 @@ use Rattle.std.proofs.Common.{◌∙◌, subst, add-one, drop-cons}
 use Rattle.std.specs.Prelude.{Option, Result, Ok, Err}
 use Rattle.source_tree.specs.Broken.{RuleBreach, each}
 use Rattle.source_tree.specs.LookUp.{first}
-use Rattle.entry_rules.specs.Checks.{IsFirst, IsFirstBreach}
+use Rattle.entry_rules.specs.Checks.{IsFirst, IsFirstBreach, IsFirstFault}
 use Rattle.entry_rules.specs.declared.rule.BrokenRule.{BrokenRule}
+use Rattle.entry_rules.specs.declared.rule.CheckError.{CheckError}
 
 pub first_front : (xs ys : List RuleBreach) (one : RuleBreach) → first xs ≡ Some one → first (xs ++ ys) ≡ Some one
 first_front [] ys one e = cc
@@ -61,6 +62,11 @@ each_first rules xs i one all fault h e is found =
 pub is_first_behind : (fault : Option RuleBreach) (xs ys : List RuleBreach) → xs ≡ [] → IsFirst fault ys
     → IsFirst fault (xs ++ ys)
 is_first_behind fault xs ys e h = subst (IsFirst fault) (sym (front_none xs ys e)) h
+
+-- The same of a check.
+pub fault_behind : {A : Type 0} (result : Result A CheckError) (xs ys : List RuleBreach) → xs ≡ []
+    → IsFirstFault result ys → IsFirstFault result (xs ++ ys)
+fault_behind result xs ys e h = subst (IsFirstFault result) (sym (front_none xs ys e)) h
 
 pub both_none : {A : Type 0} (xs ys : List A) → xs ≡ [] → ys ≡ [] → xs ++ ys ≡ []
 both_none xs ys e f = ap (λ l. l ++ ys) e ∙ f

@@ -15,4 +15,5 @@ pub mod ItemEntries
 pub mod EntryNumbers
 pub mod FilesFound
 pub mod SelectFaults
+pub mod ItemRules
 pub mod Shown

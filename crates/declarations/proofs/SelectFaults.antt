@@ -1,5 +1,6 @@
 -- The first fault of SELECTs and of the names of files is that of the rules in their order.
-use Rattle.std.proofs.Common.{◌≡◌, ℕ, ◌<◌, List, [], ◌++◌, Some, length, drop, get_or, sym, ap, subst, ◌∙◌, drop-cons}
+use Rattle.std.proofs.Common.{◌≡◌, ℕ, ◌<◌, ◌+◌, List, [], ◌∷◌, ◌++◌, Some, length, drop, get_or, sym, ap, subst, ◌∙◌}
+use Rattle.std.proofs.Common.{drop-cons, add-one}
 use Rattle.std.specs.Prelude.{Bool, not, Option}
 use Rattle.records.specs.Spec.{is_name}
 use Rattle.source_tree.specs.declared.name.Name.{Name}
@@ -13,7 +14,7 @@ use Rattle.source_tree.specs.FileRules.{organization_rules, select_rules}
 use Rattle.source_tree.specs.LookUp.{first}
 use Rattle.source_tree.specs.PerformRules.{given_once}
 use Rattle.source_tree.specs.Places.{LocatedItem}
-use Rattle.source_tree.specs.ProgramFiles.{DescribedFile, described_file}
+use Rattle.source_tree.specs.ProgramFiles.{DescribedFile, described_file, key_place}
 use Rattle.entry_rules.specs.Checks.{IsFirst}
 use Rattle.declarations.specs.Selecting.{select_rules_in}
 use Rattle.declarations.proofs.Firsts.{first_front, first_back, both_none, is_first_front, is_first_behind}
@@ -97,3 +98,20 @@ alternate_first items there before listed xs i one all broken h e is same found 
     ap (λ (x : AlternateKeyClause). first (clause_item items (key_item there before) x.key)) (sym is)
     ∙ ap (λ (l : List ℕ). first (clause_item items (key_item there l) one.key)) (sym same) ∙ found in
     ap first (e ∙ split) ∙ first_front (clause_item items (key_item there before) (get_or xs i one).key) _ broken here
+
+-- a key that keeps its rules stands before those after it
+pub alternate_next : (items : List LocatedItem) (there : DescribedFile) (before listed new : List ℕ) (offset : ℕ)
+    (xs : List AlternateKeyClause) (i : ℕ) (one : AlternateKeyClause) (all : List RuleBreach)
+    → i < length xs → all ≡ alternate_rules items there before (drop i xs) → one ≡ get_or xs i one → listed ≡ before
+    → clause_item items (key_item there listed) one.key ≡ [] → offset ≡ (key_place items one.key).offset
+    → new ≡ offset ∷ before → all ≡ alternate_rules items there new (drop (i + 1) xs)
+alternate_next items there before listed new offset xs i one all h e is same none placed put =
+    let more = drop (i + 1) xs in
+    let rest : drop i xs ≡ one ∷ more =
+    drop-cons xs i one h ∙ ap (λ k. get_or xs i one ∷ drop k xs) (sym (add-one i)) ∙ ap (λ x. x ∷ more) (sym is) in
+    let kept : clause_item items (key_item there before) one.key ≡ [] =
+    ap (λ (l : List ℕ). clause_item items (key_item there l) one.key) (sym same) ∙ none in
+    e ∙ ap (alternate_rules items there before) rest
+    ∙ ap (λ l. l ++ alternate_rules items there ((key_place items one.key).offset ∷ before) more) kept
+    ∙ ap (λ (n : ℕ). alternate_rules items there (n ∷ before) more) (sym placed)
+    ∙ ap (λ (l : List ℕ). alternate_rules items there l more) (sym put)

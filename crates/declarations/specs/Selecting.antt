@@ -6,8 +6,9 @@ use Rattle.source_tree.specs.declared.reference.Reference.{Reference}
 use Rattle.source_tree.specs.declared.select.AlternateKeyClause.{AlternateKeyClause}
 use Rattle.source_tree.specs.declared.select.Select.{Select}
 use Rattle.source_tree.specs.Broken.{RuleBreach, where_so, each}
-use Rattle.source_tree.specs.FileRules.{most_alternate_keys, is_key_kind, is_one_of, another_clause, another_key, excess_key, in_clause, clause_item, key_item, alternate_rules, status_item, relative_rules, indexed_rules, organization_rules}
+use Rattle.source_tree.specs.FileRules.{most_key_bytes, most_alternate_keys, is_key_kind, is_one_of, another_clause, another_key, excess_key, in_clause, clause_item, key_item, alternate_rules, status_item, relative_rules, indexed_rules, organization_rules}
 use Rattle.source_tree.specs.Places.{LocatedItem}
+use Rattle.source_tree.specs.ValueRules.{are_some}
 use Rattle.source_tree.specs.ProgramFiles.{DescribedFile, key_place}
 use Rattle.source_tree.specs.Records.{record_length}
 use Rattle.layout.specs.declared.placed.PlacedItem.{PlacedItem}
@@ -25,6 +26,12 @@ is_in_area there one = (one.area == there.area) && nat_le (one.offset + one.item
 abbrev pub is_key_item : DescribedFile → List ℕ → Reference → PlacedItem → Bool
 is_key_item there before reference one =
     is_plain reference one && is_in_area there one && is_key_kind one.item.kind && not (is_one_of one.offset before)
+
+-- those of the item of a key
+abbrev pub key_item_rules : DescribedFile → List ℕ → Reference → PlacedItem → List RuleBreach
+key_item_rules there before reference one =
+    where_so (not (is_key_item there before reference one)) 58 reference.item.name.place
+    ++ where_so (not (are_some most_key_bytes one.item.length)) 69 reference.item.name.place
 
 -- parts of the rules of each organization
 

@@ -43,9 +43,10 @@ impl<'a> Declarations<'a> {
     ghost use Rattle.source_tree.specs.LookUp.{items_named};
     ghost use Rattle.source_tree.specs.Parts.{items_referred};
     ghost use Rattle.source_tree.specs.PerformRules.{procedure_name_rules};
+    ghost use Rattle.source_tree.specs.Records.{program_items};
     ghost use Rattle.name_table.specs.Table.{calls_in};
     ghost use Rattle.declarations.specs.Declaring.{declaration_rules};
-    ghost use Rattle.declarations.specs.Found.{AreDeclared, items_of};
+    ghost use Rattle.declarations.specs.Found.{HasItems};
     ghost use Rattle.declarations.specs.FoundFiles.{IsNumberedItem};
     ghost use Rattle.declarations.specs.Named as spec;
     ghost use Rattle.declarations.specs.Named.{Declares, IsItemNamed, items_in};
@@ -59,36 +60,39 @@ impl<'a> Declarations<'a> {
         ensures rules { IsFirstFault result (declaration_rules program.now) }
     {
         let items = DeclaredItems::checked(alloc, program)?;
-        Declarations::with_items(alloc, items)
+        Declarations::with_items(alloc, program, items)
     }
 
     /// With these items: the condition names, the files, and the names of procedures, rule 42 where one is given to two.
-    fn with_items(alloc: Global, items: DeclaredItems<'a>) -> Result<Declarations<'a>, CheckError>
-        requires declared { AreDeclared items }
-        requires storage { entry_rules items.program.now.storage ≡ [] }
-        requires files { program_file_rules (items_of items) items.program.now ≡ [] }
-        ensures program { IfOk result (Declares items.entry.program.now) }
-        ensures names { IsFirstFault result
-            (procedure_name_rules items.entry.program.now.sections) }
+    fn with_items(
+        alloc: Global,
+        program: &'a Program,
+        items: DeclaredItems<'a>,
+    ) -> Result<Declarations<'a>, CheckError>
+        requires items { HasItems program.now items }
+        requires storage { entry_rules program.now.storage ≡ [] }
+        requires files { program_file_rules (program_items program.now) program.now ≡ [] }
+        ensures program { IfOk result (Declares program.now) }
+        ensures names { IsFirstFault result (procedure_name_rules program.now.sections) }
     {
-        match ProgramTables::of(alloc, &items) {
-            Ok(tables) => Ok(Declarations::with_tables(items, tables)),
+        match ProgramTables::of(alloc, program, &items) {
+            Ok(tables) => Ok(Declarations::with_tables(program, items, tables)),
             Err(error) => Err(error),
         }
     }
 
     /// With these items and tables.
-    fn with_tables(items: DeclaredItems<'a>, tables: ProgramTables<'a>) -> Declarations<'a>
-        requires declared { AreDeclared items }
-        requires files { program_file_rules (items_of items) items.program.now ≡ [] }
-        requires tables { AreTables items.program.now tables }
-        ensures { Declares items.entry.program.now result }
+    fn with_tables(
+        program: &'a Program,
+        items: DeclaredItems<'a>,
+        tables: ProgramTables<'a>,
+    ) -> Declarations<'a>
+        requires items { HasItems program.now items }
+        requires files { program_file_rules (program_items program.now) program.now ≡ [] }
+        requires tables { AreTables program.now tables }
+        ensures { Declares program.now result }
     {
-        let DeclaredItems {
-            program,
-            names,
-            layout,
-        } = items;
+        let DeclaredItems { names, layout, .. } = items;
         let ProgramTables {
             conditions,
             files,

@@ -1,33 +1,34 @@
 //! The items of a program, by their names and where they stand.
 
-ghost use Rattle.std.specs.Prelude.{◌≡◌, ◌<◌, List, [], Some, IfOk, OnOk, length, map, slice_get, sum};
+ghost use Rattle.std.specs.Prelude.{◌≡◌, ◌<◌, List, [], Some, IfOk, OnOk, length, map, slice_get};
 ghost use Rattle.source_tree.specs.EntryRules.{entry_rules};
 ghost use Rattle.source_tree.specs.FileRules.{descriptions_rules, program_file_rules};
-ghost use Rattle.source_tree.specs.Levels.{forest_of};
 ghost use Rattle.source_tree.specs.LookUp.{items_named};
 ghost use Rattle.source_tree.specs.Places.{LocatedItem};
 ghost use Rattle.source_tree.specs.Records.{program_items};
-ghost use Rattle.source_tree.specs.Rooms.{area_lengths};
 ghost use Rattle.entry_rules.specs.Checks.{IsFirstFault};
 ghost use Rattle.entry_rules.specs.RecordAreas.{length_of};
 ghost use Rattle.name_table.specs.Items.{called_item};
 ghost use Rattle.name_table.specs.Table.{IsTable, calls_in};
 ghost use Rattle.declarations.specs.Declaring as declaring;
 ghost use Rattle.declarations.specs.Found as spec;
-ghost use Rattle.declarations.specs.Found.{AreDeclared, IsItemNamed, IsNumbered};
+ghost use Rattle.declarations.specs.Found.{AreDeclared, HasItems, IsItemNamed, IsNumbered};
 
 use crate::file_names::file_name_rules;
 use answers::beside;
 use entry_rules::{BrokenRule, CheckError, Rule, check_descriptions, check_entries};
 use layout::{Layout, PlacedItem};
 use name_table::{LookUp, NameTable, item_names};
-use source_tree::{Program, QualifiedName};
+use source_tree::{Entry, FileDescription, Program, QualifiedName, Select};
 use std::alloc::{AllocError, Global};
 
-/// The items of working storage and of records: their names, and where they stand.
+/// The items of working storage and of records: their names, and where they stand, with the data of their program. They have no
+/// statements, so what looks at them is handed none.
 #[derive(Drop)]
 pub(crate) struct DeclaredItems<'a> {
-    pub(crate) program: &'a Program,
+    pub(crate) selects: &'a [Select],
+    pub(crate) descriptions: &'a [FileDescription],
+    pub(crate) storage: &'a [Entry],
     pub(crate) names: NameTable<'a>,
     pub(crate) layout: Layout,
 }
@@ -38,8 +39,7 @@ impl<'a> DeclaredItems<'a> {
         alloc: Global,
         program: &'a Program,
     ) -> Result<DeclaredItems<'a>, CheckError>
-        ensures declared { IfOk result AreDeclared }
-        ensures program { IfOk result (λ all. all.program.now ≡ program.now) }
+        ensures items { IfOk result (HasItems program.now) }
         ensures rules { IsFirstFault result (declaring.item_rules program.now) }
         ensures storage { OnOk result (entry_rules program.now.storage ≡ []) }
         ensures files { OnOk result
@@ -48,6 +48,7 @@ impl<'a> DeclaredItems<'a> {
         let lengths = data_rules(alloc, program)?;
         let items = DeclaredItems::of(alloc, program)?;
         let ruled = items.selects_rules(alloc, &lengths);
+        drop(lengths);
         let (items, ()) = beside(items, ruled)?;
         Ok(items)
     }
@@ -56,13 +57,14 @@ impl<'a> DeclaredItems<'a> {
     fn of(alloc: Global, program: &'a Program) -> Result<DeclaredItems<'a>, AllocError>
         requires storage { entry_rules program.now.storage ≡ [] }
         requires files { descriptions_rules program.now.storage program.now.files ≡ [] }
-        ensures declared { IfOk result AreDeclared }
-        ensures program { IfOk result (λ all. all.program.now ≡ program.now) }
+        ensures { IfOk result (HasItems program.now) }
     {
         let names = item_names(alloc, program)?;
         let layout = Layout::of(alloc, program)?;
         Ok(DeclaredItems {
-            program,
+            selects: program.selects.as_slice(),
+            descriptions: program.files.as_slice(),
+            storage: program.storage.as_slice(),
             names,
             layout,
         })
@@ -108,20 +110,6 @@ pub(crate) fn placed_at(layout: &Layout, number: usize) -> &PlacedItem
     &layout.items.as_slice()[number]
 }
 
-/// The rules of the names of files and of the entries of their records, after so many bytes of working storage. Answers the bytes of each
-/// record area.
-fn file_rules(alloc: Global, program: &Program, bytes: u64) -> Result<Vec<u32>, CheckError>
-    requires storage { entry_rules program.now.storage ≡ [] }
-    requires bytes { bytes ≡ sum (area_lengths (forest_of program.now.storage)) }
-    ensures rules { IsFirstFault result (declaring.file_rules program.now) }
-    ensures files { OnOk result (descriptions_rules program.now.storage program.now.files ≡ []) }
-    ensures lengths { IfOk result (λ lengths. lengths.items ≡ map length_of program.now.files) }
-{
-    file_name_rules(alloc, program)?;
-    let storage = program.storage.as_slice();
-    check_descriptions(alloc, storage, bytes, program.files.as_slice())
-}
-
 /// The rules of all entries, and of the names of files between those of working storage and those of records. Answers the bytes of each
 /// record area.
 fn data_rules(alloc: Global, program: &Program) -> Result<Vec<u32>, CheckError>
@@ -131,5 +119,7 @@ fn data_rules(alloc: Global, program: &Program) -> Result<Vec<u32>, CheckError>
     ensures lengths { IfOk result (λ lengths. lengths.items ≡ map length_of program.now.files) }
 {
     let bytes = check_entries(alloc, program.storage.as_slice())?;
-    file_rules(alloc, program, bytes)
+    let files = program.files.as_slice();
+    file_name_rules(alloc, program.selects.as_slice(), files)?;
+    check_descriptions(alloc, program.storage.as_slice(), bytes, files)
 }

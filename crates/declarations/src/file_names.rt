@@ -8,21 +8,38 @@ ghost use Rattle.source_tree.specs.FileRules as spec;
 ghost use Rattle.source_tree.specs.PerformRules as given;
 
 use entry_rules::{BrokenRule, CheckError, Rule};
-use source_tree::{FileDescription, Name, Program, Select};
+use source_tree::{FileDescription, Name, Select};
 use std::alloc::{AllocError, Global};
 
 /// The most files of a program (own choice).
 const MOST_FILES: usize = 15;
 
 /// The names of a program's files.
-pub(crate) fn file_name_rules(alloc: Global, program: &Program) -> Result<(), CheckError>
-    ensures { IsFirstFault result (spec.file_name_rules (spec.select_names program.now.selects)
-        (spec.description_names program.now.files)) }
+pub(crate) fn file_name_rules(
+    alloc: Global,
+    selects: &[Select],
+    descriptions: &[FileDescription],
+) -> Result<(), CheckError>
+    ensures { IsFirstFault result (spec.file_name_rules (spec.select_names selects.now)
+        (spec.description_names descriptions.now)) }
 {
-    let selected = select_names(alloc, program.selects.as_slice())?;
-    let described = description_names(alloc, program.files.as_slice())?;
-    name_rules(&selected, &described)?;
-    Ok(())
+    let selected = select_names(alloc, selects)?;
+    described_rules(alloc, &selected, descriptions)
+}
+
+/// The names of SELECTs and those of FDs.
+fn described_rules(
+    alloc: Global,
+    selected: &[&Name],
+    descriptions: &[FileDescription],
+) -> Result<(), CheckError>
+    ensures { IsFirstFault result (spec.file_name_rules (names_of selected.now)
+        (spec.description_names descriptions.now)) }
+{
+    let described = description_names(alloc, descriptions)?;
+    let ruled = name_rules(selected, &described);
+    drop(described);
+    Ok(ruled?)
 }
 
 fn select_names(alloc: Global, selects: &[Select]) -> Result<Vec<&Name>, AllocError>

@@ -84,6 +84,22 @@ fn is_key(there: RecordArea<'_>, before: &[u32], reference: &Reference, one: &Pl
         && !is_one_of(one.offset, before)
 }
 
+/// The item of a key of that file, after keys of which these are the first bytes.
+fn key_item_rules(
+    there: RecordArea<'_>,
+    before: &[u32],
+    key: &Reference,
+    one: &PlacedItem,
+) -> Result<(), BrokenRule>
+    ensures { IsFirstBreach result (selecting.key_item_rules (selecting.described_of there.entry)
+        before.now key.now one.now) }
+{
+    let place = key.item.name.place;
+    Rule::FileKey.broken_if(!is_key(there, before, key, one), place)?;
+    let is_short = 1 <= one.item.length && one.item.length <= MOST_KEY_BYTES;
+    Rule::Limit.broken_if(!is_short, place)
+}
+
 impl<'a> DeclaredItems<'a> {
     /// The item of a key, after keys of which these are the first bytes. Answers its own first byte.
     pub(crate) fn key_rules(
@@ -98,12 +114,9 @@ impl<'a> DeclaredItems<'a> {
         ensures offset { IfOk result
             (λ offset. offset ≡ (key_place (items_of self.now) key.now).offset) }
     {
-        let place = key.item.name.place;
         let found = self.item_named(&key.item)?;
         no_part_rules(key)?;
-        Rule::FileKey.broken_if(!is_key(there, before, key, found), place)?;
-        let is_short = 1 <= found.item.length && found.item.length <= MOST_KEY_BYTES;
-        Rule::Limit.broken_if(!is_short, place)?;
+        key_item_rules(there, before, key, found)?;
         Ok(found.offset)
     }
 

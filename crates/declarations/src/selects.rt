@@ -1,7 +1,7 @@
 //! The rules of SELECTs: 66 the file's name on the volume, 58 and 60 the keys of each organization, 69 the number of alternate keys, 59 FILE
 //! STATUS (COBOL-85, Sequential, Relative and Indexed I-O, "File control entry").
 
-ghost use Rattle.std.specs.Prelude.{◌≡◌, ◌<◌, ◌+◌, ◌^◌, [], ◌∷◌, ◌++◌, drop, length, map};
+ghost use Rattle.std.specs.Prelude.{◌≡◌, ◌<◌, ◌+◌, ◌^◌, [], drop, length, map};
 ghost use Rattle.std.specs.List.{list_all};
 ghost use Rattle.entry_rules.specs.Checks.{IsFirstBreach, IsFirstFault};
 ghost use Rattle.entry_rules.specs.RecordAreas.{length_of};
@@ -54,22 +54,19 @@ impl<'a> DeclaredItems<'a> {
         other_keys_rules(one.alternate_keys.as_slice())
     }
 
-    /// Alternate keys after a prime key with that first byte. No two keys have the same.
+    /// Alternate keys after keys of which these are the first bytes. No two keys have the same.
     fn alternates_rules(
         &self,
-        alloc: Global,
         there: RecordArea<'_>,
-        first: u32,
+        before: &mut Vec<u32>,
         all: &[AlternateKeyClause],
     ) -> Result<(), CheckError>
         requires { AreDeclared self.now }
         ensures { IsFirstFault result (spec.alternate_rules (items_of self.now)
-            (selecting.described_of there.entry) (first ∷ []) all.now) }
+            (selecting.described_of there.entry) before.old.items all.now) }
     {
-        let mut before = Vec::new(alloc);
-        before.push(first)?;
         for one in all {
-            let offset = self.key_rules(there, &before, &one.key)?;
+            let offset = self.key_rules(there, before, &one.key)?;
             before.insert(0, offset)?;
         }
         Ok(())
@@ -88,7 +85,8 @@ impl<'a> DeclaredItems<'a> {
             (selecting.described_of there.entry) prime.now alternates.now) }
     {
         let first = self.key_rules(there, &[], prime)?;
-        self.alternates_rules(alloc, there, first, alternates)
+        let mut before = Vec::from_slice(alloc, &[first])?;
+        self.alternates_rules(there, &mut before, alternates)
     }
 
     /// An indexed file has RECORD KEY.
@@ -173,19 +171,18 @@ impl<'a> DeclaredItems<'a> {
     /// The SELECTs of a program whose entries keep their rules, and whose record areas have so many bytes.
     pub(crate) fn selects_rules(&self, alloc: Global, lengths: &[u32]) -> Result<(), CheckError>
         requires declared { AreDeclared self.now }
-        requires storage { entry_rules self.now.program.now.storage ≡ [] }
-        requires files { spec.descriptions_rules self.now.program.now.storage
-            self.now.program.now.files ≡ [] }
-        requires lengths { lengths.now ≡ map length_of self.now.program.now.files }
+        requires storage { entry_rules self.now.storage.now ≡ [] }
+        requires files { spec.descriptions_rules self.now.storage.now self.now.descriptions.now
+            ≡ [] }
+        requires lengths { lengths.now ≡ map length_of self.now.descriptions.now }
         ensures { IsFirstFault result (each (spec.select_rules (items_of self.now)
-            (storage_areas self.now.program.now.storage) self.now.program.now.files)
-            self.now.program.now.selects) }
+            (storage_areas self.now.storage.now) self.now.descriptions.now)
+            self.now.selects.now) }
     {
-        let areas = storage_areas(self.program.storage.as_slice());
-        let descriptions = self.program.files.as_slice();
-        let selects = self.program.selects.as_slice();
+        let areas = storage_areas(self.storage);
+        let selects = self.selects;
         for one in selects {
-            let there = described(areas, lengths, descriptions, &one.name);
+            let there = described(areas, lengths, self.descriptions, &one.name);
             self.select_rules(alloc, areas, there, one)?;
         }
         Ok(())

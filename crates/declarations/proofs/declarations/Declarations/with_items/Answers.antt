@@ -3,8 +3,8 @@ use Rattle.declarations.proofs.declarations.Declarations.with_items.Goals as goa
 pub of-requires : goal.of-requires
 of-requires c = c.requires
 
-pub with_tables-requires-clause-declared : goal.with_tables-requires-clause-declared
-with_tables-requires-clause-declared c = c.requires.declared
+pub with_tables-requires-clause-items : goal.with_tables-requires-clause-items
+with_tables-requires-clause-items c = c.requires.items
 
 pub with_tables-requires-clause-files : goal.with_tables-requires-clause-files
 with_tables-requires-clause-files c = c.requires.files

@@ -11,8 +11,8 @@ returns c = record {
 
 pub invariant_of-result : goal.invariant_of-result
 invariant_of-result c =
-    let program = c.args.items.program.now in
-    let given = c.requires.declared in
+    let program = c.args.program.now in
+    let given = c.requires.items in
     let tables = c.requires.tables in
     let made = c.args.tables in record {
       declared = declared_by program _ c.args.items.names c.args.items.layout made.conditions made.files

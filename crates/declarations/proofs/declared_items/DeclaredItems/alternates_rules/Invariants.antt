@@ -1,4 +1,4 @@
-use Rattle.std.proofs.Common.{◌≡◌, [], ◌∷◌, drop}
+use Rattle.std.proofs.Common.{◌≡◌, drop}
 use Rattle.source_tree.specs.FileRules.{alternate_rules}
 use Rattle.declarations.specs.Found.{items_of}
 use Rattle.declarations.specs.Selecting.{described_of}
@@ -6,5 +6,5 @@ use Rattle.declarations.proofs.declared_items.DeclaredItems.alternates_rules.Giv
 
 abbrev pub invariant-loop-one : goal.invariant-loop-one
 invariant-loop-one l =
-    alternate_rules (items_of l.self) (described_of l.there) (l.first ∷ []) l.all
+    alternate_rules (items_of l.self) (described_of l.there) l.initial.before.items l.all
     ≡ alternate_rules (items_of l.self) (described_of l.there) l.before.items (drop l.one-index l.all)

@@ -15,3 +15,13 @@ item_names-requires-clause-files c =
     let own = each description_rules program.files in
     let areas = record_storage_rules (sum (area_lengths (forest_of program.storage))) program.files in
     right_none past own (left_none (past ++ own) areas c.requires.files)
+
+pub returns : goal.returns
+returns c = record {
+  selects = c.as_slice.ensures;
+  descriptions = c.as_slice-2.ensures;
+  storage = c.as_slice-3.ensures;
+  table = c.in_ok-names.ensures.table;
+  calls = c.in_ok-names.ensures.calls;
+  items = c.in_ok-layout.ensures;
+}

@@ -7,6 +7,6 @@ use Rattle.declarations.proofs.declared_items.DeclaredItems.selects_rules.Given 
 
 abbrev pub invariant-loop-one : goal.invariant-loop-one
 invariant-loop-one l =
-    each (select_rules (items_of l.self) (storage_areas l.self.program.now.storage) l.self.program.now.files) l.selects
-    ≡ each (select_rules (items_of l.self) (storage_areas l.self.program.now.storage) l.self.program.now.files)
+    each (select_rules (items_of l.self) (storage_areas l.self.storage.now) l.self.descriptions.now) l.selects
+    ≡ each (select_rules (items_of l.self) (storage_areas l.self.storage.now) l.self.descriptions.now)
     (drop l.one-index l.selects)
