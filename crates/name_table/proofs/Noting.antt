@@ -1,5 +1,6 @@
 -- The names of procedures, noted one after another.
-use Rattle.std.proofs.Common.{◌≡◌, ℕ, ◌<◌, ◌+◌, ◌-◌, Bool, true, false, ◌||◌, bytes_eq, if◌then◌else◌, List, [], ◌∷◌}
+use Rattle.std.proofs.Common.{◌≡◌, ℕ, ◌<◌, ◌≤◌, ◌+◌, ◌-◌, Bool, true, false, ◌||◌, bytes_eq, if◌then◌else◌, List, []}
+use Rattle.std.proofs.Common.{◌∷◌}
 use Rattle.std.proofs.Common.{◌++◌, length, max, get_or, drop, None, Some, refl, sym, ap, ◌∙◌, subst, append_assoc}
 use Rattle.std.proofs.Common.{add-one, drop-cons, arith}
 use Rattle.std.specs.Prelude.{Option, cond}
@@ -7,7 +8,7 @@ use Rattle.std.specs.Borrow.{Bor}
 use Rattle.std.specs.declared.hash.FoldHasher.{FoldHasher}
 use Rattle.std.specs.declared.hash.BuildHasherDefault.{BuildHasherDefault}
 use Rattle.indexmap.specs.IndexMap.{IndexMap, get_by}
-use Rattle.std.proofs.lemmas.List.{append-nil}
+use Rattle.std.proofs.lemmas.List.{append-nil, drop_all}
 use Rattle.std.proofs.lemmas.List.Elements.{filter-append}
 use Rattle.std.proofs.lemmas.Slice.Eq.{bytes_eq-Decides}
 use Rattle.source_tree.specs.declared.name.Name.{Name}
@@ -247,6 +248,17 @@ pub next_section :
     ++ procedures_from (first + length (paragraphs_or_one one.paragraphs)) (drop (i + 1) sections)) names
 next_section all sections first i one names lt is h =
     subst (λ (l : List Section). AreNoted all (procedures_from first l) names) (next_is sections i one lt is) h
+
+-- ---- after the last section
+
+pub noted_all : (all : List Procedure) (sections : List Section) (first i : ℕ) (names : ProcedureNames)
+    → length sections ≤ i → AreNoted all (procedures_from first (drop i sections)) names → AreNoted all [] names
+noted_all all sections first i names past h =
+    subst (λ (l : List Section). AreNoted all (procedures_from first l) names) (drop_all i sections past) h
+
+pub whole_noted : (all : List Procedure) (names : ProcedureNames) → AreNoted all [] names → AreProcedures all names
+whole_noted all names h =
+    subst (λ (l : List Procedure). AreProcedures l names) (sym (h.whole ∙ append-nil h.before)) h.noted
 
 -- ---- what is told
 

@@ -1,6 +1,6 @@
 //! The names of condition names, in the order of their entries.
 
-ghost use Rattle.std.specs.Prelude.{◌≡◌, ◌+◌, ◌<◌, ◌≤◌, ◌++◌, ◌∷◌, [], map, length, IfOk};
+ghost use Rattle.std.specs.Prelude.{◌≡◌, ◌+◌, ◌<◌, ◌≤◌, ◌++◌, ◌∷◌, [], map, length, IfOk, OnOk};
 ghost use Rattle.source_tree.specs.Records.{program_items};
 ghost use Rattle.name_table.specs.Items.{called_item};
 ghost use Rattle.name_table.specs.Conditions as spec;
@@ -39,31 +39,27 @@ impl<'a> ConditionNames<'a> {
         }
     }
 
-    /// With one more condition name, whose item has that number.
-    fn with(
-        self,
+    /// Adds a condition name, whose item has that number.
+    fn add(
+        &mut self,
         alloc: Global,
         items: &NameTable<'a>,
         condition: &'a ConditionEntry,
         item: usize,
-    ) -> Result<ConditionNames<'a>, AllocError>
-        requires table { IsTable self.names }
+    ) -> Result<(), AllocError>
+        requires table { IsTable self.old.names }
         requires item { item < length (calls_in items.now) }
-        ensures table { IfOk result (λ all. IsTable all.names) }
-        ensures calls { IfOk result (λ all. calls_in all.names ≡ calls_in self.entry.names
+        ensures table { OnOk result (IsTable self.new.names) }
+        ensures calls { OnOk result (calls_in self.new.names ≡ calls_in self.old.names
             ++ spec.condition_at (calls_in items.now) (condition.now, item) ∷ []) }
-        ensures conditions { IfOk result
-            (λ all. pairs_in all ≡ pairs_in self.entry ++ (condition.now, item) ∷ []) }
+        ensures conditions { OnOk result
+            (pairs_in self.new ≡ pairs_in self.old ++ (condition.now, item) ∷ []) }
     {
-        let ConditionNames {
-            names,
-            mut conditions,
-        } = self;
         let declared = &items.declared[item];
         let around = names_within(alloc, declared.name, &declared.around)?;
-        let names = names.with(Some(&condition.name), around)?;
-        conditions.push(DeclaredCondition { condition, item })?;
-        Ok(ConditionNames { names, conditions })
+        self.names.add(Some(&condition.name), around)?;
+        self.conditions.push(DeclaredCondition { condition, item })?;
+        Ok(())
     }
 }
 
@@ -95,7 +91,7 @@ fn with_entries<'a>(
         match entry {
             Entry::Item(_) => count += 1,
             Entry::Condition(one) if count > before => {
-                all = all.with(alloc, items, one, count - 1)?;
+                all.add(alloc, items, one, count - 1)?;
             }
             Entry::Condition(_) => {}
         }

@@ -1,6 +1,6 @@
 //! The names of items, in the order of their entries.
 
-ghost use Rattle.std.specs.Prelude.{◌≡◌, ◌++◌, [], map, length, IfOk};
+ghost use Rattle.std.specs.Prelude.{◌≡◌, ◌++◌, [], map, length, IfOk, OnOk};
 ghost use Rattle.std.specs.Option.{option_copied};
 ghost use Rattle.source_tree.specs.Broken.{each};
 ghost use Rattle.source_tree.specs.EntryRules.{entry_rules};
@@ -39,19 +39,19 @@ fn declare_item<'a>(
     alloc: Global,
     one: Sibling<'a>,
     groups: &[&'a Name],
-    table: NameTable<'a>,
-) -> Result<NameTable<'a>, AllocError>
+    table: &mut NameTable<'a>,
+) -> Result<(), AllocError>
     requires told { AreTold (forest_of one.inner.now) }
-    requires table { IsTable table }
-    ensures table { IfOk result IsTable }
-    ensures calls { IfOk result (λ new. calls_in new ≡ calls_in table.entry ++ spec.entry_calls
+    requires table { IsTable table.old }
+    ensures table { OnOk result (IsTable table.new) }
+    ensures calls { OnOk result (calls_in table.new ≡ calls_in table.old ++ spec.entry_calls
         (names_of groups.now) one.entry.entry.now (forest_of one.entry.inner.now)) }
 {
     let name = one.entry.name.as_ref();
     let around = Vec::from_slice(alloc, groups)?;
-    let declared = table.with(name, around)?;
+    table.add(name, around)?;
     let within = names_within(alloc, name, groups)?;
-    declare_group(alloc, one.inner, &within, declared)
+    declare_group(alloc, one.inner, &within, table)
 }
 
 /// Declares the items of a group.
@@ -60,42 +60,40 @@ fn declare_group<'a>(
     alloc: Global,
     entries: &'a [Entry],
     groups: &[&'a Name],
-    table: NameTable<'a>,
-) -> Result<NameTable<'a>, AllocError>
+    table: &mut NameTable<'a>,
+) -> Result<(), AllocError>
     requires told { AreTold (forest_of entries.now) }
-    requires table { IsTable table }
-    ensures table { IfOk result IsTable }
-    ensures calls { IfOk result (λ new. calls_in new
-        ≡ calls_in table.entry ++ spec.item_calls (names_of groups.now) (forest_of entries.now)) }
+    requires table { IsTable table.old }
+    ensures table { OnOk result (IsTable table.new) }
+    ensures calls { OnOk result (calls_in table.new
+        ≡ calls_in table.old ++ spec.item_calls (names_of groups.now) (forest_of entries.now)) }
 {
-    let mut declared = table;
     let mut rest = entries;
     'items: while let Some(one) = next_item(rest) {
-        declared = declare_item(alloc, one, groups, declared)?;
+        declare_item(alloc, one, groups, table)?;
         rest = one.next;
     }
-    Ok(declared)
+    Ok(())
 }
 
 /// Declares the items of records, each in a group of its file's name.
 fn declare_records<'a>(
     alloc: Global,
     files: &'a [FileDescription],
-    table: NameTable<'a>,
-) -> Result<NameTable<'a>, AllocError>
+    table: &mut NameTable<'a>,
+) -> Result<(), AllocError>
     requires rules { each description_rules files.now ≡ [] }
-    requires table { IsTable table }
-    ensures table { IfOk result IsTable }
-    ensures calls { IfOk result
-        (λ new. calls_in new ≡ calls_in table.entry ++ spec.record_calls files.now) }
+    requires table { IsTable table.old }
+    ensures table { OnOk result (IsTable table.new) }
+    ensures calls { OnOk result
+        (calls_in table.new ≡ calls_in table.old ++ spec.record_calls files.now) }
 {
     record_levels_are_told();
-    let mut declared = table;
     for file in files {
         let groups = [&file.name];
-        declared = declare_group(alloc, file.entries.as_slice(), &groups, declared)?;
+        declare_group(alloc, file.entries.as_slice(), &groups, table)?;
     }
-    Ok(declared)
+    Ok(())
 }
 
 /// The table of the items of a program, by their numbers: those of working storage in the order of the entries, and then those of
@@ -109,6 +107,8 @@ pub fn item_names<'a>(alloc: Global, program: &'a Program) -> Result<NameTable<'
 {
     levels_are_told();
     let storage = program.storage.as_slice();
-    let table = declare_group(alloc, storage, &[], NameTable::new(alloc))?;
-    declare_records(alloc, program.files.as_slice(), table)
+    let mut table = NameTable::new(alloc);
+    declare_group(alloc, storage, &[], &mut table)?;
+    declare_records(alloc, program.files.as_slice(), &mut table)?;
+    Ok(table)
 }

@@ -15,9 +15,9 @@ abbrev pub invariant-declare_group-items : goal.invariant-declare_group-items
 invariant-declare_group-items l = record {
   told : AreTold (forest_of l.rest);
   shorter : length l.rest ≤ length l.entries;
-  table : IsTable l.declared;
-  calls : calls_in l.declared ++ item_calls (names_of l.groups) (forest_of l.rest)
-      ≡ calls_in l.initial.declared ++ item_calls (names_of l.groups) (forest_of l.entries);
+  table : IsTable l.table;
+  calls : calls_in l.table ++ item_calls (names_of l.groups) (forest_of l.rest)
+      ≡ calls_in l.initial.table ++ item_calls (names_of l.groups) (forest_of l.entries);
 }
 
 abbrev pub decreases-declare_group-items : goal.decreases-declare_group-items

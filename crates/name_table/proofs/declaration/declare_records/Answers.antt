@@ -24,9 +24,9 @@ loop-file-preserved c =
     let rest = rest_at files i one c.loop-file-test.true c.file-item.is in
     record {
       rules = others_kept (drop i files) (drop (i + 1) files) one rest c.loop-file.invariant.rules;
-      table = c.in_ok-declared.ensures.table;
-      calls = declared_step (drop i files) (drop (i + 1) files) one rest (calls_in c.in_ok-declared.declared)
-          (calls_in c.loop-file.declared) _
-          (c.in_ok-declared.ensures.calls ∙ ap (λ l. calls_in c.loop-file.declared
+      table = c.in_ok-declare_group.ensures.table;
+      calls = declared_step (drop i files) (drop (i + 1) files) one rest (calls_in c.declare_group.new.table)
+          (calls_in c.loop-file.table) _
+          (c.in_ok-declare_group.ensures.calls ∙ ap (λ l. calls_in c.loop-file.table
           ++ item_calls (one.name ∷ []) (forest_of l)) c.as_slice.ensures) c.loop-file.invariant.calls;
     }

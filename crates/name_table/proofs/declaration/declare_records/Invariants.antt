@@ -8,7 +8,7 @@ use Rattle.name_table.proofs.declaration.declare_records.Given as goal
 abbrev pub invariant-loop-file : goal.invariant-loop-file
 invariant-loop-file l = record {
   rules : each description_rules (drop l.file-index l.files) ≡ [];
-  table : IsTable l.declared;
-  calls : calls_in l.declared ++ record_calls (drop l.file-index l.files)
-      ≡ calls_in l.initial.declared ++ record_calls l.files;
+  table : IsTable l.table;
+  calls : calls_in l.table ++ record_calls (drop l.file-index l.files)
+      ≡ calls_in l.initial.table ++ record_calls l.files;
 }
