@@ -73,6 +73,7 @@ fn put_occurrence(
     match picture_of(alloc, one.entry)? {
         Some(picture) => {
             let item = elementary(around, one.entry, &picture);
+            drop(picture);
             out.resize(begin + item.length as usize, b' ')?;
             start_from(alloc, item, one.entry, begin, out)
         }
