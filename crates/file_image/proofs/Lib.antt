@@ -2,6 +2,7 @@
 pub mod Verbs
 pub mod Keys
 pub mod FileForms
+mod FileParts
 pub mod ClassTests
 -- What is so of a file in order
 pub mod Sound

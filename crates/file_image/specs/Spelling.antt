@@ -1,5 +1,5 @@
 -- Files, verbs and classes of statuses in an image (own choice).
-use Rattle.std.specs.Prelude.{ℕ, ◌==◌, List, [], ◌∷◌, ◌++◌, Option, None, Some, Ok, Err, if◌then◌else◌}
+use Rattle.std.specs.Prelude.{ℕ, Bool, ◌==◌, List, [], ◌∷◌, ◌++◌, Option, None, Some, Ok, Err, if◌then◌else◌}
 use Rattle.records.specs.declared.file_spec.KeyPlace.{KeyPlace}
 use Rattle.records.specs.declared.file_spec.AlternateKey.{AlternateKey}
 use Rattle.records.specs.declared.file_spec.Organization.{Organization}
@@ -281,4 +281,35 @@ file_at bytes = do
       status = status.0;
     },
     status.1,
+  )
+
+-- how a program uses a file: what comes after its kind
+unfoldable pub uses_at : List ℕ → ReadResult (Access × Bool × ℕ × Option ItemIndex × Option ItemIndex)
+uses_at bytes = do
+  access ← told_at access_of bytes
+  optional ← told_at flag_of access.1
+  area ← short_at optional.1
+  relative_key ← item_at area.1
+  status ← item_at relative_key.1
+  Ok ((access.0, optional.0, area.0, relative_key.0, status.0), status.1)
+
+-- the same as `file_at`, in three parts
+abbrev pub file_parts_at : List ℕ → ReadResult CodeFile
+file_parts_at bytes = do
+  name ← text_at bytes
+  spec ← spec_at name.1
+  uses ← uses_at spec.1
+  Ok (
+    record {
+      name = name.0;
+      organization = spec.0.organization;
+      record_length = spec.0.record_length;
+      alternates = spec.0.alternates;
+      access = uses.0.0;
+      optional = uses.0.1;
+      area = uses.0.2;
+      relative_key = uses.0.3;
+      status = uses.0.4;
+    },
+    uses.1,
   )

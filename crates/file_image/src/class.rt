@@ -12,7 +12,7 @@ use records::Status;
 use std::alloc::AllocError;
 
 /// A class of statuses: 0x, 1x or 2x.
-#[derive(Clone, Copy, PartialEq, Eq)]
+#[derive(Clone, Copy)]
 pub enum StatusClass {
     Successful,
     AtEnd,

@@ -5,7 +5,7 @@ use records::{Access, AlternateKey, Organization};
 use sqlite_items::Items;
 
 /// A file of the table, which counts from 0. A status that is received names its file by a byte.
-#[derive(Clone, Copy, PartialEq, Eq)]
+#[derive(Clone, Copy)]
 pub struct FileIndex {
     pub number: u8,
 }

@@ -5,11 +5,12 @@ ghost use Rattle.answers.specs.Answer.{Gives};
 ghost use Rattle.data_image.specs.Faults.{fault_of};
 ghost use Rattle.data_image.specs.Reading.{told_at};
 ghost use Rattle.file_image.specs.Spelling as spec;
-ghost use Rattle.file_image.specs.Spelling.{organization_bytes, spec_bytes, item_bytes, file_bytes, IsOrganizationSpelled, IsSpecSpelled, IfItemSpelled, IsFileSpelled, organization_at, spec_at, item_at, file_at};
+ghost use Rattle.file_image.specs.Spelling.{organization_bytes, spec_bytes, item_bytes, file_bytes, IsOrganizationSpelled, IsSpecSpelled, IfItemSpelled, IsFileSpelled, organization_at, spec_at, item_at, uses_at, file_parts_at, file_at};
 ghost use Rattle.file_image.specs.Files.{spec_of};
 
 use crate::file::CodeFile;
 use crate::key::{put_alternates, put_place, read_alternates, read_place};
+use answers::beside;
 use data_image::{
     ImageError, ImageFault, TableEntry, flag_byte, found, put_byte, put_short, put_small,
     read_byte, read_flag, read_short, read_small,
@@ -55,16 +56,20 @@ impl TableEntry for CodeFile {
         put_item(out, self.status)
     }
 
-    #[tactic(auto, unfolding(crate::specs::Spelling::file_at))]
     fn read(alloc: Global, bytes: &[u8]) -> Result<(CodeFile, &[u8]), ImageError> {
-        let (name, rest) = Items::read(alloc, bytes)?;
-        let (spec, rest) = read_spec(alloc, rest)?;
-        let (access, rest) = read_access(rest)?;
-        let (optional, rest) = read_flag(rest)?;
-        let (area, rest) = read_short(rest)?;
-        let (relative_key, rest) = read_item(rest)?;
-        let (status, rest) = read_item(rest)?;
-        let one = CodeFile {
+        read_file(alloc, bytes)
+    }
+}
+
+fn read_file(alloc: Global, bytes: &[u8]) -> Result<(CodeFile, &[u8]), ImageError>
+    ensures { Gives (λ x. (x.0, x.1.now)) fault_of result (file_parts_at bytes.now) }
+{
+    let (name, rest) = Items::read(alloc, bytes)?;
+    let (name, (spec, rest)) = beside(name, read_spec(alloc, rest))?;
+    let ((name, spec), (uses, rest)) = beside((name, spec), read_uses(rest))?;
+    let (access, optional, area, relative_key, status) = uses;
+    Ok((
+        CodeFile {
             name,
             organization: spec.organization,
             record_length: spec.record_length,
@@ -74,9 +79,25 @@ impl TableEntry for CodeFile {
             area,
             relative_key,
             status,
-        };
-        Ok((one, rest))
-    }
+        },
+        rest,
+    ))
+}
+
+// How a program uses a file: the access, whether it is optional, the area of its records, and the items of RELATIVE KEY and of
+// FILE STATUS.
+type Uses = (Access, bool, u32, Option<ItemIndex>, Option<ItemIndex>);
+
+#[tactic(auto, unfolding(crate::specs::Spelling::uses_at))]
+fn read_uses(bytes: &[u8]) -> Result<(Uses, &[u8]), ImageError>
+    ensures { Gives (λ x. (x.0, x.1.now)) fault_of result (uses_at bytes.now) }
+{
+    let (access, rest) = read_access(bytes)?;
+    let (optional, rest) = read_flag(rest)?;
+    let (area, rest) = read_short(rest)?;
+    let (relative_key, rest) = read_item(rest)?;
+    let (status, rest) = read_item(rest)?;
+    Ok(((access, optional, area, relative_key, status), rest))
 }
 
 fn put_organization(out: &mut Vec<u8>, organization: Organization) -> Result<(), AllocError>
