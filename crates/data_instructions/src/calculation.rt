@@ -1,7 +1,7 @@
 //! Instructions on numbers alone.
 
 /// What is computed on the stack of numbers. After a size error there is no number, and what is computed with none is none.
-#[derive(Clone, Copy, PartialEq, Eq)]
+#[derive(Clone, Copy)]
 pub enum Calculation {
     /// Takes two numbers, and puts their sum on the stack: the one below and the newest.
     Add,

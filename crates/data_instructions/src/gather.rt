@@ -3,7 +3,7 @@
 use crate::index::TextIndex;
 
 /// What is added to the line.
-#[derive(Clone, Copy, PartialEq, Eq)]
+#[derive(Clone, Copy)]
 pub enum Gather {
     /// Takes a place: its bytes.
     Bytes,

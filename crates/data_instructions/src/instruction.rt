@@ -8,7 +8,7 @@ use crate::test::Test;
 use std::mem::size_of;
 
 /// An instruction that uses none of the budget, and after which the next one comes, unless it ends in a fault.
-#[derive(Clone, Copy, PartialEq, Eq)]
+#[derive(Clone, Copy)]
 pub enum DataInstruction {
     /// Puts the place of an item, its first occurrence, on the stack of places.
     Place {

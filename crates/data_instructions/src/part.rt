@@ -1,7 +1,7 @@
 //! Instructions that make a part of the newest place (ISO 1989:1985, Nucleus, "Reference modification").
 
 /// Which part. Its first place counts from 1. Fault 93 where the part isn't within the item, and 90 where a number is no integer.
-#[derive(Clone, Copy, PartialEq, Eq)]
+#[derive(Clone, Copy)]
 pub enum Part {
     /// Takes the first place of a part that has its item's length, within so many bytes.
     Fixed { size: u32 },

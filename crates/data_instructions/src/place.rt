@@ -3,7 +3,7 @@
 use crate::index::ItemIndex;
 
 /// An item of the table, at so many bytes after the start of its area, and how many of its bytes there are.
-#[derive(Clone, Copy, PartialEq, Eq)]
+#[derive(Clone, Copy)]
 pub struct Place {
     pub item: ItemIndex,
     pub offset: usize,

@@ -4,7 +4,7 @@ use crate::index::SenderIndex;
 use source_tree::{Class, Relation};
 
 /// What is asked. Fault 90 where a number is wanted of bytes that hold none, or after a size error.
-#[derive(Clone, Copy, PartialEq, Eq)]
+#[derive(Clone, Copy)]
 pub enum Test {
     /// Takes a place, and compares the sender with what stands there.
     Compare {
