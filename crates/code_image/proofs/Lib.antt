@@ -1,6 +1,7 @@
 -- The bytes of an image: how each part is read and spelled
 pub mod Forms
 pub mod Images
+mod InstructionKinds
 pub mod Soundness
 pub mod Completeness
 -- The machine's table: what stands where, what is known there, one end of a run, and that there is one

@@ -12,7 +12,8 @@ ghost use Rattle.code_image.specs.Reading.{tick_at, count_instruction_at, turn_a
 use crate::counter::CounterIndex;
 use crate::paragraph::ParagraphIndex;
 use data_image::{
-    ImageError, ImageFault, TableEntry, put_count, put_short, read_byte, read_count, read_short,
+    ImageError, ImageFault, TableEntry, put_byte, put_count, put_short, read_byte, read_count,
+    read_short,
 };
 use data_instructions::{DataInstruction, DataTables, Gather};
 use file_image::{FileIndex, StatusClass, put_class, put_verb, read_class, read_verb};
@@ -20,7 +21,7 @@ use records::Verb;
 use std::alloc::{AllocError, Global};
 
 /// One instruction.
-#[derive(Clone, Copy, PartialEq, Eq)]
+#[derive(Clone, Copy)]
 pub enum Instruction {
     /// Uses one of the budget, or ends the run as Budget where none is left. The statement begins in this line of the
     /// source, counted from 1.
@@ -382,23 +383,23 @@ impl TableEntry for Instruction {
     fn put(&self, out: &mut Vec<u8>) -> Result<(), AllocError> {
         match *self {
             Instruction::Tick { line } => put_tick(out, line),
-            Instruction::Show => Ok(out.push(SHOW)?),
-            Instruction::Stop => Ok(out.push(STOP)?),
+            Instruction::Show => put_byte(out, SHOW),
+            Instruction::Stop => put_byte(out, STOP),
             Instruction::Count { counter, turns } => {
                 put_counting(out, COUNT, counter, turns as usize)
             }
             Instruction::Turn { counter, to } => put_counting(out, TURN, counter, to),
-            Instruction::Accept => Ok(out.push(ACCEPT)?),
-            Instruction::Date => Ok(out.push(DATE)?),
+            Instruction::Accept => put_byte(out, ACCEPT),
+            Instruction::Date => put_byte(out, DATE),
             Instruction::Branch { to } => put_leading(out, BRANCH, to),
             Instruction::Jump { to } => put_leading(out, JUMP, to),
-            Instruction::Join => Ok(out.push(JOIN)?),
+            Instruction::Join => put_byte(out, JOIN),
             Instruction::Perform { line, first, last } => put_perform(out, line, first, last),
             Instruction::Back { paragraph } => put_leading(out, BACK, paragraph.number),
             Instruction::CountNumber { counter } => put_leading(out, COUNT_NUMBER, counter.number),
             Instruction::File { file, verb } => put_file(out, file, verb),
             Instruction::TestStatus { class } => put_test_status(out, class),
-            Instruction::Unheard => Ok(out.push(UNHEARD)?),
+            Instruction::Unheard => put_byte(out, UNHEARD),
             Instruction::Data(one) => one.put(out),
         }
     }

@@ -11,7 +11,7 @@ use perform_graph::{Order, PerformedRange, order_of};
 use std::alloc::{AllocError, Global};
 
 /// A code paragraph, by its number. It runs from its start to its `back`.
-#[derive(Clone, Copy, PartialEq, Eq)]
+#[derive(Clone, Copy)]
 pub struct ParagraphIndex {
     /// Its index in the table of starts.
     pub number: usize,
@@ -44,6 +44,7 @@ pub(crate) fn paragraphs_of(
     Ok(paragraphs)
 }
 
+#[tactic(auto, using(crate::proofs::InstructionKinds::other_back))]
 fn is_back(instructions: &[Instruction], address: usize) -> bool
     ensures { IsTrue result ↔ IsBack (slice_get instructions.now address) }
 {
@@ -58,6 +59,7 @@ fn is_front(instructions: &[Instruction], address: usize) -> bool
 }
 
 /// The code paragraph of a number starts at an address.
+#[tactic(auto, using(crate::proofs::InstructionKinds::front_within))]
 fn starts_at(
     instructions: &[Instruction],
     paragraphs: &[usize],
@@ -147,6 +149,10 @@ pub(crate) fn has_order(
     if !are_ranges(count, &ranges) {
         return Ok(false);
     }
-    let order = order_of(alloc, count, &ranges)?;
-    Ok(has_ranks(&order))
+    let found = order_of(alloc, count, &ranges);
+    drop(ranges);
+    let order = found?;
+    let has = has_ranks(&order);
+    drop(order);
+    Ok(has)
 }

@@ -1,8 +1,9 @@
 //! From the bytes of an image to its code.
 
-ghost use Rattle.std.specs.Prelude.{◌≡◌, Ok, IfOk};
+ghost use Rattle.std.specs.Prelude.{◌≡◌, ◌==◌, Ok, Err, IfOk, length, if◌then◌else◌};
 ghost use Rattle.answers.specs.Answer.{Gives};
 ghost use Rattle.data_image.specs.Faults.{fault_of};
+ghost use Rattle.data_image.specs.declared.fault.ImageFault.TheVariants as faults;
 ghost use Rattle.code_image.specs.declared.code.Code.{Code};
 ghost use Rattle.code_image.specs.Spelling.{code_bytes, HasSpelling};
 ghost use Rattle.code_image.specs.Reading.{mark_at, is_version, with_version, code_at};
@@ -61,6 +62,18 @@ fn with_version(said: bool, code: Code) -> Result<Code, ImageError>
     Ok(code)
 }
 
+/// The code, if no byte is left and the mark is that of its version.
+fn whole_code(second: bool, code: Code, rest: &[u8]) -> Result<Code, ImageError>
+    ensures { Gives (λ code. code) fault_of result (if length rest.now == 0
+        then with_version second code else Err faults.Length) }
+{
+    if !rest.is_empty() {
+        drop(code);
+        return Err(ImageError::Refused(ImageFault::Length));
+    }
+    with_version(second, code)
+}
+
 #[tactic(auto, unfolding(crate::specs::Reading::code_at))]
 fn read_code(alloc: Global, bytes: &[u8]) -> Result<Code, ImageError>
     ensures { Gives (λ code. code) fault_of result (code_at bytes.now) }
@@ -77,9 +90,5 @@ fn read_code(alloc: Global, bytes: &[u8]) -> Result<Code, ImageError>
         starts,
         instructions,
     };
-    if !rest.is_empty() {
-        drop(code);
-        return Err(ImageError::Refused(ImageFault::Length));
-    }
-    with_version(second, code)
+    whole_code(second, code, rest)
 }

@@ -109,6 +109,7 @@ fn name_places(files: &[CodeFile], tables: &DataTables) -> bool
     true
 }
 
+#[tactic(auto, using(crate::proofs::InstructionKinds::other_budget))]
 fn uses_budget(instructions: &[Instruction], address: usize) -> bool
     ensures { IsTrue result ↔ UsesBudget (slice_get instructions.now address) }
 {
@@ -125,6 +126,7 @@ fn is_join(instructions: &[Instruction], address: usize) -> bool
 }
 
 /// A way on leads to the address after a `join` that comes later, in the same code paragraph.
+#[tactic(auto, using(crate::proofs::InstructionKinds::join_within))]
 fn leads_on(instructions: &[Instruction], paragraphs: &[usize], address: usize, to: usize) -> bool
     requires listed { ListsParagraphs instructions.now paragraphs.now }
     requires within { address < length instructions.now }
@@ -296,6 +298,10 @@ pub fn verify(alloc: Global, code: Code) -> Result<Verified, ImageError>
     ensures verified { IfOk result (λ _. IsVerified code) }
     ensures refused { IfErr result (λ e. Blames code (fault_of e)) }
 {
-    meets_demands(alloc, &code)?;
+    let met = meets_demands(alloc, &code);
+    if let Err(error) = met {
+        drop(code);
+        return Err(error);
+    }
     Ok(Verified { code })
 }
