@@ -4,6 +4,7 @@ pub mod Works
 pub mod Sequences
 pub mod Meeting
 pub mod WaysMet
+mod WayEnds
 -- What keeps the rules
 pub mod Lists
 pub mod Kept
@@ -13,6 +14,7 @@ pub mod Setting
 pub mod ItemParts
 pub mod PlacedItems
 pub mod Subscripts
+mod PushedItems
 pub mod ReferencePieces
 pub mod ConditionItems
 pub mod ConditionValues

@@ -1,6 +1,6 @@
 //! The code of what the objects of EVALUATE ask of its subjects (COBOL-85, Nucleus, "The EVALUATE statement").
 
-ghost use Rattle.std.specs.Prelude.{◌≡◌, not, [], ◌∷◌, OnOk};
+ghost use Rattle.std.specs.Prelude.{◌≡◌, not, List, [], ◌∷◌, OnOk};
 ghost use Rattle.source_tree.specs.declared.condition.Condition.{Condition};
 ghost use Rattle.source_tree.specs.declared.condition.Condition.TheVariants.{All, Any};
 ghost use Rattle.source_tree.specs.declared.condition.Relation.TheVariants as relation;
@@ -9,12 +9,13 @@ ghost use Rattle.source_tree.specs.Broken.{each};
 ghost use Rattle.source_tree.specs.EntryRules.{entry_rules};
 ghost use Rattle.source_tree.specs.ConditionRules.{relation_rules, condition_rules};
 ghost use Rattle.source_tree.specs.Evaluate as meaning;
+ghost use Rattle.source_tree.specs.Places.{LocatedItem};
 ghost use Rattle.declarations.specs.Named.{items_in};
 ghost use Rattle.declarations.specs.Resolved.{condition_meant, values_meant, question_meant};
 ghost use Rattle.condition_codegen.specs.Fragments.{append, sequence, in_order};
 ghost use Rattle.condition_codegen.specs.ConditionCode as spec;
 
-use crate::branches::{emit_branch, emit_jump, emit_meeting};
+use crate::branches::{emit_branch, emit_jump, emit_meeting, emit_way_end};
 use crate::condition::{emit_constant, emit_negation};
 use crate::emitter::Emitter;
 use code_image::Code;
@@ -64,8 +65,7 @@ impl<'a> Emitter<'a> {
         self.emit_relation(code, value, Relation::GreaterOrEqual, first)?;
         let branch = emit_branch(code)?;
         self.emit_relation(code, value, Relation::LessOrEqual, last)?;
-        let other = emit_jump(code)?;
-        emit_meeting(code, branch, other)
+        emit_way_end(code, branch)
     }
 
     /// Whether a value equals another, or lies from it to the last one.
@@ -144,8 +144,7 @@ impl<'a> Emitter<'a> {
         self.emit_told(code, truth, one)?;
         let branch = emit_branch(code)?;
         self.emit_told(code, truth, other)?;
-        let second = emit_jump(code)?;
-        emit_meeting(code, branch, second)
+        emit_way_end(code, branch)
     }
 
     /// Whether two conditions are both true, or neither.
@@ -171,16 +170,6 @@ impl<'a> Emitter<'a> {
         emit_meeting(code, branch, second)
     }
 
-    /// Whether two truths are the same.
-    fn emit_truths(&self, code: &mut Code, one: bool, other: bool) -> Result<(), AllocError>
-        ensures { OnOk result (code.new
-            ≡ append code.old (spec.condition_fragment (items_in self.now.declarations.now)
-            (meaning.condition_or_opposite one (meaning.constant other)) code.old)) }
-    {
-        emit_constant(code, other)?;
-        emit_negation(code, !one)
-    }
-
     /// What an object asks of its subject, once both are looked up.
     fn emit_question(&self, code: &mut Code, one: Question<'_>) -> Result<(), AllocError>
         requires entries { entry_rules self.now.declarations.now.storage.now ≡ [] }
@@ -192,7 +181,7 @@ impl<'a> Emitter<'a> {
         match one {
             Question::Nothing => emit_constant(code, true),
             Question::Within { value, wanted } => self.emit_wanted(code, value, wanted),
-            Question::Truths(one, other) => self.emit_truths(code, one, other),
+            Question::Truths(one, other) => emit_truths(code, one, other),
             Question::Told(truth, one) => self.emit_told(code, truth, one),
             Question::Alike(one, other) => self.emit_alike(code, one, other),
             Question::Unfit => emit_constant(code, false),
@@ -236,8 +225,7 @@ impl<'a> Emitter<'a> {
     {
         let branch = emit_branch(code)?;
         self.emit_asked(code, subject, choice)?;
-        let other = emit_jump(code)?;
-        emit_meeting(code, branch, other)
+        emit_way_end(code, branch)
     }
 
     /// What the further objects of a WHEN ask, subject by subject.
@@ -358,4 +346,14 @@ impl<'a> Emitter<'a> {
         self.emit_when(code, subjects, first.objects.as_slice())?;
         self.emit_each_when(code, subjects, more)
     }
+}
+
+/// Whether two truths are the same.
+fn emit_truths(code: &mut Code, one: bool, other: bool) -> Result<(), AllocError>
+    ensures { (items : List LocatedItem) → OnOk result (code.new
+        ≡ append code.old (spec.condition_fragment items
+        (meaning.condition_or_opposite one (meaning.constant other)) code.old)) }
+{
+    emit_constant(code, other)?;
+    emit_negation(code, !one)
 }

@@ -29,6 +29,16 @@ pub fn emit_jump(code: &mut Code) -> Result<usize, AllocError>
     Ok(code.instructions.len())
 }
 
+/// The end of a way, where the other one has nothing: it begins here, and both meet.
+pub(crate) fn emit_way_end(code: &mut Code, branch: usize) -> Result<(), AllocError>
+    requires { branch < length code.old.instructions }
+    ensures { OnOk result (code.new ≡ patched_code branch (length code.old.instructions + 2)
+        (append code.old (jump_code 0))) }
+{
+    let other = emit_jump(code)?;
+    emit_meeting(code, branch, other)
+}
+
 /// Both ways meet: the branch, and the jump in front of the other way, lead where they have to.
 pub fn emit_meeting(code: &mut Code, branch: usize, other: usize) -> Result<(), AllocError>
     requires branch { branch < length code.old.instructions }

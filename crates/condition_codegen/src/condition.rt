@@ -23,7 +23,7 @@ ghost use Rattle.condition_codegen.specs.ConditionCode as spec;
 ghost use Rattle.condition_codegen.specs.EvaluateCode.{constant_fragment};
 ghost use Rattle.condition_codegen.specs.Sides.{operand_of};
 
-use crate::branches::{emit_branch, emit_jump, emit_meeting};
+use crate::branches::{emit_branch, emit_jump, emit_meeting, emit_way_end};
 use crate::emitter::Emitter;
 use crate::number::number_of_literal;
 use crate::references::{emit_number, emit_work, emit_works};
@@ -466,8 +466,7 @@ impl<'a> Emitter<'a> {
     {
         let branch = emit_branch(code)?;
         self.emit_condition(code, one)?;
-        let other = emit_jump(code)?;
-        emit_meeting(code, branch, other)
+        emit_way_end(code, branch)
     }
 
     /// A condition after OR: it is asked where the truth is false so far.

@@ -44,16 +44,6 @@ impl<'a> Emitter<'a> {
         }
     }
 
-    /// The number of an operand, added to the newest.
-    fn emit_added(&self, code: &mut Code, one: &Operand) -> Result<(), AllocError>
-        requires rules { number_rules (items_in self.now.declarations.now) one.now ≡ [] }
-        ensures { OnOk result (code.new ≡ append code.old
-            (spec.added_fragment (items_in self.now.declarations.now) one.now code.old)) }
-    {
-        self.emit_value(code, one)?;
-        emit_work(code, operator_code(Operator::Add))
-    }
-
     /// The numbers of operands, added to the newest in turn.
     fn emit_all_added(&self, code: &mut Code, all: &[Operand]) -> Result<(), AllocError>
         requires rules { each (number_rules (items_in self.now.declarations.now)) all.now ≡ [] }
@@ -61,7 +51,8 @@ impl<'a> Emitter<'a> {
             (spec.added_fragment (items_in self.now.declarations.now)) all.now code.old)) }
     {
         for one in all {
-            self.emit_added(code, one)?;
+            self.emit_value(code, one)?;
+            emit_work(code, operator_code(Operator::Add))?;
         }
         Ok(())
     }

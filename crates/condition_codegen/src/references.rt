@@ -108,8 +108,10 @@ impl<'a> Emitter<'a> {
             Subscript::Literal(integer) => emit_integer(code, integer),
             Subscript::Item { item, adjustment } => {
                 let item = self.item_index(item)?;
-                emit_work(code, DataInstruction::Place { item })?;
-                emit_work(code, DataInstruction::Push)?;
+                emit_works(
+                    code,
+                    &[DataInstruction::Place { item }, DataInstruction::Push],
+                )?;
                 emit_adjustment(code, adjustment)
             }
         }

@@ -1,4 +1,4 @@
-use Rattle.std.proofs.Common.{rules, ◌≡◌, List, [], ◌∷◌, map, sym, ap, arith, ◌∙◌}
+use Rattle.std.proofs.Common.{rules, ◌≡◌, ◌+◌, List, [], ◌∷◌, length, map, refl, sym, ap, arith, ◌∙◌}
 use Rattle.std.proofs.lemmas.Grind.{common_steps}
 use Rattle.source_tree.specs.declared.condition.Condition.{Condition, the_lemmas}
 use Rattle.source_tree.specs.Broken.{each}
@@ -7,7 +7,7 @@ use Rattle.data_instructions.specs.declared.instruction.DataInstruction.TheVaria
 use Rattle.data_instructions.specs.declared.test.Test.TheVariants as test
 use Rattle.declarations.specs.Named.{items_in}
 use Rattle.condition_codegen.specs.Fragments.{Fragment, append, sequence, in_order}
-use Rattle.condition_codegen.specs.Meeting.{nothing_fragment}
+use Rattle.condition_codegen.specs.Meeting.{jump_code, nothing_fragment}
 use Rattle.condition_codegen.specs.DataCode.{work_fragment}
 use Rattle.condition_codegen.specs.ConditionCode.{condition_name_fragment, relation_fragment, and_fragment, or_fragment}
 use Rattle.condition_codegen.specs.ConditionCode.{all_fragment, any_fragment, condition_layer_fragment}
@@ -21,6 +21,7 @@ use Rattle.condition_codegen.proofs.Kept.{front_kept, back_kept, one_kept}
 use Rattle.condition_codegen.proofs.Meeting.{meeting}
 use Rattle.condition_codegen.proofs.Fragments.{joined_nothing}
 use Rattle.condition_codegen.proofs.Sequences.{is_so, ends_so, on_ok}
+use Rattle.condition_codegen.proofs.WayEnds.{branch_within, both_within}
 use Rattle.condition_codegen.proofs.emitter.Emitter.+condition.Goals as goal
 
 pub emit_condition-emit_condition_name-requires-clause-rules :
@@ -264,13 +265,20 @@ emit_and-returns t c =
     let old = c.args.code.now in
     let one = condition_fragment (items_in c.args.self.now.declarations.now) c.args.one.now in
     let branch = c.in_ok-branch.branch in
-    let other = c.in_ok-other.other in
-    on_ok c.emit_meeting.result c.emit_meeting.ensures
-    (λ (e : c.emit_meeting.new.code ≡ patched_code branch other c.emit_jump.new.code).
-    meeting one nothing_fragment old c.emit_branch.new.code c.emit_condition.new.code c.emit_jump.new.code
-    c.emit_jump.new.code c.emit_meeting.new.code branch other
-    c.in_ok-branch.ensures.code c.in_ok-branch.ensures.address c.in_ok-emit_condition.ensures c.in_ok-other.ensures.code
-    c.in_ok-other.ensures.other (sym (joined_nothing c.emit_jump.new.code)) e)
+    let asked = c.emit_condition.new.code in
+    let middle = append asked (jump_code 0) in
+    let other = length asked.instructions + 2 in
+    on_ok c.emit_way_end.result c.emit_way_end.ensures
+    (λ (e : c.emit_way_end.new.code ≡ patched_code branch other middle).
+    meeting one nothing_fragment old c.emit_branch.new.code asked middle middle c.emit_way_end.new.code branch other
+    c.in_ok-branch.ensures.code c.in_ok-branch.ensures.address c.in_ok-emit_condition.ensures refl refl
+    (sym (joined_nothing middle)) e)
+
+pub emit_and-emit_way_end-requires : goal.emit_and-emit_way_end-requires
+emit_and-emit_way_end-requires t c =
+    let one = condition_fragment (items_in c.args.self.now.declarations.now) c.args.one.now in
+    branch_within one c.args.code.now c.emit_branch.new.code c.emit_condition.new.code c.in_ok-branch.branch
+    c.in_ok-branch.ensures.code c.in_ok-branch.ensures.address c.in_ok-emit_condition.ensures
 
 pub emit_or-returns : goal.emit_or-returns
 emit_or-returns t c =
@@ -284,3 +292,24 @@ emit_or-returns t c =
     c.emit_condition.new.code c.emit_meeting.new.code branch other
     c.in_ok-branch.ensures.code c.in_ok-branch.ensures.address (sym (joined_nothing c.emit_branch.new.code))
     c.in_ok-other.ensures.code c.in_ok-other.ensures.other c.in_ok-emit_condition.ensures e)
+
+pub emit_or-emit_meeting-requires-clause-branch : goal.emit_or-emit_meeting-requires-clause-branch
+emit_or-emit_meeting-requires-clause-branch t c =
+    let one = condition_fragment (items_in c.args.self.now.declarations.now) c.args.one.now in
+    (both_within one c.args.code.now c.emit_branch.new.code c.emit_jump.new.code c.emit_condition.new.code
+    c.in_ok-branch.branch c.in_ok-other.other c.in_ok-branch.ensures.code c.in_ok-branch.ensures.address
+    c.in_ok-other.ensures.code c.in_ok-other.ensures.other c.in_ok-emit_condition.ensures).0
+
+pub emit_or-emit_meeting-requires-clause-jump : goal.emit_or-emit_meeting-requires-clause-jump
+emit_or-emit_meeting-requires-clause-jump t c =
+    let one = condition_fragment (items_in c.args.self.now.declarations.now) c.args.one.now in
+    (both_within one c.args.code.now c.emit_branch.new.code c.emit_jump.new.code c.emit_condition.new.code
+    c.in_ok-branch.branch c.in_ok-other.other c.in_ok-branch.ensures.code c.in_ok-branch.ensures.address
+    c.in_ok-other.ensures.code c.in_ok-other.ensures.other c.in_ok-emit_condition.ensures).1
+
+pub emit_or-emit_meeting-requires-clause-other : goal.emit_or-emit_meeting-requires-clause-other
+emit_or-emit_meeting-requires-clause-other t c =
+    let one = condition_fragment (items_in c.args.self.now.declarations.now) c.args.one.now in
+    (both_within one c.args.code.now c.emit_branch.new.code c.emit_jump.new.code c.emit_condition.new.code
+    c.in_ok-branch.branch c.in_ok-other.other c.in_ok-branch.ensures.code c.in_ok-branch.ensures.address
+    c.in_ok-other.ensures.code c.in_ok-other.ensures.other c.in_ok-emit_condition.ensures).2

@@ -1,5 +1,4 @@
-use Rattle.std.proofs.Common.{List, sym, ap, ◌∙◌, arith}
-use Rattle.std.proofs.lemmas.Grind.{common_steps}
+use Rattle.std.proofs.Common.{List, sym, ap, ◌∙◌}
 use Rattle.source_tree.specs.declared.condition.Condition.TheVariants.{All}
 use Rattle.source_tree.specs.declared.evaluate_statement.Object.{Object}
 use Rattle.source_tree.specs.Broken.{each}
@@ -11,6 +10,7 @@ use Rattle.condition_codegen.specs.Meeting.{nothing_fragment}
 use Rattle.condition_codegen.specs.ConditionCode.{condition_fragment}
 use Rattle.condition_codegen.proofs.Fragments.{joined_nothing}
 use Rattle.condition_codegen.proofs.WaysMet.{ways_met}
+use Rattle.condition_codegen.proofs.WayEnds.{both_within}
 use Rattle.condition_codegen.proofs.emitter.Emitter.emit_or_when.Goals as goal
 
 pub emit_when-requires-clause-rules : goal.emit_when-requires-clause-rules
@@ -33,10 +33,25 @@ returns c =
     c.emit_meeting.ensures
 
 pub emit_meeting-requires-clause-branch : goal.emit_meeting-requires-clause-branch
-emit_meeting-requires-clause-branch c = grind (arith, common_steps)
+emit_meeting-requires-clause-branch c =
+    let items = items_in c.args.self.now.declarations.now in
+    (both_within (condition_fragment items (All (object_conditions items c.args.subjects.now c.as_slice.result.now)))
+    c.args.code.now c.emit_branch.new.code c.emit_jump.new.code c.emit_when.new.code c.in_ok-branch.branch
+    c.in_ok-other.other c.in_ok-branch.ensures.code c.in_ok-branch.ensures.address c.in_ok-other.ensures.code
+    c.in_ok-other.ensures.other c.in_ok-emit_when.ensures).0
 
 pub emit_meeting-requires-clause-jump : goal.emit_meeting-requires-clause-jump
-emit_meeting-requires-clause-jump c = grind (arith, common_steps)
+emit_meeting-requires-clause-jump c =
+    let items = items_in c.args.self.now.declarations.now in
+    (both_within (condition_fragment items (All (object_conditions items c.args.subjects.now c.as_slice.result.now)))
+    c.args.code.now c.emit_branch.new.code c.emit_jump.new.code c.emit_when.new.code c.in_ok-branch.branch
+    c.in_ok-other.other c.in_ok-branch.ensures.code c.in_ok-branch.ensures.address c.in_ok-other.ensures.code
+    c.in_ok-other.ensures.other c.in_ok-emit_when.ensures).1
 
 pub emit_meeting-requires-clause-other : goal.emit_meeting-requires-clause-other
-emit_meeting-requires-clause-other c = grind (arith, common_steps)
+emit_meeting-requires-clause-other c =
+    let items = items_in c.args.self.now.declarations.now in
+    (both_within (condition_fragment items (All (object_conditions items c.args.subjects.now c.as_slice.result.now)))
+    c.args.code.now c.emit_branch.new.code c.emit_jump.new.code c.emit_when.new.code c.in_ok-branch.branch
+    c.in_ok-other.other c.in_ok-branch.ensures.code c.in_ok-branch.ensures.address c.in_ok-other.ensures.code
+    c.in_ok-other.ensures.other c.in_ok-emit_when.ensures).2

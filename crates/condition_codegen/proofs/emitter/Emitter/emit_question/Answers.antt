@@ -1,5 +1,6 @@
 use Rattle.std.proofs.Common.{true, false, sym, ap, ◌∙◌}
 use Rattle.source_tree.specs.ConditionRules.{condition_rules}
+use Rattle.source_tree.specs.Evaluate.{constant, condition_or_opposite}
 use Rattle.declarations.specs.declared.resolved.Question.{Question}
 use Rattle.declarations.specs.Resolved.{condition_meant, question_meant}
 use Rattle.declarations.specs.Named.{items_in}
@@ -46,3 +47,12 @@ returns-in-Unfit c =
     (append old (condition_fragment items (question_meant c.args.one) old)) c.emit_constant-in-Unfit.ensures
     (ap (λ (p : Fragment). append old (p old)) (sym (constant_is items false))
     ∙ sym (ap (λ (q : Question). append old (condition_fragment items (question_meant q) old)) c.in-Unfit.is))
+
+pub returns-in-Truths : goal.returns-in-Truths
+returns-in-Truths c =
+    let items = items_in c.args.self.now.declarations.now in
+    let old = c.args.code.now in
+    let test = condition_or_opposite c.in-Truths.one (constant c.in-Truths.other) in
+    is_so c.emit_truths.result c.emit_truths.new.code (append old (condition_fragment items test old))
+    (append old (condition_fragment items (question_meant c.args.one) old)) (c.emit_truths.ensures items)
+    (sym (ap (λ (q : Question). append old (condition_fragment items (question_meant q) old)) c.in-Truths.is))

@@ -2,17 +2,15 @@ use Rattle.std.proofs.Common.{◌≡◌, refl, sym, ap, ◌∙◌}
 use Rattle.std.specs.Prelude.{not}
 use Rattle.source_tree.specs.Evaluate.{constant, condition_or_opposite}
 use Rattle.data_instructions.specs.ConditionCodes.{negation}
-use Rattle.declarations.specs.Named.{items_in}
 use Rattle.condition_codegen.specs.Fragments.{Fragment, append, sequence}
 use Rattle.condition_codegen.specs.DataCode.{works_fragment}
 use Rattle.condition_codegen.specs.ConditionCode.{condition_fragment}
 use Rattle.condition_codegen.proofs.Questions.{constant_is, told_is}
 use Rattle.condition_codegen.proofs.Sequences.{is_so, ends_so}
-use Rattle.condition_codegen.proofs.emitter.Emitter.emit_truths.Goals as goal
+use Rattle.condition_codegen.proofs.asked.emit_truths.Goals as goal
 
 pub returns : goal.returns
-returns c =
-    let items = items_in c.args.self.now.declarations.now in
+returns c = λ items.
     let old = c.args.code.now in
     let result = c.emit_negation.result in
     let new = c.emit_negation.new.code in
