@@ -22,8 +22,7 @@ pub fn emit_accept(
         (spec.accept_fragment (items_in emitter.now.declarations.now) receiver.now code.old)) }
 {
     emitter.emit_reference(code, receiver)?;
-    code.instructions.push(Instruction::Accept)?;
-    Ok(())
+    code.instructions.push(Instruction::Accept)
 }
 
 /// ACCEPT FROM DATE, after its `tick`.
@@ -37,6 +36,5 @@ pub fn emit_date(
         (spec.date_fragment (items_in emitter.now.declarations.now) receiver.now code.old)) }
 {
     emitter.emit_reference(code, receiver)?;
-    code.instructions.push(Instruction::Date)?;
-    Ok(())
+    code.instructions.push(Instruction::Date)
 }

@@ -73,16 +73,16 @@ fn emit_subtracted(code: &mut Code, scale: u8, keep: bool) -> Result<(), AllocEr
     ensures { OnOk result (code.new ≡ append code.old (works_fragment (i.Calculate (c.Truncate
         scale) ∷ i.Calculate c.Multiply ∷ i.Calculate c.Subtract ∷ spec.void_code keep) code.old)) }
 {
-    emit_work(
-        code,
-        DataInstruction::Calculate(Calculation::Truncate { scale }),
-    )?;
-    emit_work(code, operator_code(Operator::Multiply))?;
-    emit_work(code, operator_code(Operator::Subtract))?;
+    let truncate = DataInstruction::Calculate(Calculation::Truncate { scale });
+    let multiply = operator_code(Operator::Multiply);
+    let subtract = operator_code(Operator::Subtract);
     if keep {
-        emit_work(code, DataInstruction::VoidIfTrue)?;
+        return emit_works(
+            code,
+            &[truncate, multiply, subtract, DataInstruction::VoidIfTrue],
+        );
     }
-    Ok(())
+    emit_works(code, &[truncate, multiply, subtract])
 }
 
 /// The newest number, stored. `keep`: there is an ON SIZE ERROR phrase.

@@ -1,28 +1,37 @@
 //! The code of DISPLAY (COBOL-85, Nucleus, "The DISPLAY statement").
 
-ghost use Rattle.std.specs.Prelude.{◌≡◌, [], OnOk};
+ghost use Rattle.std.specs.Prelude.{◌≡◌, ◌++◌, [], ◌∷◌, length, IfOk, OnOk};
 ghost use Rattle.source_tree.specs.TextRules.{shown_rules, display_rules};
 ghost use Rattle.declarations.specs.Named.{items_in};
 ghost use Rattle.condition_codegen.specs.Fragments.{append};
 ghost use Rattle.condition_codegen.specs.DataCode as spec;
 
 use code_image::{Code, Instruction};
-use condition_codegen::{Emitter, entry_number, line_end, literal_text};
+use condition_codegen::{Emitter, emit_work, entry_number, line_end, literal_text};
 use data_instructions::{DataInstruction, TextIndex};
 use source_tree::Operand;
 use sqlite_items::Items;
 use std::alloc::{AllocError, Global};
 
+/// A text, in the table of texts. Answers its number there.
+pub(crate) fn put_text(code: &mut Code, bytes: Items<u8>) -> Result<TextIndex, AllocError>
+    ensures code { OnOk result (code.new ≡ record code.old {
+      tables = record code.old.tables { texts = code.old.tables.texts ++ bytes ∷ [] };
+    }) }
+    ensures index { IfOk result
+        (λ index. index ≡ record { number = length code.old.tables.texts }) }
+{
+    let number = entry_number(code.tables.texts.len())?;
+    code.tables.texts.push(bytes)?;
+    Ok(TextIndex { number })
+}
+
 /// A text, added to the line.
 pub(crate) fn emit_text(code: &mut Code, bytes: Items<u8>) -> Result<(), AllocError>
     ensures { OnOk result (code.new ≡ append code.old (spec.text_fragment bytes code.old)) }
 {
-    let number = entry_number(code.tables.texts.len())?;
-    code.tables.texts.push(bytes)?;
-    let text = TextIndex { number };
-    code.instructions
-        .push(Instruction::Data(DataInstruction::AppendLiteral { text }))?;
-    Ok(())
+    let text = put_text(code, bytes)?;
+    emit_work(code, DataInstruction::AppendLiteral { text })
 }
 
 /// DISPLAY of operands, after its `tick`.
@@ -55,8 +64,7 @@ fn emit_line_end(alloc: Global, code: &mut Code, advancing: bool) -> Result<(), 
 fn emit_show(code: &mut Code) -> Result<(), AllocError>
     ensures { OnOk result (code.new ≡ append code.old (spec.show_fragment code.old)) }
 {
-    code.instructions.push(Instruction::Show)?;
-    Ok(())
+    code.instructions.push(Instruction::Show)
 }
 
 /// An operand, added to the line.

@@ -29,16 +29,14 @@ pub fn emit_file(code: &mut Code, verb: Verb, file: &ProgramFile<'_>) -> Result<
         (plain_code (instruction.File (record { number = file.now.number }) verb ∷ []))) }
 {
     let file = file_index(file)?;
-    code.instructions.push(Instruction::File { file, verb })?;
-    Ok(())
+    code.instructions.push(Instruction::File { file, verb })
 }
 
 /// Whether the last status is of this class.
 pub fn emit_test(code: &mut Code, class: StatusClass) -> Result<(), AllocError>
     ensures { OnOk result (code.new ≡ append code.old (spec.test_fragment class code.old)) }
 {
-    code.instructions.push(Instruction::TestStatus { class })?;
-    Ok(())
+    code.instructions.push(Instruction::TestStatus { class })
 }
 
 /// The code for a status that nothing takes.
@@ -53,8 +51,7 @@ pub fn emit_unheard(
     if has_status(emitter, file) {
         return Ok(());
     }
-    code.instructions.push(Instruction::Unheard)?;
-    Ok(())
+    code.instructions.push(Instruction::Unheard)
 }
 
 /// INTO: the record is taken, and moved.

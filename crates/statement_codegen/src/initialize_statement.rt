@@ -8,9 +8,10 @@ ghost use Rattle.declarations.specs.Named.{items_in};
 ghost use Rattle.condition_codegen.specs.Fragments.{append};
 ghost use Rattle.condition_codegen.specs.PatternCode as spec;
 
+use crate::display_statement::put_text;
 use code_image::Code;
-use condition_codegen::{Emitter, Overlay, emit_work, entry_number};
-use data_instructions::{DataInstruction, TextIndex};
+use condition_codegen::{Emitter, Overlay, emit_work};
+use data_instructions::DataInstruction;
 use source_tree::Reference;
 use std::alloc::AllocError;
 
@@ -84,14 +85,8 @@ fn emit_overlay(code: &mut Code, one: Overlay) -> Result<(), AllocError>
     ensures { OnOk result
         (code.new ≡ append code.old (spec.overlay_fragment one.bytes one.marks code.old)) }
 {
-    let number = entry_number(code.tables.texts.len())?;
     let Overlay { bytes, marks } = one;
-    code.tables.texts.push(bytes)?;
+    let text = put_text(code, bytes)?;
     code.tables.texts.push(marks)?;
-    emit_work(
-        code,
-        DataInstruction::Overlay {
-            text: TextIndex { number },
-        },
-    )
+    emit_work(code, DataInstruction::Overlay { text })
 }

@@ -37,12 +37,12 @@ pub fn emit_inspect(
     ensures { OnOk result (code.new ≡ append code.old
         (spec.inspect_fragment (items_in emitter.now.declarations.now) one.now code.old)) }
 {
+    emitter.emit_reference(code, &one.subject)?;
     let mut counters = Items::new(emitter.alloc);
     let mut tallying = Entries {
         line: NOTHING,
         entries: Items::new(emitter.alloc),
     };
-    emitter.emit_reference(code, &one.subject)?;
     emit_counters(
         emitter,
         code,
@@ -74,11 +74,11 @@ pub fn emit_convert(
     ensures { OnOk result (code.new ≡ append code.old
         (spec.convert_fragment (items_in emitter.now.declarations.now) one.now code.old)) }
 {
+    emitter.emit_reference(code, &one.subject)?;
     let mut made = Entries {
         line: NOTHING,
         entries: Items::new(emitter.alloc),
     };
-    emitter.emit_reference(code, &one.subject)?;
     emit_replaced_text(emitter, code, &mut made, Occurrences::All, &one.texts)?;
     let inspection = Inspection {
         size: made.line.size,
@@ -560,17 +560,26 @@ fn emit_characters(
     line.with(length, false)
 }
 
+/// An inspection, in the table of inspections. Answers its number there.
+fn put_inspection(code: &mut Code, one: Inspection) -> Result<InspectionIndex, AllocError>
+    ensures code { OnOk result (code.new ≡ record code.old {
+      tables = record code.old.tables { inspections = code.old.tables.inspections ++ one ∷ [] };
+    }) }
+    ensures index { IfOk result
+        (λ index. index ≡ record { number = length code.old.tables.inspections }) }
+{
+    let number = entry_number(code.tables.inspections.len())?;
+    code.tables.inspections.push(one)?;
+    Ok(InspectionIndex { number })
+}
+
 /// The INSPECT of an inspection, after so many texts were measured.
 fn emit_inspection(code: &mut Code, one: Inspection, measured: u32) -> Result<(), AllocError>
     ensures { OnOk result (code.new
         ≡ append code.old (spec.inspection_fragment one (measured + measured) code.old)) }
 {
-    let number = entry_number(code.tables.inspections.len())?;
-    code.tables.inspections.push(one)?;
-    emit_work(
-        code,
-        inspect_by(InspectionIndex { number }, longer(measured, measured)?),
-    )
+    let inspection = put_inspection(code, one)?;
+    emit_work(code, inspect_by(inspection, longer(measured, measured)?))
 }
 
 /// The INSPECT CONVERTING of an inspection, after so many texts were measured.
@@ -578,12 +587,8 @@ fn emit_conversion(code: &mut Code, one: Inspection, measured: u32) -> Result<()
     ensures { OnOk result (code.new
         ≡ append code.old (spec.conversion_fragment one (measured + measured) code.old)) }
 {
-    let number = entry_number(code.tables.inspections.len())?;
-    code.tables.inspections.push(one)?;
-    emit_work(
-        code,
-        convert_by(InspectionIndex { number }, longer(measured, measured)?),
-    )
+    let inspection = put_inspection(code, one)?;
+    emit_work(code, convert_by(inspection, longer(measured, measured)?))
 }
 
 /// The instruction that inspects, with so many numbers.

@@ -1,20 +1,22 @@
 //! The code of STRING without its phrases (COBOL-85, Nucleus, "The STRING statement").
 
-ghost use Rattle.std.specs.Prelude.{◌≡◌, [], Some, None, OnOk};
+ghost use Rattle.std.specs.Prelude.{◌≡◌, [], Some, None, IfOk, OnOk};
 ghost use Rattle.source_tree.specs.Broken.{each};
 ghost use Rattle.source_tree.specs.NameRules.{number_rules_of};
 ghost use Rattle.source_tree.specs.StringRules.{sent_rules, delimiter_rules, sending_rules};
 ghost use Rattle.declarations.specs.Named.{items_in};
 ghost use Rattle.condition_codegen.specs.Fragments.{append, in_order};
+ghost use Rattle.source_tree.specs.Display.{shown_literal};
+ghost use Rattle.source_tree.specs.Stringing.{sent_of};
 ghost use Rattle.statement_codegen.specs.StringCode as spec;
 
-use crate::display_statement::emit_text;
+use crate::display_statement::{emit_text, put_text};
 use code_image::Code;
-use condition_codegen::{Emitter, emit_work, entry_number, literal_text};
-use data_instructions::{DataInstruction, Gather, TextIndex};
-use source_tree::{Operand, Reference, Sending};
+use condition_codegen::{Emitter, emit_work, literal_text};
+use data_instructions::{DataInstruction, Gather};
+use source_tree::{LiteralValue, Operand, Reference, Sending};
 use sqlite_items::Items;
-use std::alloc::AllocError;
+use std::alloc::{AllocError, Global};
 use text_ops::delimited;
 
 /// STRING, up to its phrases.
@@ -83,11 +85,18 @@ fn emit_cut(
             emit_up_to_text(code, Items::from_slice(emitter.alloc, delimiter)?)
         }
         Operand::Literal(literal) => {
-            let text = literal_text(emitter.alloc, &literal.value)?;
-            let cut = delimited(delimiter, text.as_slice());
-            emit_text(code, Items::from_slice(emitter.alloc, cut)?)
+            emit_text(code, cut_text(emitter.alloc, delimiter, &literal.value)?)
         }
     }
+}
+
+/// A literal up to a delimiter.
+fn cut_text(alloc: Global, delimiter: &[u8], value: &LiteralValue) -> Result<Items<u8>, AllocError>
+    ensures { IfOk result (λ bytes. bytes
+        ≡ sent_of (Some delimiter.now) (shown_literal value.now)) }
+{
+    let text = literal_text(alloc, value)?;
+    Items::from_slice(alloc, delimited(delimiter, text.as_slice()))
 }
 
 /// Senders DELIMITED BY a text, in order.
@@ -256,9 +265,7 @@ fn emit_put(
 fn emit_up_to_text(code: &mut Code, bytes: Items<u8>) -> Result<(), AllocError>
     ensures { OnOk result (code.new ≡ append code.old (spec.up_to_text_fragment bytes code.old)) }
 {
-    let number = entry_number(code.tables.texts.len())?;
-    code.tables.texts.push(bytes)?;
-    let delimiter = TextIndex { number };
+    let delimiter = put_text(code, bytes)?;
     emit_work(
         code,
         DataInstruction::Gather(Gather::UpToText { delimiter }),
@@ -270,9 +277,7 @@ fn emit_text_up_to_place(code: &mut Code, bytes: Items<u8>) -> Result<(), AllocE
     ensures { OnOk result
         (code.new ≡ append code.old (spec.text_up_to_place_fragment bytes code.old)) }
 {
-    let number = entry_number(code.tables.texts.len())?;
-    code.tables.texts.push(bytes)?;
-    let text = TextIndex { number };
+    let text = put_text(code, bytes)?;
     emit_work(
         code,
         DataInstruction::Gather(Gather::TextUpToPlace { text }),

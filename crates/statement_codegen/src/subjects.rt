@@ -103,7 +103,9 @@ fn emit_value_look(emitter: &Emitter<'_>, code: &mut Code, value: &Side) -> Resu
         return Ok(());
     }
     let zero = zero_side();
-    emitter.emit_relation(code, value, Relation::Equal, &zero)
+    let looked = emitter.emit_relation(code, value, Relation::Equal, &zero);
+    drop(zero);
+    looked
 }
 
 /// A subject is taken.

@@ -16,8 +16,8 @@ returns c =
     let value = c.args.value.now in
     let old = c.args.code.now in
     let so : c.is_faultless.result ≡ false = first_of (search rules, grind (arith, common_steps)) in
-    is_so c.emit_relation.result c.emit_relation.new.code
+    is_so c.emit_relation-looked.result c.emit_relation-looked.new.code
     (append old (relation_fragment items value Equal c.zero_side-zero.result old))
-    (append old (look_fragment items (value_look items value) old)) c.emit_relation.ensures
+    (append old (look_fragment items (value_look items value) old)) c.emit_relation-looked.ensures
     (ap (λ (zero : Side). append old (relation_fragment items value Equal zero old)) c.zero_side-zero.ensures
     ∙ ap (append old) (one_look items value old (sym c.is_faultless.ensures ∙ so)))
