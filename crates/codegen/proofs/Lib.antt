@@ -15,11 +15,13 @@ pub mod BlindStatements
 -- What the code is made from
 pub mod Meeting
 pub mod WaysMet
+mod LoopTurns
 pub mod Opening
 pub mod ByCase
 pub mod FileParts
 pub mod OnFiles
 pub mod StorageItems
+mod StorageParts
 pub mod Declared
 pub mod Varying
 -- The code of references, of statements on data and of conditions, and the machine along it

@@ -2,7 +2,6 @@
 
 ghost use Rattle.std.specs.Prelude.{◌≡◌, [], length, OnOk};
 ghost use Rattle.source_tree.specs.Broken.{each};
-ghost use Rattle.source_tree.specs.ArithmeticRules.{operation_rules};
 ghost use Rattle.source_tree.specs.EntryRules.{entry_rules};
 ghost use Rattle.source_tree.specs.Procedures.{range_of};
 ghost use Rattle.source_tree.specs.Rules as rules;
@@ -10,7 +9,7 @@ ghost use Rattle.source_tree.specs.Rules.{all_permitted};
 ghost use Rattle.declarations.specs.Named.{items_in, scope_in};
 ghost use Rattle.condition_codegen.specs.Fragments.{append, sequence, in_order};
 ghost use Rattle.codegen.specs.UntilCode.{tick_fragment};
-ghost use Rattle.codegen.specs.Layout.{data_fragment, texts_fragment, stop_run_fragment, conditional_fragment, control_fragment, range_fragment, turn_fragment, perform_fragment, phrase_fragment, phrases_fragment, arithmetic_statement_fragment, statement_fragment, sentence_fragment, start_fragment, back_fragment, paragraph_fragment, section_fragment, end_fragment};
+ghost use Rattle.codegen.specs.Layout.{data_fragment, texts_fragment, stop_run_fragment, conditional_fragment, control_fragment, range_fragment, turn_fragment, perform_fragment, phrase_fragment, phrases_fragment, statement_fragment, sentence_fragment, start_fragment, back_fragment, paragraph_fragment, section_fragment, end_fragment};
 ghost use Rattle.codegen.specs.Turns.{KeepsPerformed};
 
 use crate::evaluate_statement::emit_evaluate;
@@ -22,9 +21,8 @@ use crate::until::emit_until;
 use code_image::{Code, Instruction, ParagraphIndex};
 use condition_codegen::{Emitter, emit_branch, emit_jump, emit_meeting};
 use source_tree::{
-    Arithmetic, ConditionalStatement, ControlStatement, DataStatement, Name, Paragraph,
-    PerformStatement, Performed, Phrases, Repetition, Section, Sentence, Statement, TextStatement,
-    Verb,
+    ConditionalStatement, ControlStatement, DataStatement, Name, Paragraph, PerformStatement,
+    Performed, Phrases, Repetition, Section, Sentence, Statement, TextStatement, Verb,
 };
 use sqlite_items::Items;
 use statement_codegen::{
@@ -36,16 +34,14 @@ use std::alloc::AllocError;
 pub(crate) fn emit_tick(code: &mut Code, line: u32) -> Result<(), AllocError>
     ensures { OnOk result (code.new ≡ append code.old (tick_fragment line code.old)) }
 {
-    code.instructions.push(Instruction::Tick { line })?;
-    Ok(())
+    code.instructions.push(Instruction::Tick { line })
 }
 
 // The end of the last paragraph.
 pub(crate) fn emit_end(code: &mut Code) -> Result<(), AllocError>
     ensures { OnOk result (code.new ≡ append code.old end_fragment) }
 {
-    code.instructions.push(Instruction::Stop)?;
-    Ok(())
+    code.instructions.push(Instruction::Stop)
 }
 
 /// The phrases, where one stands.
@@ -158,9 +154,8 @@ pub(crate) fn emit_sections(
 fn emit_stop_run(code: &mut Code, line: u32) -> Result<(), AllocError>
     ensures { OnOk result (code.new ≡ append code.old (stop_run_fragment line code.old)) }
 {
-    code.instructions.push(Instruction::Tick { line })?;
-    code.instructions.push(Instruction::Stop)?;
-    Ok(())
+    emit_tick(code, line)?;
+    emit_end(code)
 }
 
 fn emit_ending(code: &mut Code, line: u32, one: ControlStatement) -> Result<(), AllocError>
@@ -176,8 +171,7 @@ fn emit_start(code: &mut Code) -> Result<(), AllocError>
     ensures { OnOk result (code.new ≡ append code.old (start_fragment code.old)) }
 {
     let start = code.instructions.len();
-    code.starts.push(start)?;
-    Ok(())
+    code.starts.push(start)
 }
 
 /// The end of the code paragraph of this number.
@@ -185,8 +179,7 @@ fn emit_back(code: &mut Code, number: usize) -> Result<(), AllocError>
     ensures { OnOk result (code.new ≡ append code.old (back_fragment number code.old)) }
 {
     let paragraph = ParagraphIndex { number };
-    code.instructions.push(Instruction::Back { paragraph })?;
-    Ok(())
+    code.instructions.push(Instruction::Back { paragraph })
 }
 
 /// The code paragraph of a section without paragraphs.
@@ -261,7 +254,12 @@ fn emit_statement(emitter: &Emitter<'_>, code: &mut Code, one: &Statement) -> Re
     let line = one.place.line;
     match &one.verb {
         Verb::DataStatement(moving) => emit_moving(emitter, code, line, moving),
-        Verb::Arithmetic(arithmetic) => emit_calculating(emitter, code, line, arithmetic),
+        Verb::Arithmetic(arithmetic) => {
+            emit_tick(code, line)?;
+            let keep = arithmetic.phrases.arose.is_some();
+            emit_arithmetic(emitter, code, keep, &arithmetic.operation)?;
+            emit_phrases(emitter, code, &arithmetic.phrases)
+        }
         Verb::ConditionalStatement(branching) => emit_branching(emitter, code, line, branching),
         Verb::PerformStatement(performing) => emit_performing(emitter, code, line, performing),
         Verb::TextStatement(text) => emit_texts(emitter, code, line, text),
@@ -269,30 +267,6 @@ fn emit_statement(emitter: &Emitter<'_>, code: &mut Code, one: &Statement) -> Re
         Verb::FileStatement(filing) => emit_filing(emitter, code, line, filing),
         Verb::ControlStatement(ending) => emit_ending(code, line, *ending),
     }
-}
-
-/// An arithmetic statement, with those in its phrases.
-#[cycle(statement)]
-fn emit_calculating(
-    emitter: &Emitter<'_>,
-    code: &mut Code,
-    line: u32,
-    one: &Arithmetic<Statement>,
-) -> Result<(), AllocError>
-    requires entries { entry_rules emitter.now.declarations.now.storage.now ≡ [] }
-    requires operation { operation_rules (items_in emitter.now.declarations.now) one.now.operation
-        ≡ [] }
-    requires arose { rules.phrase_rules (rules.statement_rules
-        (scope_in emitter.now.declarations.now) all_permitted) one.now.phrases.arose ≡ [] }
-    requires did_not { rules.phrase_rules (rules.statement_rules
-        (scope_in emitter.now.declarations.now) all_permitted) one.now.phrases.did_not ≡ [] }
-    ensures { OnOk result (code.new
-        ≡ append code.old (arithmetic_statement_fragment (scope_in emitter.now.declarations.now)
-        (statement_fragment (scope_in emitter.now.declarations.now)) line one.now code.old)) }
-{
-    emit_tick(code, line)?;
-    emit_arithmetic(emitter, code, one.phrases.arose.is_some(), &one.operation)?;
-    emit_phrases(emitter, code, &one.phrases)
 }
 
 /// IF or EVALUATE, with its `tick` and the statements in it.
@@ -382,18 +356,7 @@ fn emit_range(
             number: range.first,
         },
         last: ParagraphIndex { number: range.last },
-    })?;
-    Ok(())
-}
-
-fn emit_sentence(emitter: &Emitter<'_>, code: &mut Code, one: &Sentence) -> Result<(), AllocError>
-    requires entries { entry_rules emitter.now.declarations.now.storage.now ≡ [] }
-    requires rules { rules.sentence_rules (scope_in emitter.now.declarations.now) all_permitted
-        one.now ≡ [] }
-    ensures { OnOk result (code.new ≡ append code.old
-        (sentence_fragment (scope_in emitter.now.declarations.now) one.now code.old)) }
-{
-    emit_statements(emitter, code, one.statements.as_slice())
+    })
 }
 
 fn emit_sentences(
@@ -408,22 +371,9 @@ fn emit_sentences(
         (in_order (sentence_fragment (scope_in emitter.now.declarations.now)) all.now code.old)) }
 {
     for one in all {
-        emit_sentence(emitter, code, one)?;
+        emit_statements(emitter, code, one.statements.as_slice())?;
     }
     Ok(())
-}
-
-fn emit_paragraph(emitter: &Emitter<'_>, code: &mut Code, one: &Paragraph) -> Result<(), AllocError>
-    requires entries { entry_rules emitter.now.declarations.now.storage.now ≡ [] }
-    requires rules { rules.paragraph_rules (scope_in emitter.now.declarations.now) all_permitted
-        one.now ≡ [] }
-    ensures { OnOk result (code.new ≡ append code.old
-        (paragraph_fragment (scope_in emitter.now.declarations.now) one.now code.old)) }
-{
-    let number = code.starts.len();
-    emit_start(code)?;
-    emit_sentences(emitter, code, one.sentences.as_slice())?;
-    emit_back(code, number)
 }
 
 fn emit_paragraphs(
@@ -438,7 +388,10 @@ fn emit_paragraphs(
         (in_order (paragraph_fragment (scope_in emitter.now.declarations.now)) all.now code.old)) }
 {
     for one in all {
-        emit_paragraph(emitter, code, one)?;
+        let number = code.starts.len();
+        emit_start(code)?;
+        emit_sentences(emitter, code, one.sentences.as_slice())?;
+        emit_back(code, number)?;
     }
     Ok(())
 }

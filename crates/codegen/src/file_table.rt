@@ -44,6 +44,8 @@ fn clause_index(number: Option<usize>) -> Result<Option<ItemIndex>, AllocError>
 fn code_file(alloc: Global, file: &ProgramFile<'_>) -> Result<CodeFile, AllocError>
     ensures { IfOk result (λ code. code ≡ code_in file.now) }
 {
+    let relative_key = clause_index(file.relative_key)?;
+    let status = clause_index(file.status)?;
     let name = Items::from_slice(alloc, file.select.assigned.characters.as_slice())?;
     let alternates = Items::from_slice(alloc, file.alternates.as_slice())?;
     Ok(CodeFile {
@@ -54,7 +56,7 @@ fn code_file(alloc: Global, file: &ProgramFile<'_>) -> Result<CodeFile, AllocErr
         access: file.select.access,
         optional: file.select.optional,
         area: file.area,
-        relative_key: clause_index(file.relative_key)?,
-        status: clause_index(file.status)?,
+        relative_key,
+        status,
     })
 }

@@ -30,8 +30,7 @@ pub(crate) fn has_phrase(one: &Phrases<Statement>) -> bool
 pub(crate) fn emit_way_back(code: &mut Code, to: usize) -> Result<(), AllocError>
     ensures { OnOk result (code.new ≡ append code.old (branch_code to)) }
 {
-    code.instructions.push(Instruction::Branch { to })?;
-    Ok(())
+    code.instructions.push(Instruction::Branch { to })
 }
 
 /// All ways meet, the last ones first.

@@ -55,6 +55,11 @@ fn program_code(
         alloc,
         declarations,
     };
-    emit_sections(&emitter, &mut code, program.sections.as_slice())?;
-    Ok(code)
+    match emit_sections(&emitter, &mut code, program.sections.as_slice()) {
+        Ok(()) => Ok(code),
+        Err(error) => {
+            drop(code);
+            Err(error)
+        }
+    }
 }

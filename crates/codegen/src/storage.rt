@@ -34,12 +34,19 @@ pub(crate) fn storage_code(
     ensures { IfOk result (λ code. code ≡ spec.storage_with (program_areas program.now)
         (items_in declarations.now) declarations.now.selects.now (files_in declarations.now)) }
 {
-    Ok(Code {
-        tables: storage_tables(alloc, program, declarations)?,
-        files: code_files(alloc, declarations)?,
-        starts: Items::new(alloc),
-        instructions: Items::new(alloc),
-    })
+    let files = code_files(alloc, declarations)?;
+    match storage_tables(alloc, program, declarations) {
+        Ok(tables) => Ok(Code {
+            tables,
+            files,
+            starts: Items::new(alloc),
+            instructions: Items::new(alloc),
+        }),
+        Err(error) => {
+            drop(files);
+            Err(error)
+        }
+    }
 }
 
 fn editing_of(one: &PlacedItem) -> Result<Option<Picture>, AllocError>
@@ -161,13 +168,19 @@ fn storage_tables(
     ensures { IfOk result (λ tables. tables ≡ spec.tables_with (program_areas program.now)
         (items_in declarations.now) (files_in declarations.now)) }
 {
-    let InitialStorage { areas } = InitialStorage::of(alloc, program)?;
-    Ok(DataTables {
-        areas,
-        items: storage_items(alloc, declarations)?,
-        numbers: Items::new(alloc),
-        senders: Items::new(alloc),
-        texts: Items::new(alloc),
-        inspections: Items::new(alloc),
-    })
+    let initial = InitialStorage::of(alloc, program)?;
+    match storage_items(alloc, declarations) {
+        Ok(items) => Ok(DataTables {
+            areas: initial.areas,
+            items,
+            numbers: Items::new(alloc),
+            senders: Items::new(alloc),
+            texts: Items::new(alloc),
+            inspections: Items::new(alloc),
+        }),
+        Err(error) => {
+            drop(initial);
+            Err(error)
+        }
+    }
 }

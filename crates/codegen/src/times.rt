@@ -8,7 +8,7 @@ ghost use Rattle.source_tree.specs.Rules.{integer_item};
 ghost use Rattle.declarations.specs.Named.{items_in, scope_in};
 ghost use Rattle.condition_codegen.specs.Fragments.{append, sequence};
 ghost use Rattle.condition_codegen.specs.DataCode.{take_fragment};
-ghost use Rattle.codegen.specs.Layout.{loop_begin, count_begin, turn_end, counted_turn, times_fragment, counted_fragment, turn_fragment, statement_fragment};
+ghost use Rattle.codegen.specs.Layout.{loop_begin, count_begin, turn_end, times_fragment, counted_fragment, turn_fragment, statement_fragment};
 ghost use Rattle.codegen.specs.Turns.{KeepsPerformed};
 ghost use Rattle.data_instructions.specs.declared.instruction.DataInstruction.TheVariants as i;
 
@@ -51,7 +51,9 @@ pub(crate) fn emit_times(
         return Ok(());
     }
     let begin = emit_loop_begin(code, count - 1)?;
-    emit_counted_turn(emitter, code, line, begin, one)
+    let to = code.instructions.len();
+    emit_turn(emitter, code, line, one)?;
+    emit_turn_end(code, begin, to)
 }
 
 /// As many turns as an item says.
@@ -75,7 +77,9 @@ pub(crate) fn emit_counted(
     emitter.emit_taking(code, DataInstruction::Push, item)?;
     let begin = emit_count_begin(code)?;
     let branch = emit_branch(code)?;
-    emit_counted_turn(emitter, code, line, begin, one)?;
+    let to = code.instructions.len();
+    emit_turn(emitter, code, line, one)?;
+    emit_turn_end(code, begin, to)?;
     let other = emit_jump(code)?;
     emit_meeting(code, branch, other)
 }
@@ -112,26 +116,5 @@ fn emit_turn_end(code: &mut Code, begin: usize, to: usize) -> Result<(), AllocEr
     code.instructions.push(Instruction::Turn {
         counter: CounterIndex { number: begin },
         to,
-    })?;
-    Ok(())
-}
-
-/// The turns of the loop that begins at this address.
-#[cycle(statement)]
-fn emit_counted_turn(
-    emitter: &Emitter<'_>,
-    code: &mut Code,
-    line: u32,
-    begin: usize,
-    one: &Performed<Statement>,
-) -> Result<(), AllocError>
-    requires entries { entry_rules emitter.now.declarations.now.storage.now ≡ [] }
-    requires rules { KeepsPerformed emitter.now.declarations.now one.now }
-    ensures { OnOk result (code.new ≡ append
-        code.old (counted_turn begin (turn_fragment (scope_in emitter.now.declarations.now)
-        (statement_fragment (scope_in emitter.now.declarations.now)) line one.now) code.old)) }
-{
-    let to = code.instructions.len();
-    emit_turn(emitter, code, line, one)?;
-    emit_turn_end(code, begin, to)
+    })
 }

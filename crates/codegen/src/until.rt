@@ -100,7 +100,7 @@ fn emit_onward(
     emit_meeting(code, branch, other)
 }
 
-/// The test stands before the first turn.
+/// The test stands before the first turn, and at the end of each.
 #[cycle(statement)]
 fn emit_until_before(
     emitter: &Emitter<'_>,
@@ -121,34 +121,12 @@ fn emit_until_before(
     emitter.emit_condition(code, &one.condition)?;
     let branch = emit_branch(code)?;
     let other = emit_jump(code)?;
-    emit_turn_before(emitter, code, line, one, performed)?;
-    emit_meeting(code, branch, other)
-}
-
-/// A turn, with the test at its end.
-#[cycle(statement)]
-fn emit_turn_before(
-    emitter: &Emitter<'_>,
-    code: &mut Code,
-    line: u32,
-    one: &Until,
-    performed: &Performed<Statement>,
-) -> Result<(), AllocError>
-    requires entries { entry_rules emitter.now.declarations.now.storage.now ≡ [] }
-    requires turns { until_rules (items_in emitter.now.declarations.now) one.now ≡ [] }
-    requires rules { KeepsPerformed emitter.now.declarations.now performed.now }
-    ensures { OnOk result (code.new ≡ append
-        code.old (spec.repetition_fragment (turn_fragment (scope_in emitter.now.declarations.now)
-        (statement_fragment (scope_in emitter.now.declarations.now)) line performed.now)
-        (sequence (spec.vary_on_fragment (items_in emitter.now.declarations.now) one.now.varying)
-        (condition_fragment (items_in emitter.now.declarations.now) one.now.condition))
-        code.old)) }
-{
     let begin = code.instructions.len();
     emit_turn(emitter, code, line, performed)?;
     emit_vary_on(emitter, code, &one.varying)?;
     emitter.emit_condition(code, &one.condition)?;
-    emit_way_back(code, begin)
+    emit_way_back(code, begin)?;
+    emit_meeting(code, branch, other)
 }
 
 /// The test follows what is performed.

@@ -4,7 +4,7 @@ use Rattle.records.specs.declared.verb.Verb.{Verb}
 use Rattle.records.specs.declared.verb.Verb.TheVariants as file_verb
 use Rattle.source_tree.specs.declared.name.Name.{Name}
 use Rattle.source_tree.specs.declared.statement.Verb.TheVariants as family
-use Rattle.source_tree.specs.declared.statement.Statement.{Statement, the_lemmas}
+use Rattle.source_tree.specs.declared.statement.Statement.{Statement, out-Statement, the_lemmas}
 use Rattle.source_tree.specs.declared.phrases.FilePhrases.TheVariants as file_phrases
 use Rattle.source_tree.specs.declared.file_statement.Opening.{Opening}
 use Rattle.source_tree.specs.declared.file_statement.FileStatement.{FileStatement}
@@ -56,7 +56,7 @@ use Rattle.codegen.specs.UntilCode.{until_from_fragment, until_fragment, vary_be
 use Rattle.statement_codegen.specs.FileCode.{file_fragment, test_fragment, unheard_fragment, on_file_fragment}
 use Rattle.statement_codegen.specs.FileCode.{into_fragment, from_fragment, on_name_fragment}
 use Rattle.statement_codegen.specs.SubjectCode.{first_object, subjects_fragment}
-use Rattle.codegen.specs.Layout.{turn_end, count_begin, counted_turn, counted_fragment, turns_fragment, turn_fragment}
+use Rattle.codegen.specs.Layout.{count_begin, counted_turn, counted_fragment, turns_fragment, turn_fragment}
 use Rattle.codegen.specs.Layout.{times_fragment, evaluate_fragment}
 use Rattle.codegen.specs.Layout.{phrase_fragment, phrases_fragment, selection_fragment, conditional_fragment}
 use Rattle.codegen.specs.Layout.{taken_fragment, success_fragment, failure_fragment, status_fragment}
@@ -78,6 +78,7 @@ use Rattle.statement_codegen.proofs.FilingKept.{record_names_one, record_from_ke
 use Rattle.codegen.proofs.OnFiles.{none_found, one_found}
 use Rattle.condition_codegen.proofs.WaysMet.{ways_met, head_met, heads_met, and_met, or_met}
 use Rattle.codegen.proofs.WaysMet.{turn_met, way_opened, ends_within}
+use Rattle.codegen.proofs.LoopTurns.{counted_is, counted_from, turn_repeats}
 use Rattle.codegen.proofs.+statement.Goals as goal
 
 pub emit::emit_statement-emit_moving-requires-clause-rules : goal.emit::emit_statement-emit_moving-requires-clause-rules
@@ -85,20 +86,6 @@ emit::emit_statement-emit_moving-requires-clause-rules t c =
     let scope = scope_in c.args.emitter.now.declarations.now in
     sym (ap (verb_rules scope all_permitted (statement_rules scope all_permitted)) c.in-DataStatement.is)
     ∙ sym (layers.statement_is scope all_permitted c.args.one.now) ∙ c.requires.rules
-
-pub emit::emit_statement-emit_calculating-requires : goal.emit::emit_statement-emit_calculating-requires
-emit::emit_statement-emit_calculating-requires t c =
-    let scope = scope_in c.args.emitter.now.declarations.now in
-    let one = c.in-Arithmetic.arithmetic in
-    let inside = statement_rules scope all_permitted in
-    let r : arithmetic_rules scope.items inside one ≡ [] =
-    sym (ap (verb_rules scope all_permitted inside) c.in-Arithmetic.is)
-    ∙ sym (layers.statement_is scope all_permitted c.args.one.now) ∙ c.requires.rules in
-    let kept = phrases_kept (operation_rules scope.items one.operation) (phrase_rules inside one.phrases.arose)
-    (phrase_rules inside one.phrases.did_not) r in (
-      search (rules, the_lemmas),
-      (c.requires.entries, (kept.0, (kept.1, kept.2))),
-    )
 
 pub emit::emit_statement-emit_stringing-requires : goal.emit::emit_statement-emit_stringing-requires
 emit::emit_statement-emit_stringing-requires t c =
@@ -140,12 +127,6 @@ emit::emit_statement-returns-in-DataStatement t c =
     statement_so c.emit_moving.result (scope_in c.args.emitter.now.declarations.now) c.args.one.now
     (family.DataStatement c.in-DataStatement.moving) c.args.code.now c.emit_moving.new.code c.in-DataStatement.is
     c.emit_moving.ensures
-
-pub emit::emit_statement-returns-in-Arithmetic : goal.emit::emit_statement-returns-in-Arithmetic
-emit::emit_statement-returns-in-Arithmetic t c =
-    statement_so c.emit_calculating.result (scope_in c.args.emitter.now.declarations.now) c.args.one.now
-    (family.Arithmetic c.in-Arithmetic.arithmetic) c.args.code.now c.emit_calculating.new.code c.in-Arithmetic.is
-    c.emit_calculating.ensures
 
 pub emit::emit_statement-returns-in-ConditionalStatement : goal.emit::emit_statement-returns-in-ConditionalStatement
 emit::emit_statement-returns-in-ConditionalStatement t c =
@@ -286,24 +267,6 @@ emit::emit_turn-returns-in_ok-emit_tick-in-Statements t c =
     (ends_so c.emit_statements.result (tick_fragment c.args.line) (in_order inside c.as_slice.result.now) old
     c.emit_tick.new.code new c.in_ok-emit_tick-in-Statements.ensures c.emit_statements.ensures)
 
-pub emit::emit_calculating-emit_phrases-requires : goal.emit::emit_calculating-emit_phrases-requires
-emit::emit_calculating-emit_phrases-requires t c =
-    (omega (arith, c.decreases), (c.requires.entries, (c.requires.arose, c.requires.did_not)))
-
-pub emit::emit_calculating-returns : goal.emit::emit_calculating-returns
-emit::emit_calculating-returns t c =
-    let scope = scope_in c.args.emitter.now.declarations.now in
-    let one = c.args.one.now in
-    let ticked = c.emit_tick.new.code in
-    three_so c.emit_phrases.result (tick_fragment c.args.line)
-    (arithmetic_fragment scope.items (is_there one.phrases.arose) one.operation)
-    (phrases_fragment scope (statement_fragment scope) one.phrases) c.args.code.now ticked c.emit_arithmetic.new.code
-    c.emit_phrases.new.code c.in_ok-emit_tick.ensures
-    (c.in_ok-emit_arithmetic.ensures ∙ ap (λ keep.
-    append ticked (arithmetic_fragment scope.items keep one.operation ticked))
-    (c.is_some.ensures ∙ same_there one.phrases.arose))
-    c.emit_phrases.ensures
-
 pub emit::emit_statement-emit_performing-requires : goal.emit::emit_statement-emit_performing-requires
 emit::emit_statement-emit_performing-requires t c =
     let scope = scope_in c.args.emitter.now.declarations.now in
@@ -411,72 +374,12 @@ times::emit_times-returns-then-count-eq0 t c =
     let turn = turn_fragment scope (statement_fragment scope) c.args.line c.args.one.now in
     case_without (λ (n : ℕ). times_fragment n turn) c.args.count 0 c.args.code.now c.if-count-eq0.true refl
 
-pub times::emit_times-emit_counted_turn-requires : goal.times::emit_times-emit_counted_turn-requires
-times::emit_times-emit_counted_turn-requires t c =
-    (omega (arith, c.decreases), (c.requires.entries, c.requires.rules))
-
-pub times::emit_times-returns : goal.times::emit_times-returns
-times::emit_times-returns t c =
-    let scope = scope_in c.args.emitter.now.declarations.now in
-    times_so c.emit_counted_turn.result (turn_fragment scope (statement_fragment scope) c.args.line c.args.one.now)
-    c.args.count c.in_ok-begin.begin c.args.code.now c.emit_loop_begin.new.code c.emit_counted_turn.new.code
-    (omega arith) c.in_ok-begin.ensures.code c.in_ok-begin.ensures.begin c.emit_counted_turn.ensures
-
 pub times::emit_counted-emit_taking-requires : goal.times::emit_counted-emit_taking-requires
 times::emit_counted-emit_taking-requires t c =
     record {
       rules =
           item_kept (scope_in c.args.emitter.now.declarations.now).items integer_item c.args.item.now c.requires.item;
     }
-
-pub times::emit_counted-emit_counted_turn-requires : goal.times::emit_counted-emit_counted_turn-requires
-times::emit_counted-emit_counted_turn-requires t c =
-    (omega (arith, c.decreases), (c.requires.entries, c.requires.rules))
-
-pub times::emit_counted-emit_meeting-requires : goal.times::emit_counted-emit_meeting-requires
-times::emit_counted-emit_meeting-requires t c =
-    let scope = scope_in c.args.emitter.now.declarations.now in
-    let turn = turn_fragment scope (statement_fragment scope) c.args.line c.args.one.now in
-    let middle = c.emit_jump.new.code in
-    let way = ends_within (counted_turn c.in_ok-begin.begin turn) nothing_fragment c.emit_count_begin.new.code
-    c.emit_branch.new.code c.emit_counted_turn.new.code middle middle c.in_ok-branch.branch c.in_ok-other.other
-    c.in_ok-branch.ensures.code c.in_ok-branch.ensures.address c.in_ok-emit_counted_turn.ensures
-    c.in_ok-other.ensures.code c.in_ok-other.ensures.other (sym (joined_nothing middle)) in
-    record { branch = way.branch; jump = way.jump; other = way.other }
-
-pub times::emit_counted-returns : goal.times::emit_counted-returns
-times::emit_counted-returns t c =
-    let scope = scope_in c.args.emitter.now.declarations.now in
-    let found = c.emit_taking.new.code in
-    let branched = c.emit_branch.new.code in
-    let turn = turn_fragment scope (statement_fragment scope) c.args.line c.args.one.now in
-    on_ok c.emit_meeting.result
-    (and_met c.emit_meeting.result count_begin (counted_turn (length found.instructions) turn) found
-    c.emit_count_begin.new.code branched c.emit_counted_turn.new.code c.emit_jump.new.code c.emit_meeting.new.code
-    c.in_ok-branch.branch c.in_ok-other.other c.in_ok-begin.ensures.code c.in_ok-branch.ensures.code
-    c.in_ok-branch.ensures.address (c.in_ok-emit_counted_turn.ensures
-    ∙ ap (λ n. append branched (counted_turn n turn branched)) c.in_ok-begin.ensures.begin)
-    c.in_ok-other.ensures.code c.in_ok-other.ensures.other c.emit_meeting.ensures)
-    (then_piece (take_fragment scope.items i.Push c.args.item.now) (counted_fragment turn) c.args.code.now found
-    c.emit_meeting.new.code c.in_ok-emit_taking.ensures)
-
-pub times::emit_counted_turn-emit_turn-requires : goal.times::emit_counted_turn-emit_turn-requires
-times::emit_counted_turn-emit_turn-requires t c =
-    (omega (arith, c.decreases), (c.requires.entries, c.requires.rules))
-
-pub times::emit_counted_turn-returns : goal.times::emit_counted_turn-returns
-times::emit_counted_turn-returns t c =
-    let scope = scope_in c.args.emitter.now.declarations.now in
-    let old = c.args.code.now in
-    let result = c.emit_turn_end.result in
-    let new = c.emit_turn_end.new.code in
-    let begin = c.args.begin in
-    let turn = turn_fragment scope (statement_fragment scope) c.args.line c.args.one.now in
-    is_so result new (append old (sequence turn (λ b. turn_end begin c.len-to.result) old))
-    (append old (counted_turn begin turn old))
-    (ends_so result turn (λ b. turn_end begin c.len-to.result) old c.emit_turn.new.code new c.in_ok-emit_turn.ensures
-    c.emit_turn_end.ensures)
-    (ap (λ n. append old (sequence turn (λ b. turn_end begin n) old)) c.len-to.ensures)
 
 pub emit::emit_statement-emit_texts-requires : goal.emit::emit_statement-emit_texts-requires
 emit::emit_statement-emit_texts-requires t c =
@@ -776,66 +679,6 @@ until::emit_until_before-emit_condition-requires-clause-rules t c =
     let scope = scope_in c.args.emitter.now.declarations.now in
     back_kept (varying_rules scope.items c.args.one.now.varying) (condition_rules scope.items c.args.one.now.condition)
     c.requires.turns
-
-pub until::emit_until_before-emit_turn_before-requires : goal.until::emit_until_before-emit_turn_before-requires
-until::emit_until_before-emit_turn_before-requires t c =
-    (omega (arith, c.decreases), (c.requires.entries, (c.requires.turns, c.requires.rules)))
-
-pub until::emit_until_before-emit_meeting-requires : goal.until::emit_until_before-emit_meeting-requires
-until::emit_until_before-emit_meeting-requires t c =
-    let scope = scope_in c.args.emitter.now.declarations.now in
-    let test = condition_fragment scope.items c.args.one.now.condition in
-    let turn = turn_fragment scope (statement_fragment scope) c.args.line c.args.performed.now in
-    let begun = c.emit_branch.new.code in
-    let way = ends_within nothing_fragment
-    (repetition_fragment turn (sequence (vary_on_fragment scope.items c.args.one.now.varying) test))
-    c.emit_condition.new.code begun begun c.emit_jump.new.code c.emit_turn_before.new.code c.in_ok-branch.branch
-    c.in_ok-other.other c.in_ok-branch.ensures.code c.in_ok-branch.ensures.address (sym (joined_nothing begun))
-    c.in_ok-other.ensures.code c.in_ok-other.ensures.other c.in_ok-emit_turn_before.ensures in
-    record { branch = way.branch; jump = way.jump; other = way.other }
-
-pub until::emit_until_before-returns : goal.until::emit_until_before-returns
-until::emit_until_before-returns t c =
-    let scope = scope_in c.args.emitter.now.declarations.now in
-    let test = condition_fragment scope.items c.args.one.now.condition in
-    let turn = turn_fragment scope (statement_fragment scope) c.args.line c.args.performed.now in
-    or_met c.emit_meeting.result test
-    (repetition_fragment turn (sequence (vary_on_fragment scope.items c.args.one.now.varying) test)) c.args.code.now
-    c.emit_condition.new.code c.emit_branch.new.code c.emit_jump.new.code c.emit_turn_before.new.code
-    c.emit_meeting.new.code c.in_ok-branch.branch c.in_ok-other.other c.in_ok-emit_condition.ensures
-    c.in_ok-branch.ensures.code c.in_ok-branch.ensures.address c.in_ok-other.ensures.code
-    c.in_ok-other.ensures.other c.in_ok-emit_turn_before.ensures c.emit_meeting.ensures
-
-pub until::emit_turn_before-emit_turn-requires : goal.until::emit_turn_before-emit_turn-requires
-until::emit_turn_before-emit_turn-requires t c =
-    (omega (arith, c.decreases), (c.requires.entries, c.requires.rules))
-
-pub until::emit_turn_before-emit_vary_on-requires : goal.until::emit_turn_before-emit_vary_on-requires
-until::emit_turn_before-emit_vary_on-requires t c =
-    let scope = scope_in c.args.emitter.now.declarations.now in
-    record {
-      rules = front_kept (varying_rules scope.items c.args.one.now.varying)
-          (condition_rules scope.items c.args.one.now.condition)
-          c.requires.turns;
-    }
-
-pub until::emit_turn_before-emit_condition-requires-clause-rules :
-    goal.until::emit_turn_before-emit_condition-requires-clause-rules
-until::emit_turn_before-emit_condition-requires-clause-rules t c =
-    let scope = scope_in c.args.emitter.now.declarations.now in
-    back_kept (varying_rules scope.items c.args.one.now.varying) (condition_rules scope.items c.args.one.now.condition)
-    c.requires.turns
-
-pub until::emit_turn_before-returns : goal.until::emit_turn_before-returns
-until::emit_turn_before-returns t c =
-    let scope = scope_in c.args.emitter.now.declarations.now in
-    let one = c.args.one.now in
-    turn_met c.emit_way_back.result
-    (turn_fragment scope (statement_fragment scope) c.args.line c.args.performed.now)
-    (vary_on_fragment scope.items one.varying) (condition_fragment scope.items one.condition) c.len-begin.result
-    c.args.code.now c.emit_turn.new.code c.emit_vary_on.new.code c.emit_condition.new.code c.emit_way_back.new.code
-    c.len-begin.ensures c.in_ok-emit_turn.ensures c.in_ok-emit_vary_on.ensures c.in_ok-emit_condition.ensures
-    c.emit_way_back.ensures
 
 pub until::emit_until_after-emit_turn-requires : goal.until::emit_until_after-emit_turn-requires
 until::emit_until_after-emit_turn-requires t c =
@@ -1376,3 +1219,143 @@ string_statement::emit_stringing-returns t c =
     (c.in_ok-emit_string.ensures ∙ ap (λ (all : List Sending).
     append ticked (string_fragment scope.items all one.receiver one.pointer ticked)) c.as_slice.ensures)
     c.emit_phrases.ensures
+
+pub emit::emit_statement-emit_arithmetic-requires : goal.emit::emit_statement-emit_arithmetic-requires
+emit::emit_statement-emit_arithmetic-requires t c =
+    let scope = scope_in c.args.emitter.now.declarations.now in
+    let one = c.in-Arithmetic.arithmetic in
+    let inside = statement_rules scope all_permitted in
+    let r : arithmetic_rules scope.items inside one ≡ [] =
+    sym (ap (verb_rules scope all_permitted inside) c.in-Arithmetic.is)
+    ∙ sym (layers.statement_is scope all_permitted c.args.one.now) ∙ c.requires.rules in
+    let kept = phrases_kept (operation_rules scope.items one.operation) (phrase_rules inside one.phrases.arose)
+    (phrase_rules inside one.phrases.did_not) r in
+    record { rules = kept.0 }
+
+pub emit::emit_statement-emit_phrases-requires : goal.emit::emit_statement-emit_phrases-requires
+emit::emit_statement-emit_phrases-requires t c =
+    let scope = scope_in c.args.emitter.now.declarations.now in
+    let one = c.in-Arithmetic.arithmetic in
+    let inside = statement_rules scope all_permitted in
+    let r : arithmetic_rules scope.items inside one ≡ [] =
+    sym (ap (verb_rules scope all_permitted inside) c.in-Arithmetic.is)
+    ∙ sym (layers.statement_is scope all_permitted c.args.one.now) ∙ c.requires.rules in
+    let kept = phrases_kept (operation_rules scope.items one.operation) (phrase_rules inside one.phrases.arose)
+    (phrase_rules inside one.phrases.did_not) r in
+    (search (rules, the_lemmas), (c.requires.entries, (kept.1, kept.2)))
+
+pub emit::emit_statement-returns-in_ok-emit_arithmetic-in-Arithmetic :
+    goal.emit::emit_statement-returns-in_ok-emit_arithmetic-in-Arithmetic
+emit::emit_statement-returns-in_ok-emit_arithmetic-in-Arithmetic t c =
+    let scope = scope_in c.args.emitter.now.declarations.now in
+    let one = c.in-Arithmetic.arithmetic in
+    let ticked = c.emit_tick.new.code in
+    statement_so c.emit_phrases.result scope c.args.one.now (family.Arithmetic one) c.args.code.now
+    c.emit_phrases.new.code c.in-Arithmetic.is (three_so c.emit_phrases.result (tick_fragment (out-Statement
+    c.args.one.now).place.line) (arithmetic_fragment scope.items (is_there one.phrases.arose) one.operation)
+    (phrases_fragment scope (statement_fragment scope) one.phrases) c.args.code.now ticked c.emit_arithmetic.new.code
+    c.emit_phrases.new.code c.in_ok-emit_tick-in-Arithmetic.ensures (c.in_ok-emit_arithmetic-in-Arithmetic.ensures ∙ ap
+    (λ keep. append ticked (arithmetic_fragment scope.items keep one.operation ticked)) (c.is_some-keep.ensures ∙
+    same_there one.phrases.arose)) c.emit_phrases.ensures)
+
+pub times::emit_times-emit_turn-requires : goal.times::emit_times-emit_turn-requires
+times::emit_times-emit_turn-requires t c =
+    (omega (arith, c.decreases), (c.requires.entries, c.requires.rules))
+
+pub times::emit_times-returns : goal.times::emit_times-returns
+times::emit_times-returns t c =
+    let scope = scope_in c.args.emitter.now.declarations.now in
+    let turn = turn_fragment scope (statement_fragment scope) c.args.line c.args.one.now in
+    let begun = c.emit_loop_begin.new.code in
+    let new = c.emit_turn_end.new.code in
+    times_so c.emit_turn_end.result turn c.args.count c.in_ok-begin.begin c.args.code.now begun new (omega arith)
+    c.in_ok-begin.ensures.code c.in_ok-begin.ensures.begin
+    (on_ok c.emit_turn_end.result c.emit_turn_end.ensures
+    (counted_is turn c.in_ok-begin.begin c.len-to.result begun c.emit_turn.new.code new c.len-to.ensures
+    c.in_ok-emit_turn.ensures))
+
+pub times::emit_counted-emit_turn-requires : goal.times::emit_counted-emit_turn-requires
+times::emit_counted-emit_turn-requires t c =
+    (omega (arith, c.decreases), (c.requires.entries, c.requires.rules))
+
+pub times::emit_counted-emit_meeting-requires : goal.times::emit_counted-emit_meeting-requires
+times::emit_counted-emit_meeting-requires t c =
+    let scope = scope_in c.args.emitter.now.declarations.now in
+    let turn = turn_fragment scope (statement_fragment scope) c.args.line c.args.one.now in
+    let branched = c.emit_branch.new.code in
+    let middle = c.emit_jump.new.code in
+    let made =
+    counted_is turn c.in_ok-begin.begin c.len-to.result branched c.emit_turn.new.code c.emit_turn_end.new.code
+    c.len-to.ensures c.in_ok-emit_turn.ensures c.in_ok-emit_turn_end.ensures in
+    let way = ends_within (counted_turn c.in_ok-begin.begin turn) nothing_fragment c.emit_count_begin.new.code
+    branched c.emit_turn_end.new.code middle middle c.in_ok-branch.branch c.in_ok-other.other
+    c.in_ok-branch.ensures.code c.in_ok-branch.ensures.address made
+    c.in_ok-other.ensures.code c.in_ok-other.ensures.other (sym (joined_nothing middle)) in
+    record { branch = way.branch; jump = way.jump; other = way.other }
+
+pub times::emit_counted-returns : goal.times::emit_counted-returns
+times::emit_counted-returns t c =
+    let scope = scope_in c.args.emitter.now.declarations.now in
+    let found = c.emit_taking.new.code in
+    let begin = length found.instructions in
+    let turn = turn_fragment scope (statement_fragment scope) c.args.line c.args.one.now in
+    on_ok c.emit_meeting.result (and_met c.emit_meeting.result count_begin (counted_turn begin turn) found
+    c.emit_count_begin.new.code c.emit_branch.new.code c.emit_turn_end.new.code c.emit_jump.new.code
+    c.emit_meeting.new.code c.in_ok-branch.branch c.in_ok-other.other c.in_ok-begin.ensures.code
+    c.in_ok-branch.ensures.code c.in_ok-branch.ensures.address (counted_from turn c.in_ok-begin.begin begin
+    c.len-to.result c.emit_branch.new.code c.emit_turn.new.code c.emit_turn_end.new.code c.in_ok-begin.ensures.begin
+    c.len-to.ensures c.in_ok-emit_turn.ensures c.in_ok-emit_turn_end.ensures) c.in_ok-other.ensures.code
+    c.in_ok-other.ensures.other c.emit_meeting.ensures) (then_piece (take_fragment scope.items i.Push c.args.item.now)
+    (counted_fragment turn) c.args.code.now found c.emit_meeting.new.code c.in_ok-emit_taking.ensures)
+
+pub until::emit_until_before-emit_turn-requires : goal.until::emit_until_before-emit_turn-requires
+until::emit_until_before-emit_turn-requires t c =
+    (omega (arith, c.decreases), (c.requires.entries, c.requires.rules))
+
+pub until::emit_until_before-emit_vary_on-requires : goal.until::emit_until_before-emit_vary_on-requires
+until::emit_until_before-emit_vary_on-requires t c =
+    let scope = scope_in c.args.emitter.now.declarations.now in
+    record {
+      rules = front_kept (varying_rules scope.items c.args.one.now.varying)
+          (condition_rules scope.items c.args.one.now.condition)
+          c.requires.turns;
+    }
+
+pub until::emit_until_before-emit_condition-requires-2-clause-rules :
+    goal.until::emit_until_before-emit_condition-requires-2-clause-rules
+until::emit_until_before-emit_condition-requires-2-clause-rules t c =
+    let scope = scope_in c.args.emitter.now.declarations.now in
+    back_kept (varying_rules scope.items c.args.one.now.varying) (condition_rules scope.items c.args.one.now.condition)
+    c.requires.turns
+
+pub until::emit_until_before-emit_meeting-requires : goal.until::emit_until_before-emit_meeting-requires
+until::emit_until_before-emit_meeting-requires t c =
+    let scope = scope_in c.args.emitter.now.declarations.now in
+    let test = condition_fragment scope.items c.args.one.now.condition in
+    let turn = turn_fragment scope (statement_fragment scope) c.args.line c.args.performed.now in
+    let repeated = turn_repeats turn (vary_on_fragment scope.items c.args.one.now.varying) test c.len-begin.result
+    c.emit_jump.new.code c.emit_turn.new.code c.emit_vary_on.new.code c.emit_condition-2.new.code
+    c.emit_way_back.new.code c.len-begin.ensures c.in_ok-emit_turn.ensures c.in_ok-emit_vary_on.ensures
+    c.in_ok-emit_condition-2.ensures c.in_ok-emit_way_back.ensures in
+    let way = ends_within nothing_fragment (repetition_fragment turn (sequence (vary_on_fragment scope.items
+    c.args.one.now.varying) test)) c.emit_condition.new.code c.emit_branch.new.code c.emit_branch.new.code
+    c.emit_jump.new.code c.emit_way_back.new.code c.in_ok-branch.branch c.in_ok-other.other c.in_ok-branch.ensures.code
+    c.in_ok-branch.ensures.address (sym (joined_nothing c.emit_branch.new.code)) c.in_ok-other.ensures.code
+    c.in_ok-other.ensures.other repeated in
+    record { branch = way.branch; jump = way.jump; other = way.other }
+
+pub until::emit_until_before-returns : goal.until::emit_until_before-returns
+until::emit_until_before-returns t c =
+    let scope = scope_in c.args.emitter.now.declarations.now in
+    let test = condition_fragment scope.items c.args.one.now.condition in
+    let turn = turn_fragment scope (statement_fragment scope) c.args.line c.args.performed.now in
+    let repeated = turn_repeats turn (vary_on_fragment scope.items c.args.one.now.varying) test c.len-begin.result
+    c.emit_jump.new.code c.emit_turn.new.code c.emit_vary_on.new.code c.emit_condition-2.new.code
+    c.emit_way_back.new.code c.len-begin.ensures c.in_ok-emit_turn.ensures c.in_ok-emit_vary_on.ensures
+    c.in_ok-emit_condition-2.ensures c.in_ok-emit_way_back.ensures in
+    or_met c.emit_meeting.result test
+    (repetition_fragment turn (sequence (vary_on_fragment scope.items c.args.one.now.varying) test)) c.args.code.now
+    c.emit_condition.new.code c.emit_branch.new.code c.emit_jump.new.code c.emit_way_back.new.code
+    c.emit_meeting.new.code c.in_ok-branch.branch c.in_ok-other.other c.in_ok-emit_condition.ensures
+    c.in_ok-branch.ensures.code c.in_ok-branch.ensures.address c.in_ok-other.ensures.code
+    c.in_ok-other.ensures.other repeated c.emit_meeting.ensures

@@ -37,9 +37,6 @@ decreases-times::emit_times l = 8 * goal.size-times::emit_times l + 4
 abbrev pub decreases-times::emit_counted : goal.decreases-times::emit_counted
 decreases-times::emit_counted l = 8 * goal.size-times::emit_counted l + 5
 
-abbrev pub decreases-times::emit_counted_turn : goal.decreases-times::emit_counted_turn
-decreases-times::emit_counted_turn l = 8 * goal.size-times::emit_counted_turn l + 3
-
 abbrev pub decreases-emit::emit_performing : goal.decreases-emit::emit_performing
 decreases-emit::emit_performing l = 8 * goal.size-emit::emit_performing l + 6
 
@@ -55,9 +52,6 @@ decreases-until::emit_until_before l = 8 * goal.size-until::emit_until_before l 
 abbrev pub decreases-until::emit_until_after : goal.decreases-until::emit_until_after
 decreases-until::emit_until_after l = 8 * goal.size-until::emit_until_after l + 4
 
-abbrev pub decreases-until::emit_turn_before : goal.decreases-until::emit_turn_before
-decreases-until::emit_turn_before l = 8 * goal.size-until::emit_turn_before l + 3
-
 abbrev pub decreases-emit::emit_branching : goal.decreases-emit::emit_branching
 decreases-emit::emit_branching l = 8 * goal.size-emit::emit_branching l + 5
 
@@ -66,9 +60,6 @@ decreases-emit::emit_phrase l = 8 * goal.size-emit::emit_phrase l + 2
 
 abbrev pub decreases-emit::emit_phrases : goal.decreases-emit::emit_phrases
 decreases-emit::emit_phrases l = 8 * goal.size-emit::emit_phrases l + 3
-
-abbrev pub decreases-emit::emit_calculating : goal.decreases-emit::emit_calculating
-decreases-emit::emit_calculating l = 8 * goal.size-emit::emit_calculating l + 4
 
 abbrev pub decreases-evaluate_statement::emit_evaluate : goal.decreases-evaluate_statement::emit_evaluate
 decreases-evaluate_statement::emit_evaluate l = 8 * goal.size-evaluate_statement::emit_evaluate l + 4

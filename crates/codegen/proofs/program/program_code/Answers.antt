@@ -19,7 +19,7 @@ emit_sections-requires-clause-rules c =
     sections_by c.args.program.now c.args.declarations.now c.requires.program c.as_slice.result.now c.as_slice.ensures
     (sections_kept c.args.program.now c.requires.rules)
 
-pub returns : goal.returns
-returns c =
+pub returns-in-Ok : goal.returns-in-Ok
+returns-in-Ok c =
     code_by c.args.program.now c.args.declarations.now c.requires.program c.as_slice.result.now c.in_ok-code.code
-    c.emit_sections.new.code c.as_slice.ensures c.in_ok-code.ensures c.in_ok-emit_sections.ensures
+    c.emit_sections.new.code c.as_slice.ensures c.in_ok-code.ensures c.in-Ok.ensures
