@@ -3,7 +3,8 @@
 //! Blank lines, and lines that begin with `#`, are skipped. A case begins with a row `case NAME`. A row that begins with `|` belongs to the
 //! row before. The rows between `repeat ..` and `end` are repeated.
 use crate::fault::Fault;
-use crate::repeats::{Row, put_repeated};
+use crate::repeats::put_repeated;
+use crate::rows::{Row, put_row};
 use std::alloc::{AllocError, Global};
 
 /// A case: its rows.
@@ -17,39 +18,89 @@ pub struct Case {
     body: Vec<Row>,
 }
 
-impl Case {
-    fn new(alloc: Global) -> Case {
-        Case {
-            rows: Vec::new(alloc),
-            wrong: None,
-            repeat: None,
-            body: Vec::new(alloc),
-        }
-    }
+/// The cases of a script.
+pub fn read_cases(alloc: Global, text: &[u8]) -> Result<Vec<Case>, AllocError> {
+    let mut cases = Vec::new(alloc);
+    put_lines(alloc, text, &mut cases)?;
+    Ok(cases)
+}
 
+fn put_lines(alloc: Global, text: &[u8], cases: &mut Vec<Case>) -> Result<(), AllocError> {
+    let mut line = 0u32;
+    for text in text.split(|byte| *byte == b'\n') {
+        line = line.saturating_add(1);
+        put_line(alloc, line, text, cases)?;
+    }
+    Ok(())
+}
+
+/// A line of a script belongs to its last case, or begins one. A line before the first case is skipped.
+fn put_line(
+    alloc: Global,
+    line: u32,
+    text: &[u8],
+    cases: &mut Vec<Case>,
+) -> Result<(), AllocError> {
+    if text.starts_with(b"case ") {
+        return begin_case(alloc, cases);
+    }
+    match cases.last_mut() {
+        Some(case) => case.put_line(alloc, line, text),
+        None => Ok(()),
+    }
+}
+
+fn begin_case(alloc: Global, cases: &mut Vec<Case>) -> Result<(), AllocError> {
+    cases.push(Case {
+        rows: Vec::new(alloc),
+        wrong: None,
+        repeat: None,
+        body: Vec::new(alloc),
+    })?;
+    Ok(())
+}
+
+impl Case {
     /// The rows.
     pub fn into_rows(self) -> Vec<Row> {
         let Case { rows, .. } = self;
         rows
     }
 
-    /// A further line of the row before.
-    fn put_continuation(&mut self, text: &[u8]) -> Result<(), AllocError> {
-        if let Some(row) = self.rows.last_mut() {
-            row.text.push(b'\n')?;
-            row.text.extend_from_slice(text)?;
+    /// A line of the case, which may be wrong.
+    fn put_line(&mut self, alloc: Global, line: u32, text: &[u8]) -> Result<(), AllocError> {
+        match self.put(alloc, line, text) {
+            Ok(()) => Ok(()),
+            Err(Fault::Memory) => Err(AllocError),
+            Err(_) => {
+                self.wrong = Some(line);
+                Ok(())
+            }
         }
-        Ok(())
     }
 
-    fn put_row(&mut self, alloc: Global, line: u32, text: &[u8]) -> Result<(), AllocError> {
-        let text = Vec::from_slice(alloc, text)?;
-        let row = Row { line, text };
-        if self.repeat.is_some() {
-            self.body.push(row)?;
-        } else {
-            self.rows.push(row)?;
+    fn put(&mut self, alloc: Global, line: u32, text: &[u8]) -> Result<(), Fault> {
+        match text {
+            [] | [b'#', ..] => Ok(()),
+            [b'|', ..] => self.put_continuation(text),
+            b"end" => self.end_repeat(alloc),
+            _ if text.starts_with(b"repeat ") => self.begin_repeat(alloc, text),
+            _ if self.repeat.is_some() => put_row(alloc, line, text, &mut self.body),
+            _ => put_row(alloc, line, text, &mut self.rows),
         }
+    }
+
+    /// A further line of the row before.
+    fn put_continuation(&mut self, text: &[u8]) -> Result<(), Fault> {
+        match self.rows.last_mut() {
+            Some(row) => row.put_continuation(text),
+            None => Ok(()),
+        }
+    }
+
+    fn begin_repeat(&mut self, alloc: Global, text: &[u8]) -> Result<(), Fault> {
+        let head = Vec::from_slice(alloc, text)?;
+        drop(self.repeat.replace(head));
         Ok(())
     }
 
@@ -61,42 +112,4 @@ impl Case {
         self.body.clear();
         Ok(())
     }
-
-    /// A line of the case.
-    fn put(&mut self, alloc: Global, line: u32, text: &[u8]) -> Result<(), Fault> {
-        match text {
-            [] | [b'#', ..] => {}
-            [b'|', ..] => self.put_continuation(text)?,
-            b"end" => self.end_repeat(alloc)?,
-            _ if text.starts_with(b"repeat ") => {
-                self.repeat = Some(Vec::from_slice(alloc, text)?);
-            }
-            _ => self.put_row(alloc, line, text)?,
-        }
-        Ok(())
-    }
-}
-
-/// The cases of a script.
-pub fn read_cases(alloc: Global, text: &[u8]) -> Result<Vec<Case>, AllocError> {
-    let mut cases = Vec::new(alloc);
-    let mut line = 0u32;
-    for text in text.split(|byte| *byte == b'\n') {
-        line = line.saturating_add(1);
-        if text.starts_with(b"case ") {
-            cases.push(Case::new(alloc))?;
-        } else if let Some(case) = cases.last_mut() {
-            put_line(alloc, case, line, text)?;
-        }
-    }
-    Ok(cases)
-}
-
-fn put_line(alloc: Global, case: &mut Case, line: u32, text: &[u8]) -> Result<(), AllocError> {
-    match case.put(alloc, line, text) {
-        Ok(()) => {}
-        Err(Fault::Memory) => return Err(AllocError),
-        Err(_) => case.wrong = Some(line),
-    }
-    Ok(())
 }

@@ -7,41 +7,19 @@ use std::alloc::{AllocError, Global};
 #[derive(Clone, Copy)]
 pub struct Counter {
     letter: u8,
-    value: u64,
+    start: u64,
     step: u64,
     bound: u64,
 }
 
 impl Counter {
-    /// The next turn's value.
-    pub fn go_on(&mut self) {
-        let next = self.value.wrapping_add(self.step);
-        self.value = next.checked_rem(self.bound).unwrap_or(0);
-    }
-}
-
-/// The two parts of a word at a byte.
-fn split(word: &[u8], at: u8) -> Option<(&[u8], &[u8])> {
-    let end = word.iter().position(|byte| *byte == at)?;
-    match (word.get(..end), word.get(end.wrapping_add(1)..)) {
-        (Some(front), Some(back)) => Some((front, back)),
-        _ => None,
-    }
-}
-
-fn read_counter(word: &[u8]) -> Option<Counter> {
-    let (name, rest) = split(word, b'=')?;
-    let (start, rest) = split(rest, b'+')?;
-    let (step, bound) = split(rest, b'%')?;
-    let numbers = (number_of(start), number_of(step), number_of(bound));
-    match (name, numbers) {
-        ([letter, ..], (Some(value), Some(step), Some(bound))) => Some(Counter {
-            letter: *letter,
-            value,
-            step,
-            bound,
-        }),
-        _ => None,
+    /// Its value in a turn, of which the first is 0.
+    fn value(self, turn: u64) -> u64 {
+        if turn == 0 {
+            return self.start;
+        }
+        let grown = self.start.wrapping_add(self.step.wrapping_mul(turn));
+        grown.checked_rem(self.bound).unwrap_or(0)
     }
 }
 
@@ -56,6 +34,48 @@ pub fn read_counters(alloc: Global, mut words: Words<'_>) -> Result<Vec<Counter>
         }
     }
     Ok(counters)
+}
+
+/// `NAME=START+STEP%BOUND`
+fn read_counter(word: &[u8]) -> Option<Counter> {
+    let mut parts = Words::of(word);
+    let letter = *parts.up_to(b'=').first()?;
+    let start = number_of(parts.up_to(b'+'))?;
+    let step = number_of(parts.up_to(b'%'))?;
+    let bound = number_of(parts.rest())?;
+    Some(Counter {
+        letter,
+        start,
+        step,
+        bound,
+    })
+}
+
+/// Puts a text after another, with the values of a turn in place of the counters.
+pub fn put_replaced(
+    alloc: Global,
+    turn: u64,
+    counters: &[Counter],
+    text: &[u8],
+    replaced: &mut Vec<u8>,
+) -> Result<(), AllocError> {
+    let mut skipped = 0usize;
+    for (i, byte) in text.iter().enumerate() {
+        if skipped > 0 {
+            skipped -= 1;
+        } else if let Some(counter) = counter_at(text, i, counters) {
+            put_value(alloc, counter.value(turn), replaced)?;
+            skipped = 2;
+        } else {
+            replaced.push(*byte)?;
+        }
+    }
+    Ok(())
+}
+
+fn put_value(alloc: Global, value: u64, replaced: &mut Vec<u8>) -> Result<(), AllocError> {
+    let digits = format!(in alloc; "{value:04}")?;
+    replaced.extend_from_slice(digits.as_bytes())
 }
 
 /// The counter that `{x}` names at a place of a text.
@@ -73,26 +93,4 @@ fn counter_of(letter: u8, counters: &[Counter]) -> Option<Counter> {
         }
     }
     None
-}
-
-/// A text with values in place of the counters.
-pub fn replace_counters(
-    alloc: Global,
-    text: &[u8],
-    counters: &[Counter],
-) -> Result<Vec<u8>, AllocError> {
-    let mut replaced = Vec::new(alloc);
-    let mut skipped = 0usize;
-    for (i, byte) in text.iter().enumerate() {
-        if skipped > 0 {
-            skipped -= 1;
-        } else if let Some(counter) = counter_at(text, i, counters) {
-            let value = counter.value;
-            replaced.extend_from_slice(format!(in alloc; "{value:04}")?.as_bytes())?;
-            skipped = 2;
-        } else {
-            replaced.push(*byte)?;
-        }
-    }
-    Ok(replaced)
 }

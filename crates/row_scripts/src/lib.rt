@@ -5,6 +5,7 @@ mod cases;
 mod counters;
 mod fault;
 mod repeats;
+mod rows;
 mod scripts;
 mod tally;
 mod texts;
@@ -12,7 +13,7 @@ mod words;
 
 pub use cases::Case;
 pub use fault::{Fault, if_done};
-pub use repeats::Row;
+pub use rows::Row;
 pub use scripts::{CheckCase, run_scripts};
 pub use tally::{Difference, Tally};
 pub use texts::{escape, put_text, unquote};

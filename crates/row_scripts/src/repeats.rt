@@ -1,54 +1,13 @@
 //! Rows that are repeated: those between `repeat COUNT NAME=START+STEP%BOUND ..` and `end` come COUNT times, with the value of each
 //! counter in place of `{NAME}`, in four digits. A counter begins at START and grows by STEP, below BOUND.
-use crate::counters::{Counter, read_counters, replace_counters};
+use crate::counters::{Counter, put_replaced, read_counters};
 use crate::fault::Fault;
+use crate::rows::Row;
 use crate::words::Words;
-use std::alloc::{AllocError, Global};
+use std::alloc::Global;
 
-/// A row, and the number of its line.
-#[derive(Drop)]
-pub struct Row {
-    pub line: u32,
-    pub text: Vec<u8>,
-}
-
-/// The count and the counters of a row `repeat`.
-fn read_repeat(alloc: Global, row: &[u8]) -> Result<(u64, Vec<Counter>), Fault> {
-    let mut words = Words::of(row);
-    words.word();
-    match words.number() {
-        Some(count) => Ok((count.min(1_000_000), read_counters(alloc, words)?)),
-        None => Err(Fault::Spelling("this is no repetition")),
-    }
-}
-
-/// A row as a turn has it.
-fn row_of_turn(alloc: Global, row: &Row, counters: &[Counter]) -> Result<Row, AllocError> {
-    let line = row.line;
-    let text = replace_counters(alloc, &row.text, counters)?;
-    Ok(Row { line, text })
-}
-
-/// The rows of one turn.
-fn put_turn(
-    alloc: Global,
-    body: &[Row],
-    counters: &[Counter],
-    rows: &mut Vec<Row>,
-) -> Result<(), AllocError> {
-    for row in body.iter() {
-        let row = row_of_turn(alloc, row, counters)?;
-        rows.push(row)?;
-    }
-    Ok(())
-}
-
-/// The counters get the values of the next turn.
-fn go_on(counters: &mut [Counter]) {
-    for counter in counters.iter_mut() {
-        counter.go_on();
-    }
-}
+/// The most turns of a repetition.
+const MOST_TURNS: u64 = 1_000_000;
 
 /// Puts the rows of a repetition after others.
 pub fn put_repeated(
@@ -57,10 +16,52 @@ pub fn put_repeated(
     body: &[Row],
     rows: &mut Vec<Row>,
 ) -> Result<(), Fault> {
-    let (count, mut counters) = read_repeat(alloc, head)?;
-    for _turn in 0..count {
-        put_turn(alloc, body, &counters, rows)?;
-        go_on(&mut counters);
+    let mut words = Words::of(head);
+    words.word();
+    let Some(count) = words.number() else {
+        return Err(Fault::Spelling("this is no repetition"));
+    };
+    let counters = read_counters(alloc, words)?;
+    put_turns(alloc, count, &counters, body, rows)
+}
+
+fn put_turns(
+    alloc: Global,
+    count: u64,
+    counters: &[Counter],
+    body: &[Row],
+    rows: &mut Vec<Row>,
+) -> Result<(), Fault> {
+    for turn in 0..count.min(MOST_TURNS) {
+        put_turn(alloc, turn, counters, body, rows)?;
     }
+    Ok(())
+}
+
+/// Puts the rows of a turn after others.
+fn put_turn(
+    alloc: Global,
+    turn: u64,
+    counters: &[Counter],
+    body: &[Row],
+    rows: &mut Vec<Row>,
+) -> Result<(), Fault> {
+    for row in body.iter() {
+        put_row_of_turn(alloc, turn, counters, row, rows)?;
+    }
+    Ok(())
+}
+
+fn put_row_of_turn(
+    alloc: Global,
+    turn: u64,
+    counters: &[Counter],
+    row: &Row,
+    rows: &mut Vec<Row>,
+) -> Result<(), Fault> {
+    let line = row.line;
+    let mut text = Vec::new(alloc);
+    put_replaced(alloc, turn, counters, &row.text, &mut text)?;
+    rows.push(Row { line, text })?;
     Ok(())
 }

@@ -20,27 +20,57 @@ pub trait CheckCase {
 /// Runs the scripts that the file `SCRIPTS` names, and prints how many rows passed. The exit status is 1 if a row failed.
 pub fn run_scripts<R: Files + Print + AllocGlobal, C: CheckCase>(
     rt: &R,
-    cases: &C,
+    program: &C,
 ) -> io::Result<ExitCode> {
-    let names = fs::read_to_string(rt, "SCRIPTS")?;
     let mut tally = Tally::default();
-    for name in names.as_str().lines() {
-        run_script(rt, cases, name, &mut tally)?;
-    }
+    run_each(rt, program, &mut tally)?;
     tally.print(rt)?;
     Ok(ExitCode::from(u8::from(tally.failed > 0)))
 }
 
-/// Runs the cases of a script.
+fn run_each<R: Files + Print + AllocGlobal, C: CheckCase>(
+    rt: &R,
+    program: &C,
+    tally: &mut Tally,
+) -> io::Result<()> {
+    let names = fs::read_to_string(rt, "SCRIPTS")?;
+    run_named(rt, program, names.as_str(), tally)
+}
+
+/// Runs the scripts of these names, one a line.
+fn run_named<R: Files + Print + AllocGlobal, C: CheckCase>(
+    rt: &R,
+    program: &C,
+    names: &str,
+    tally: &mut Tally,
+) -> io::Result<()> {
+    for name in names.lines() {
+        run_script(rt, program, name, tally)?;
+    }
+    Ok(())
+}
+
 fn run_script<R: Files + Print + AllocGlobal, C: CheckCase>(
     rt: &R,
-    cases: &C,
+    program: &C,
     name: &str,
     tally: &mut Tally,
 ) -> io::Result<()> {
     let text = fs::read(rt, name)?;
-    for case in read_cases(rt.alloc(), &text)?.into_iter() {
-        cases.check(rt, name, case, tally)?;
+    let cases = read_cases(rt.alloc(), &text);
+    drop(text);
+    run_cases(rt, program, name, cases?, tally)
+}
+
+fn run_cases<R: Print + AllocGlobal, C: CheckCase>(
+    rt: &R,
+    program: &C,
+    name: &str,
+    cases: Vec<Case>,
+    tally: &mut Tally,
+) -> io::Result<()> {
+    for case in cases.into_iter() {
+        program.check(rt, name, case, tally)?;
     }
     Ok(())
 }

@@ -25,9 +25,7 @@ pub fn escape(bytes: &[u8], text: &mut Vec<u8>) -> Result<(), AllocError> {
         if is_plain(*byte) {
             text.push(*byte)?;
         } else {
-            text.extend_from_slice(b"\\x")?;
-            text.push(digit_of(*byte / 16))?;
-            text.push(digit_of(*byte % 16))?;
+            text.extend_from_slice(&escape_of(*byte))?;
         }
     }
     Ok(())
@@ -43,13 +41,13 @@ pub fn unquote(alloc: Global, word: &[u8]) -> Result<Vec<u8>, Fault> {
 
 /// Puts a text into bytes, from this place on.
 pub fn put_text(bytes: &mut [u8], place: usize, text: &[u8]) -> Result<(), Fault> {
-    if place > bytes.len() || text.len() > bytes.len() - place {
-        return Err(Fault::Spelling("the text is past the end"));
+    match bytes.get_mut(place..place.saturating_add(text.len())) {
+        Some(there) => {
+            there.copy_from_slice(text);
+            Ok(())
+        }
+        None => Err(Fault::Spelling("the text is past the end")),
     }
-    for (byte, new) in bytes[place..].iter_mut().zip(text.iter()) {
-        *byte = *new;
-    }
-    Ok(())
 }
 
 fn digit(byte: u8) -> Option<u8> {
@@ -73,6 +71,11 @@ fn byte_of_digits(high: u8, low: u8) -> Option<u8> {
         (Some(high), Some(low)) => Some(high.wrapping_mul(16).wrapping_add(low)),
         _ => None,
     }
+}
+
+/// `\xNN` for a byte.
+fn escape_of(byte: u8) -> [u8; 4] {
+    [b'\\', b'x', digit_of(byte / 16), digit_of(byte % 16)]
 }
 
 fn digit_of(value: u8) -> u8 {

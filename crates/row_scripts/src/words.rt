@@ -6,25 +6,36 @@ pub struct Words<'a> {
     rest: &'a [u8],
 }
 
-/// Where a word ends.
-fn word_end(bytes: &[u8]) -> usize {
-    let mut is_quoted = false;
+/// How many spaces are in front.
+fn spaces_in(bytes: &[u8]) -> usize {
     for (i, byte) in bytes.iter().enumerate() {
-        if *byte == b'"' {
-            is_quoted = !is_quoted;
-        }
-        if *byte == b' ' && !is_quoted {
+        if *byte != b' ' {
             return i;
         }
     }
     bytes.len()
 }
 
-fn after(bytes: &[u8], count: usize) -> &[u8] {
-    match bytes.get(count..) {
-        Some(rest) => rest,
-        None => &bytes[..0],
+/// Where a byte is that isn't between quotation marks, or the end.
+fn place_of(bytes: &[u8], sought: u8) -> usize {
+    let mut is_quoted = false;
+    for (i, byte) in bytes.iter().enumerate() {
+        if *byte == b'"' {
+            is_quoted = !is_quoted;
+        }
+        if *byte == sought && !is_quoted {
+            return i;
+        }
     }
+    bytes.len()
+}
+
+fn front(bytes: &[u8], count: usize) -> &[u8] {
+    bytes.get(..count).unwrap_or(bytes)
+}
+
+fn after(bytes: &[u8], count: usize) -> &[u8] {
+    bytes.get(count..).unwrap_or(b"")
 }
 
 impl<'a> Words<'a> {
@@ -35,14 +46,19 @@ impl<'a> Words<'a> {
 
     /// The next word; nothing at the end.
     pub fn word(&mut self) -> Option<&'a [u8]> {
-        let spaces = self.rest.iter().take_while(|byte| **byte == b' ').count();
-        let rest = after(self.rest, spaces);
-        let end = word_end(rest);
+        let rest = after(self.rest, spaces_in(self.rest));
+        let end = place_of(rest, b' ');
         self.rest = after(rest, end);
-        match rest.get(..end) {
-            Some(word) if end > 0 => Some(word),
-            _ => None,
-        }
+        let word = front(rest, end);
+        if word.is_empty() { None } else { Some(word) }
+    }
+
+    /// The bytes up to this one, which is skipped; all, if it isn't there.
+    pub(crate) fn up_to(&mut self, byte: u8) -> &'a [u8] {
+        let rest = self.rest;
+        let end = place_of(rest, byte);
+        self.rest = after(rest, end.saturating_add(1));
+        front(rest, end)
     }
 
     /// The next word, without taking it.
@@ -71,14 +87,6 @@ impl<'a> Words<'a> {
         match self.number() {
             Some(number) => u32::try_from(number).ok(),
             None => None,
-        }
-    }
-
-    /// The next two words as such numbers.
-    pub fn two_numbers(&mut self) -> Option<(u32, u32)> {
-        match (self.small_number(), self.small_number()) {
-            (Some(one), Some(other)) => Some((one, other)),
-            _ => None,
         }
     }
 
