@@ -14,11 +14,12 @@ pub fn filled(byte: u8) -> [u8; 4096] {
 /// The byte that a page is filled with, 255 if its bytes aren't alike.
 pub fn alike(bytes: &[u8; 4096]) -> u8 {
     let first = bytes[0];
-    if bytes.iter().all(|byte| *byte == first) {
-        first
-    } else {
-        255
+    for byte in bytes {
+        if *byte != first {
+            return 255;
+        }
     }
+    first
 }
 
 /// The number at a place of a sector, 0 if it doesn't fit there.

@@ -4,7 +4,7 @@ use crate::image::{
     SECTORS, changed, filled, image_of, map_of, root, sector_bytes, station_of_format, word_at,
 };
 use crate::opened::{Change, Volume, counts_of, new_volume};
-use crate::steps::{Step, take_first_steps, take_last_steps, take_steps};
+use crate::steps::{Step, StepRow, take_rows, take_steps};
 use pages::{PagesError, VolumeMark};
 use std::alloc::Global;
 use std::process::Abort;
@@ -49,7 +49,7 @@ fn a_new_volume(rt: HostRuntime) {
 fn placed(rt: &impl Abort, alloc: Global) -> (u32, u32) {
     let mut volume = Volume::empty(rt, alloc, 1024);
     let steps = [Step::Edit(5, 7), Step::Commit(3, 2)];
-    take_steps(rt, alloc, &mut volume, &steps);
+    take_steps(rt, alloc, &mut volume, "placed", &steps);
     let map = number_in(rt, &mut volume, 1, 28);
     let page = number_in(rt, &mut volume, map, 20);
     let found = (map.min(page), map.max(page));
@@ -74,20 +74,8 @@ fn stopped_commit(
     same_in(rt, &call, volume.commit(rt), answer);
     same_in(rt, &call, volume.since(before), calls);
     volume.station.fail_at(1_000_000);
-    has_changed(rt, alloc, &mut volume, &image, call, sectors);
+    let now = changed(rt, alloc, &mut volume.station, &image);
     volume.close();
-}
-
-// Asserts which sectors are not as they were, after a call.
-fn has_changed(
-    rt: &impl Abort,
-    alloc: Global,
-    volume: &mut Volume,
-    image: &[[u8; 4096]],
-    call: u64,
-    sectors: &[u32],
-) {
-    let now = changed(rt, alloc, &mut volume.station, image);
     same_in(rt, &call, now.as_slice(), sectors);
 }
 
@@ -125,7 +113,7 @@ fn number_in(rt: &impl Abort, volume: &mut Volume, sector: u32, place: usize) ->
 fn bytes_of_a_commit(rt: HostRuntime) {
     let mut volume = Volume::empty(&rt, rt.alloc(), 1024);
     let steps = [Step::Edit(5, 7), Step::Catalog(5), Step::Commit(3, 2)];
-    take_steps(&rt, rt.alloc(), &mut volume, &steps);
+    take_steps(&rt, rt.alloc(), &mut volume, "bytes", &steps);
     let map = number_in(&rt, &mut volume, 1, 28);
     let page = number_in(&rt, &mut volume, map, 20);
     has_bytes(&rt, &mut volume, 1, &root(b"COBVOL02", 1, 1024, 5, &[map]));
@@ -135,27 +123,13 @@ fn bytes_of_a_commit(rt: HostRuntime) {
     volume.close();
 }
 
-// If the catalog's page alone changed, the root alone is written. With nothing changed the device isn't called.
-#[test]
-fn a_commit_of_the_catalog(rt: HostRuntime) {
-    let steps = [
-        Step::Catalog(9),
-        Step::Commit(1, 2),
-        Step::Free(1022),
-        Step::Catalog(2),
-        Step::Catalog(9),
-        Step::Commit(0, 0),
-    ];
-    take_first_steps(&rt, rt.alloc(), 1024, &steps);
-}
-
 // A volume that was written by the description of the format. An opening syncs, and reads the two roots and the two maps. Two roots,
 // two pages and two maps are used.
 #[test]
 fn a_volume_of_the_format(rt: HostRuntime) {
     let station = station_of_format(&rt, rt.alloc());
     let before = counts_of(&station);
-    let volume = Volume::open(&rt, rt.alloc(), station);
+    let mut volume = Volume::open(&rt, rt.alloc(), station);
     same(&rt, volume.since(before), (4, 0, 1));
     has_figures(&rt, &volume, (1500, 1494, 2048, 1));
     let steps = [
@@ -164,7 +138,8 @@ fn a_volume_of_the_format(rt: HostRuntime) {
         Step::Has(2, None),
         Step::Has(2047, None),
     ];
-    take_last_steps(&rt, rt.alloc(), volume, &steps);
+    take_steps(&rt, rt.alloc(), &mut volume, "format", &steps);
+    volume.close();
 }
 
 // If the mark alone became the second, the root alone is written, and the root before it keeps the first mark.
@@ -174,7 +149,7 @@ fn a_commit_of_the_mark(rt: HostRuntime) {
     let mut volume = Volume::open(&rt, rt.alloc(), station);
     holds(&rt, volume.pages.mark() == VolumeMark::First);
     volume.set_second_mark();
-    take_steps(&rt, rt.alloc(), &mut volume, &[Step::Commit(1, 2)]);
+    take_steps(&rt, rt.alloc(), &mut volume, "mark", &[Step::Commit(1, 2)]);
     let older = root(b"COBVOL01", 1, SECTORS, 1, &[4, 5]);
     has_bytes(&rt, &mut volume, 1, &older);
     let newest = root(b"COBVOL02", 2, SECTORS, 1, &[4, 5]);
@@ -182,32 +157,54 @@ fn a_commit_of_the_mark(rt: HostRuntime) {
     volume.close();
 }
 
-// A page that is released frees its sector by a commit; a map of zeros takes none.
-#[test]
-fn a_page_is_released(rt: HostRuntime) {
-    let steps = [
-        Step::EditAll(1, 3, 1),
-        Step::Commit(4, 2),
-        Step::Free(1019),
-        Step::Release(1),
-        Step::Commit(2, 2),
-        Step::Free(1020),
-        Step::Release(2),
-        Step::Commit(1, 2),
-        Step::Free(1022),
-    ];
-    take_first_steps(&rt, rt.alloc(), 1024, &steps);
-}
+const ROWS: &[StepRow] = &[
+    // If the catalog's page alone changed, the root alone is written. With nothing changed the device isn't called.
+    StepRow {
+        name: "a_commit_of_the_catalog",
+        sectors: 1024,
+        first: &[],
+        steps: &[
+            Step::Catalog(9),
+            Step::Commit(1, 2),
+            Step::Free(1022),
+            Step::Catalog(2),
+            Step::Catalog(9),
+            Step::Commit(0, 0),
+        ],
+    },
+    // A page that is released frees its sector by a commit; a map of zeros takes none.
+    StepRow {
+        name: "a_page_is_released",
+        sectors: 1024,
+        first: &[],
+        steps: &[
+            Step::EditAll(1, 3, 1),
+            Step::Commit(4, 2),
+            Step::Free(1019),
+            Step::Release(1),
+            Step::Commit(2, 2),
+            Step::Free(1020),
+            Step::Release(2),
+            Step::Commit(1, 2),
+            Step::Free(1022),
+        ],
+    },
+    // A page of each of two maps, and the sectors of both.
+    StepRow {
+        name: "pages_of_two_maps",
+        sectors: 2048,
+        first: &[],
+        steps: &[
+            Step::EditAll(1023, 1025, 3),
+            Step::Commit(5, 2),
+            Step::Edit(2047, 5),
+            Step::Commit(3, 2),
+            Step::Free(2041),
+        ],
+    },
+];
 
-// A page of each of two maps, and the sectors of both.
 #[test]
-fn pages_of_two_maps(rt: HostRuntime) {
-    let steps = [
-        Step::EditAll(1023, 1025, 3),
-        Step::Commit(5, 2),
-        Step::Edit(2047, 5),
-        Step::Commit(3, 2),
-        Step::Free(2041),
-    ];
-    take_first_steps(&rt, rt.alloc(), 2048, &steps);
+fn rows_of_commits(rt: HostRuntime) {
+    take_rows(&rt, rt.alloc(), ROWS);
 }

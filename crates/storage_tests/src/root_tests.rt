@@ -39,7 +39,7 @@ fn a_head_in_front_of_a_payload(rt: HostRuntime) {
         &rt,
         bytes.starts_with(b"COBVOL01\x01\x02\x03\x04\x05\x06\x07\x08\0\0\x08\0"),
     );
-    holds(&rt, bytes[20..].iter().all(|byte| *byte == 9));
+    same(&rt, &bytes[20..], [9; 4076].as_slice());
 }
 
 #[test]
@@ -75,15 +75,14 @@ fn has_no_roots(rt: &impl Abort, alloc: Global, sectors: u32, reads: u64) {
     let damaged = Err(RootsError::Roots(RootsFault::Damaged));
     same_in(rt, &sectors, read_roots(&mut station, &[&MARKS]), damaged);
     same_in(rt, &sectors, station.reads(), reads);
+    drop(station);
 }
 
 #[test]
 fn devices_without_roots(rt: HostRuntime) {
-    let alloc = rt.alloc();
-    has_no_roots(&rt, alloc, 0, 0);
-    has_no_roots(&rt, alloc, 1, 0);
-    has_no_roots(&rt, alloc, 2, 2);
-    has_no_roots(&rt, alloc, 1024, 2);
+    for (sectors, reads) in &[(0, 0), (1, 0), (2, 2), (1024, 2)] {
+        has_no_roots(&rt, rt.alloc(), *sectors, *reads);
+    }
 }
 
 // A device with two roots, each of which is read once.
@@ -97,4 +96,5 @@ fn roots_of_a_device(rt: HostRuntime) {
         Err(_) => panic!(rt; "no roots"),
     }
     same(&rt, station.reads(), 2);
+    drop(station);
 }

@@ -24,14 +24,6 @@ fn fresh_station(rt: &impl Abort, alloc: Global) -> MemoryStation {
     possible_station(alloc).expect(rt, "no memory")
 }
 
-// Asserts which bytes were shown, and that the one note was received.
-fn has_told(rt: &impl Abort, station: &MemoryStation, expected: &[u8]) {
-    let shown = station.shown().expect(rt, "no memory");
-    same(rt, shown.as_slice(), expected);
-    let notes = station.notes().expect(rt, "no memory");
-    same(rt, notes.as_slice(), [NOTE].as_slice());
-}
-
 // A sector that is written, read and synced.
 fn sectors_work(rt: &impl Abort, station: &mut MemoryStation) {
     put_sector(rt, station, 3, &filled(1));
@@ -43,7 +35,7 @@ fn sectors_work(rt: &impl Abort, station: &mut MemoryStation) {
 fn lines_work(rt: &impl Abort, station: &mut MemoryStation) {
     let mut line = *b"....";
     same(rt, station.line(&mut line), Ok(Some(2)));
-    same(rt, line, *b"AB..");
+    same(rt, line.as_slice(), b"AB..".as_slice());
     same(rt, station.line(&mut line), Ok(None));
 }
 
@@ -51,7 +43,11 @@ fn lines_work(rt: &impl Abort, station: &mut MemoryStation) {
 fn events_work(rt: &impl Abort, station: &mut MemoryStation) {
     same(rt, station.show(b"one"), Ok(()));
     same(rt, station.note(NOTE), Ok(()));
-    has_told(rt, station, b"one");
+    let shown = station.shown().expect(rt, "no memory");
+    same(rt, shown.as_slice(), b"one".as_slice());
+    drop(shown);
+    let notes = station.notes().expect(rt, "no memory");
+    same(rt, notes.as_slice(), [NOTE].as_slice());
 }
 
 #[test]
@@ -61,16 +57,20 @@ fn each_call_works(rt: HostRuntime) {
     lines_work(&rt, &mut station);
     events_work(&rt, &mut station);
     let calls = (station.reads(), station.writes(), station.syncs());
-    same(&rt, (calls, station.refused()), ((1, 1, 1), 0));
+    let refused = station.refused();
+    drop(station);
+    same(&rt, calls, (1, 1, 1));
+    same(&rt, refused, 0);
 }
 
 #[test]
 fn the_second_call_fails(rt: HostRuntime) {
     let mut station = fresh_station(&rt, rt.alloc());
     station.fail_at(2);
-    same(&rt, station.sync(), Ok(()));
-    same(&rt, station.sync(), Err(DeviceError::Failed));
-    same(&rt, station.sync(), Ok(()));
+    for answer in &[Ok(()), Err(DeviceError::Failed), Ok(())] {
+        same(&rt, station.sync(), *answer);
+    }
+    drop(station);
     same(&rt, DeviceError::Failed.number(), 1);
 }
 
@@ -92,34 +92,37 @@ fn put_all(rt: &impl Abort, alloc: Global, station: &mut MemoryStation) -> bool 
     two_phase_write(station, &blocks, 1, &filled(9)).is_ok()
 }
 
-// Stopped at a call, a put leaves these bytes in the sectors 1, 2 and 3 after a crash by these choices.
-fn stopped_put(rt: &impl Abort, alloc: Global, n: u64, works: bool, choose: &[u32], left: [u8; 3]) {
+// The call that a put is stopped at, whether it worked, and the bytes of the sectors 1, 2 and 3 after a crash that leaves nothing that
+// waits for a sync, and after one that leaves all of it. A put has five calls.
+const STOPPED_PUTS: [(u64, bool, [u8; 3], [u8; 3]); 6] = [
+    (1, false, [0, 0, 0], [0, 2, 0]),
+    (2, false, [0, 0, 0], [0, 2, 3]),
+    (3, false, [0, 0, 0], [0, 2, 3]),
+    (4, false, [0, 2, 3], [9, 2, 3]),
+    (5, false, [0, 2, 3], [9, 2, 3]),
+    (6, true, [9, 2, 3], [9, 2, 3]),
+];
+
+// Stopped at a call, a put leaves these bytes after a crash by these choices.
+fn leaves(rt: &impl Abort, alloc: Global, call: u64, works: bool, choose: &[u32], left: &[u8]) {
     let mut station = fresh_station(rt, alloc);
-    station.stop_at(n);
-    same_in(rt, &n, put_all(rt, alloc, &mut station), works);
+    station.stop_at(call);
+    same_in(rt, &call, put_all(rt, alloc, &mut station), works);
     station.crash(choose);
     let now = [
         sector_bytes(rt, &mut station, 1)[0],
         sector_bytes(rt, &mut station, 2)[0],
         sector_bytes(rt, &mut station, 3)[0],
     ];
-    same_in(rt, &n, now, left);
+    drop(station);
+    same_in(rt, &call, now.as_slice(), left);
 }
 
-// The same after a crash that leaves nothing that waits for a sync, and one that leaves all of it.
-fn stopped_puts(rt: &impl Abort, alloc: Global, n: u64, works: bool, none: [u8; 3], all: [u8; 3]) {
-    stopped_put(rt, alloc, n, works, &[], none);
-    stopped_put(rt, alloc, n, works, &[1, 1, 1], all);
-}
-
-// Stopped at each of its five calls: a crash leaves the old root, or the new one with all blocks.
+// A crash leaves the old root, or the new one with all blocks.
 #[test]
 fn a_stopped_put_leaves_the_old_root_or_all(rt: HostRuntime) {
-    let alloc = rt.alloc();
-    stopped_puts(&rt, alloc, 1, false, [0, 0, 0], [0, 2, 0]);
-    stopped_puts(&rt, alloc, 2, false, [0, 0, 0], [0, 2, 3]);
-    stopped_puts(&rt, alloc, 3, false, [0, 0, 0], [0, 2, 3]);
-    stopped_puts(&rt, alloc, 4, false, [0, 2, 3], [9, 2, 3]);
-    stopped_puts(&rt, alloc, 5, false, [0, 2, 3], [9, 2, 3]);
-    stopped_puts(&rt, alloc, 6, true, [9, 2, 3], [9, 2, 3]);
+    for (call, works, none, all) in &STOPPED_PUTS {
+        leaves(&rt, rt.alloc(), *call, *works, &[], none);
+        leaves(&rt, rt.alloc(), *call, *works, &[1, 1, 1], all);
+    }
 }

@@ -4,7 +4,16 @@ use crate::image::{alike, filled};
 use crate::opened::{Change, Volume};
 use pages::PagesError;
 use std::alloc::Global;
+use std::fmt::Debug;
 use std::process::Abort;
+
+/// A row: steps on an empty volume of so many sectors, the first of which are those of other rows too.
+pub struct StepRow {
+    pub name: &'static str,
+    pub sectors: u32,
+    pub first: &'static [Step],
+    pub steps: &'static [Step],
+}
 
 /// A call that has to work, or what is asked of the volume and its answer.
 #[derive(Clone, Copy)]
@@ -43,26 +52,28 @@ pub enum Step {
     Free(u32),
 }
 
-/// Takes these steps. What isn't as expected is named by its place among them.
-pub fn take_steps(rt: &impl Abort, alloc: Global, volume: &mut Volume, steps: &[Step]) {
-    for (place, step) in steps.iter().enumerate() {
-        take_step(rt, alloc, volume, place, *step);
+/// Takes the steps of each row, on a volume of its own.
+pub fn take_rows(rt: &impl Abort, alloc: Global, rows: &[StepRow]) {
+    for row in rows {
+        take_row(rt, alloc, row);
     }
 }
 
-/// Takes these steps on a volume, and closes it.
-pub fn take_last_steps(rt: &impl Abort, alloc: Global, volume: Volume, steps: &[Step]) {
-    let mut volume = volume;
-    take_steps(rt, alloc, &mut volume, steps);
+fn take_row(rt: &impl Abort, alloc: Global, row: &StepRow) {
+    let mut volume = Volume::empty(rt, alloc, row.sectors);
+    take_steps(rt, alloc, &mut volume, row.name, row.first);
+    take_steps(rt, alloc, &mut volume, row.name, row.steps);
     volume.close();
 }
 
-/// Takes these steps on an empty volume of so many sectors.
-pub fn take_first_steps(rt: &impl Abort, alloc: Global, sectors: u32, steps: &[Step]) {
-    take_last_steps(rt, alloc, Volume::empty(rt, alloc, sectors), steps);
+/// Takes these steps. What isn't as expected is named by its row and its place among them.
+pub fn take_steps(rt: &impl Abort, alloc: Global, volume: &mut Volume, row: &str, steps: &[Step]) {
+    for (place, step) in steps.iter().enumerate() {
+        take_step(rt, alloc, volume, &(row, place), *step);
+    }
 }
 
-fn take_step(rt: &impl Abort, alloc: Global, volume: &mut Volume, place: usize, step: Step) {
+fn take_step(rt: &impl Abort, alloc: Global, volume: &mut Volume, case: &impl Debug, step: Step) {
     match step {
         Step::Edit(page, byte) => volume.change(rt, page, Change::Edit(byte)),
         Step::EditAll(first, end, byte) => volume.edit_all(rt, first, end, byte),
@@ -71,61 +82,65 @@ fn take_step(rt: &impl Abort, alloc: Global, volume: &mut Volume, place: usize, 
         Step::Catalog(page) => volume.pages.set_catalog(page),
         Step::NoteUse(page) => volume.pages.note_use(page),
         Step::Reopen(capacity) => volume.reopen(rt, alloc, capacity),
-        Step::Commit(writes, syncs) => commit(rt, volume, place, (0, writes, syncs)),
-        Step::Full => is_full(rt, volume, place),
-        Step::Reads(numbers, reads) => has_reads(rt, volume, place, &numbers, reads),
-        Step::Loads(numbers, reads) => has_loads(rt, volume, place, &numbers, reads),
-        other => look(rt, volume, place, other),
+        Step::Commit(writes, syncs) => commit(rt, volume, case, (0, writes, syncs)),
+        Step::Full => is_full(rt, volume, case),
+        Step::Reads(numbers, reads) => has_reads(rt, volume, case, false, numbers, reads),
+        Step::Loads(numbers, reads) => has_reads(rt, volume, case, true, numbers, reads),
+        other => look(rt, volume, case, other),
     }
 }
 
-fn look(rt: &impl Abort, volume: &mut Volume, place: usize, step: Step) {
+fn look(rt: &impl Abort, volume: &mut Volume, case: &impl Debug, step: Step) {
     match step {
-        Step::Allocate(page) => same_in(rt, &place, volume.pages.allocate(), Ok(page)),
+        Step::Allocate(page) => same_in(rt, case, volume.pages.allocate(), Ok(page)),
         Step::AllocatePast(page, byte) => {
             let answer = volume.pages.allocate_past(&filled(byte));
-            same_in(rt, &place, answer, Ok(page));
+            same_in(rt, case, answer, Ok(page));
         }
-        Step::Has(page, byte) => same_in(rt, &place, volume.has(rt, page), byte),
-        Step::Seen(page, byte) => same_in(rt, &place, volume.seen(page), byte),
+        Step::Has(page, byte) => same_in(rt, case, volume.has(rt, page), byte),
+        Step::Seen(page, byte) => same_in(rt, case, volume.seen(page), byte),
         Step::Visit(page, byte) => {
-            same_in(rt, &place, volume.pages.visit(page).map(alike), byte);
+            same_in(rt, case, volume.pages.visit(page).map(alike), byte);
         }
-        Step::Cached(count) => same_in(rt, &place, volume.pages.cached(), count),
-        Step::Changed(count) => same_in(rt, &place, volume.pages.changed_pages(), count),
-        Step::Free(count) => same_in(rt, &place, volume.pages.free_sectors(), count),
+        Step::Cached(count) => same_in(rt, case, volume.pages.cached(), count),
+        Step::Changed(count) => same_in(rt, case, volume.pages.changed_pages(), count),
+        Step::Free(count) => same_in(rt, case, volume.pages.free_sectors(), count),
         _ => panic!(rt; "no question"),
     }
 }
 
 /// Commits what was changed by so many reads, writes and syncs.
-fn commit(rt: &impl Abort, volume: &mut Volume, place: usize, calls: (u64, u64, u64)) {
+fn commit(rt: &impl Abort, volume: &mut Volume, case: &impl Debug, calls: (u64, u64, u64)) {
     let before = volume.counts();
     volume.commit(rt).expect(rt, "commit");
-    same_in(rt, &place, volume.since(before), calls);
+    same_in(rt, case, volume.since(before), calls);
 }
 
-fn is_full(rt: &impl Abort, volume: &mut Volume, place: usize) {
+fn is_full(rt: &impl Abort, volume: &mut Volume, case: &impl Debug) {
     let before = volume.counts();
-    same_in(rt, &place, volume.commit(rt), Err(PagesError::Full));
-    same_in(rt, &place, volume.since(before), (0, 0, 0));
-    same_in(rt, &place, volume.pages.is_spent(), true);
+    same_in(rt, case, volume.commit(rt), Err(PagesError::Full));
+    same_in(rt, case, volume.since(before), (0, 0, 0));
+    same_in(rt, case, volume.pages.is_spent(), true);
 }
 
-fn has_reads(rt: &impl Abort, volume: &mut Volume, place: usize, numbers: &[u8; 5], reads: u64) {
+/// Five pages have these bytes, for which the device is read so often. They are read, or loaded.
+fn has_reads(
+    rt: &impl Abort,
+    volume: &mut Volume,
+    case: &impl Debug,
+    is_loaded: bool,
+    numbers: [u8; 5],
+    reads: u64,
+) {
     let before = volume.counts();
-    for number in numbers {
-        let byte = volume.has(rt, *number as u32);
-        same_in(rt, &place, byte, Some(*number));
+    for number in &numbers {
+        let page = *number as u32;
+        let byte = if is_loaded {
+            volume.load(rt, page)
+        } else {
+            volume.has(rt, page)
+        };
+        same_in(rt, case, byte, Some(*number));
     }
-    same_in(rt, &place, volume.since(before).0, reads);
-}
-
-fn has_loads(rt: &impl Abort, volume: &mut Volume, place: usize, numbers: &[u8; 5], reads: u64) {
-    let before = volume.counts();
-    for number in numbers {
-        let byte = volume.load(rt, *number as u32);
-        same_in(rt, &place, byte, Some(*number));
-    }
-    same_in(rt, &place, volume.since(before).0, reads);
+    same_in(rt, case, volume.since(before).0, reads);
 }
