@@ -11,6 +11,7 @@ use crate::code::Code;
 use crate::instruction::Instruction;
 use crate::known::find_operands;
 use crate::paragraph::{all_start, has_order, paragraphs_of};
+use answers::beside;
 use data_image::{ImageError, ImageFault};
 use data_instructions::DataTables;
 use file_image::{CodeFile, is_code_file, names_places, suits};
@@ -299,9 +300,6 @@ pub fn verify(alloc: Global, code: Code) -> Result<Verified, ImageError>
     ensures refused { IfErr result (λ e. Blames code (fault_of e)) }
 {
     let met = meets_demands(alloc, &code);
-    if let Err(error) = met {
-        drop(code);
-        return Err(error);
-    }
+    let (code, ()) = beside(code, met)?;
     Ok(Verified { code })
 }
