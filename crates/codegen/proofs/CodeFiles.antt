@@ -1,27 +1,26 @@
 -- The table of files has what the meaning has of each, and is in order, where the rules are kept.
 use Rattle.std.proofs.Common.{◌≡◌, ℕ, zero, suc, ◌+◌, ◌<◌, List, [], ◌∷◌, length, map, Option, Some, None, refl, sym}
 use Rattle.std.proofs.Common.{ap, ◌∙◌, subst, arith}
-use Rattle.std.specs.Prelude.{IfSome, slice_get, slice_index_or}
+use Rattle.std.specs.Prelude.{IfSome, slice_get}
 use Rattle.std.specs.List.{AllByRecursion}
-use Rattle.std.proofs.lemmas.Option.{same_Some, slice_get_within, slice_get-get_or}
+use Rattle.std.proofs.lemmas.Option.{same_Some}
 use Rattle.records.specs.Connector as connector
 use Rattle.source_tree.specs.declared.select.Select.{Select}
 use Rattle.source_tree.specs.declared.select.FileDescription.{FileDescription}
 use Rattle.source_tree.specs.Broken.{RuleBreach, each}
 use Rattle.source_tree.specs.FileRules.{select_rules}
 use Rattle.source_tree.specs.Places.{LocatedItem}
-use Rattle.source_tree.specs.ProgramFiles.{FilePlaces, ProgramFile, digits_at, item_place, files_from, entries_of}
+use Rattle.source_tree.specs.ProgramFiles.{ProgramFile, digits_at, item_place, files_from, entries_of}
 use Rattle.source_tree.specs.References.{ItemPlace}
-use Rattle.source_tree.specs.SoundFiles.{IsRelativeKey, IsStatus, IsSound, HasRecordArea}
-use Rattle.source_tree.specs.Storage.{Storage}
+use Rattle.source_tree.specs.SoundFiles.{IsRelativeKey, IsStatus, IsSound}
 use Rattle.data_instructions.specs.declared.tables.DataTables.{DataTables}
 use Rattle.data_instructions.specs.Codes.{data_item}
 use Rattle.file_image.specs.declared.file.CodeFile.{CodeFile}
 use Rattle.file_image.specs.Files as table
 use Rattle.file_image.specs.Files.{place_at, entry_of, places_of, NamesPlaces, IsTwoCharacters, IsCodeFile}
-use Rattle.statement_codegen.specs.FileCode.{clause_index, code_file, code_files}
+use Rattle.statement_codegen.specs.FileCode.{code_file, code_files}
 use Rattle.condition_codegen.proofs.Lists.{left_none, right_none}
-use Rattle.codegen.proofs.FileTable.{file_of, FileAt, file_at, NamesOne, clauses_named, place_is, index_there}
+use Rattle.codegen.proofs.FileTable.{file_of, file_at, NamesOne, clauses_named, place_is, index_there}
 use Rattle.codegen.proofs.HasFiles.{IsNumbered}
 
 -- ---- lists

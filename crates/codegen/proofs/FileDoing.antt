@@ -6,7 +6,6 @@ use Rattle.records.specs.declared.verb.Verb.{Verb}
 use Rattle.records.specs.Connector.{Entry}
 use Rattle.source_tree.specs.Filing.{unheard_outcome}
 use Rattle.source_tree.specs.FileStatements.{state_after_status, step_on, file_statement}
-use Rattle.source_tree.specs.Places.{LocatedItem}
 use Rattle.source_tree.specs.ProgramFiles.{FilePlaces, ProgramFile, entries_of}
 use Rattle.source_tree.specs.References.{ItemPlace}
 use Rattle.source_tree.specs.Setting.{Scope}

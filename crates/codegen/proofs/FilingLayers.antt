@@ -1,5 +1,5 @@
 -- The code of a file statement, by that of the statements in its phrases.
-use Rattle.std.proofs.Common.{◌≡◌, List, [], ◌∷◌, Option, Some, None, refl, ap, ◌∙◌}
+use Rattle.std.proofs.Common.{◌≡◌, List, [], ◌∷◌, Option, Some, None, refl, ap}
 use Rattle.std.specs.Prelude.{map}
 use Rattle.std.specs.Option.{option_map}
 use Rattle.records.specs.declared.verb.Verb as on_files
@@ -21,11 +21,11 @@ use Rattle.file_image.specs.declared.class.StatusClass.TheVariants as class
 use Rattle.code_image.specs.declared.code.Code.{Code}
 use Rattle.declarations.proofs.FilingLayers.{mapped_phrases, mapped_filing}
 use Rattle.condition_codegen.specs.Fragments.{Fragment, append, sequence, in_order}
-use Rattle.condition_codegen.specs.Meeting.{either_fragment, nothing_fragment}
+use Rattle.condition_codegen.specs.Meeting.{nothing_fragment}
 use Rattle.statement_codegen.specs.FileCode.{file_fragment, test_fragment, unheard_fragment, on_file_fragment}
 use Rattle.statement_codegen.specs.FileCode.{into_fragment, from_fragment}
 use Rattle.codegen.specs.Layout.{phrase_fragment, taken_fragment, success_fragment, class_fragment, failure_fragment}
-use Rattle.codegen.specs.Layout.{status_fragment, statement_on_fragment, alone_fragment, record_fragment}
+use Rattle.codegen.specs.Layout.{status_fragment, statement_on_fragment, record_fragment}
 use Rattle.codegen.specs.Layout.{file_statement_fragment}
 use Rattle.codegen.proofs.Either.{either_map}
 

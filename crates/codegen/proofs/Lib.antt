@@ -21,7 +21,6 @@ pub mod ByCase
 pub mod FileParts
 pub mod OnFiles
 pub mod StorageItems
-mod StorageParts
 pub mod Declared
 pub mod Varying
 -- The code of references, of statements on data and of conditions, and the machine along it

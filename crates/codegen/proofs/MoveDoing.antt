@@ -1,5 +1,5 @@
 -- What the code of MOVE does, and that of the move of READ INTO.
-use Rattle.std.proofs.Common.{◌≡◌, ℕ, ◌+◌, List, [], ◌∷◌, ◌++◌, length, map, Option, Some, None, refl, sym, ap, ◌∙◌}
+use Rattle.std.proofs.Common.{◌≡◌, ℕ, List, [], ◌∷◌, ◌++◌, length, map, Option, Some, None, ap, ◌∙◌}
 use Rattle.std.proofs.Common.{subst}
 use Rattle.std.specs.Prelude.{slice_get}
 use Rattle.items.specs.declared.taken.Taken.TheVariants as taken
@@ -18,7 +18,7 @@ use Rattle.data_instructions.specs.declared.instruction.DataInstruction.{DataIns
 use Rattle.data_instructions.specs.declared.instruction.DataInstruction.TheVariants as i
 use Rattle.data_instructions.specs.declared.tables.DataItem.{DataItem}
 use Rattle.data_instructions.specs.Codes.{data_item, go_on, works, AreReceiversCode}
-use Rattle.data_instructions.specs.Scratch.{Scratch, Step, step_at}
+use Rattle.data_instructions.specs.Scratch.{Scratch, step_at}
 use Rattle.data_instructions.specs.Table.{place_step, take_step as take_at}
 use Rattle.data_instructions.specs.Tables.{shortened_item, IsTables, item_place}
 use Rattle.data_instructions.proofs.Codes.{move_works, receivers_works}
@@ -28,8 +28,7 @@ use Rattle.code_image.specs.Points.{Own, scratch_of}
 use Rattle.condition_codegen.specs.Fragments.{append}
 use Rattle.condition_codegen.specs.DataCode.{works_fragment, receivers_fragment, move_fragment}
 use Rattle.statement_codegen.specs.FileCode.{sent_entry, sent_index, into_fragment}
-use Rattle.codegen.proofs.Codes.{Coded, receivers_coded, move_coded}
-use Rattle.condition_codegen.proofs.Lists.{map_both}
+use Rattle.codegen.proofs.Codes.{receivers_coded, move_coded}
 use Rattle.codegen.proofs.DataDoing.{behind_code, stored_does, moved_does}
 use Rattle.codegen.proofs.Doing.{end_of, PartDoes, nothing_does}
 use Rattle.codegen.proofs.HasFiles.{IsFiled}

@@ -1,6 +1,6 @@
 -- The machine takes the subjects of EVALUATE: it goes on in the same state, or its run ends with the fault.
-use Rattle.std.proofs.Common.{◌≡◌, ℕ, Bool, true, false, List, [], ◌∷◌, Option, Some, None, Ok, Err, refl, sym, ap}
-use Rattle.std.proofs.Common.{subst, ◌∙◌, arith}
+use Rattle.std.proofs.Common.{◌≡◌, ℕ, Bool, true, false, List, [], ◌∷◌, Option, Some, None, Ok, Err, refl}
+use Rattle.std.proofs.Common.{subst, arith}
 use Rattle.std.specs.Prelude.{slice_get}
 use Rattle.source_tree.specs.declared.condition.Condition.{Condition}
 use Rattle.source_tree.specs.declared.evaluate_statement.Subject.{Subject}
@@ -23,7 +23,7 @@ use Rattle.condition_codegen.specs.ConditionCode.{condition_fragment}
 use Rattle.statement_codegen.specs.SubjectCode.{look, look_fragment, subject_fragment, each_subject_fragment}
 use Rattle.statement_codegen.specs.SubjectCode.{is_asked_first, taken_from, subjects_fragment}
 use Rattle.codegen.proofs.ConditionDoes.{condition_does}
-use Rattle.codegen.proofs.Doing.{end_of, PartDoes, IsRoom, Sits, stays, nothing_does, Follows, in_order_does, Repeats}
+use Rattle.codegen.proofs.Doing.{end_of, PartDoes, stays, nothing_does, Follows, in_order_does, Repeats}
 use Rattle.codegen.proofs.Evaluating.{evaluated_does}
 use Rattle.codegen.proofs.Standing.{Stands}
 use Rattle.statement_codegen.proofs.SubjectLooks.{look_value, look_rules, looks_value, look_kept, look_found}

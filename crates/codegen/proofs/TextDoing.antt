@@ -1,5 +1,5 @@
 -- What the code of INITIALIZE, SET, STRING and INSPECT does.
-use Rattle.std.proofs.Common.{◌≡◌, ℕ, ◌+◌, Bool, List, Ok, Err, refl, ap, ◌∙◌, arith}
+use Rattle.std.proofs.Common.{◌≡◌, ℕ, ◌+◌, Bool, Ok, Err, refl, ap, ◌∙◌, arith}
 use Rattle.source_tree.specs.Evaluated.{Evaluation}
 use Rattle.source_tree.specs.Storage.{Storage}
 use Rattle.source_tree.specs.Stringing.{Strings}

@@ -14,6 +14,7 @@ ghost use Rattle.codegen.specs.Layout.{code_of};
 
 use crate::emit::emit_sections;
 use crate::storage::storage_code;
+use answers::beside;
 use code_image::Code;
 use condition_codegen::Emitter;
 use declarations::{Checked, Declarations};
@@ -55,11 +56,7 @@ fn program_code(
         alloc,
         declarations,
     };
-    match emit_sections(&emitter, &mut code, program.sections.as_slice()) {
-        Ok(()) => Ok(code),
-        Err(error) => {
-            drop(code);
-            Err(error)
-        }
-    }
+    let emitted = emit_sections(&emitter, &mut code, program.sections.as_slice());
+    let (code, ()) = beside(code, emitted)?;
+    Ok(code)
 }

@@ -11,6 +11,7 @@ ghost use Rattle.codegen.specs.Layout as spec;
 ghost use Rattle.codegen.specs.Sent.{edits, first_editing};
 
 use crate::file_table::code_files;
+use answers::beside;
 use code_image::Code;
 use data_instructions::{DataItem, DataTables};
 use declarations::Declarations;
@@ -35,18 +36,13 @@ pub(crate) fn storage_code(
         (items_in declarations.now) declarations.now.selects.now (files_in declarations.now)) }
 {
     let files = code_files(alloc, declarations)?;
-    match storage_tables(alloc, program, declarations) {
-        Ok(tables) => Ok(Code {
-            tables,
-            files,
-            starts: Items::new(alloc),
-            instructions: Items::new(alloc),
-        }),
-        Err(error) => {
-            drop(files);
-            Err(error)
-        }
-    }
+    let (files, tables) = beside(files, storage_tables(alloc, program, declarations))?;
+    Ok(Code {
+        tables,
+        files,
+        starts: Items::new(alloc),
+        instructions: Items::new(alloc),
+    })
 }
 
 fn editing_of(one: &PlacedItem) -> Result<Option<Picture>, AllocError>
@@ -169,18 +165,13 @@ fn storage_tables(
         (items_in declarations.now) (files_in declarations.now)) }
 {
     let initial = InitialStorage::of(alloc, program)?;
-    match storage_items(alloc, declarations) {
-        Ok(items) => Ok(DataTables {
-            areas: initial.areas,
-            items,
-            numbers: Items::new(alloc),
-            senders: Items::new(alloc),
-            texts: Items::new(alloc),
-            inspections: Items::new(alloc),
-        }),
-        Err(error) => {
-            drop(initial);
-            Err(error)
-        }
-    }
+    let (initial, items) = beside(initial, storage_items(alloc, declarations))?;
+    Ok(DataTables {
+        areas: initial.areas,
+        items,
+        numbers: Items::new(alloc),
+        senders: Items::new(alloc),
+        texts: Items::new(alloc),
+        inspections: Items::new(alloc),
+    })
 }

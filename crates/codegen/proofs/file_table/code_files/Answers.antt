@@ -1,4 +1,4 @@
-use Rattle.std.proofs.Common.{◌≡◌, length, ap, arith}
+use Rattle.std.proofs.Common.{length, ap, arith}
 use Rattle.declarations.specs.Named.{items_in, files_in}
 use Rattle.codegen.proofs.StorageItems.{codes_all}
 use Rattle.codegen.proofs.file_table.code_files.Goals as goal

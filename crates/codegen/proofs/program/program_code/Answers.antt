@@ -1,5 +1,4 @@
-use Rattle.declarations.specs.Named.{Declares}
-use Rattle.codegen.proofs.Declared.{code_by, entries_by, sections_by}
+use Rattle.codegen.proofs.Declared.{entries_by, sections_by}
 use Rattle.codegen.proofs.Verified.{entries_kept, sections_kept}
 use Rattle.codegen.proofs.program.program_code.Goals as goal
 
@@ -9,17 +8,12 @@ storage_code-requires-clause-program c = c.requires.program
 pub storage_code-requires-clause-rules : goal.storage_code-requires-clause-rules
 storage_code-requires-clause-rules c = entries_kept c.args.program.now c.requires.rules
 
-pub emit_sections-requires-clause-entries : goal.emit_sections-requires-clause-entries
-emit_sections-requires-clause-entries c =
+pub emit_sections-emitted-requires-clause-entries : goal.emit_sections-emitted-requires-clause-entries
+emit_sections-emitted-requires-clause-entries c =
     entries_by c.args.program.now c.args.declarations.now c.requires.program
     (entries_kept c.args.program.now c.requires.rules)
 
-pub emit_sections-requires-clause-rules : goal.emit_sections-requires-clause-rules
-emit_sections-requires-clause-rules c =
+pub emit_sections-emitted-requires-clause-rules : goal.emit_sections-emitted-requires-clause-rules
+emit_sections-emitted-requires-clause-rules c =
     sections_by c.args.program.now c.args.declarations.now c.requires.program c.as_slice.result.now c.as_slice.ensures
     (sections_kept c.args.program.now c.requires.rules)
-
-pub returns-in-Ok : goal.returns-in-Ok
-returns-in-Ok c =
-    code_by c.args.program.now c.args.declarations.now c.requires.program c.as_slice.result.now c.in_ok-code.code
-    c.emit_sections.new.code c.as_slice.ensures c.in_ok-code.ensures c.in-Ok.ensures

@@ -1,6 +1,5 @@
-use Rattle.std.proofs.Common.{◌≡◌, Option, refl, ap, ◌∙◌}
+use Rattle.std.proofs.Common.{Option, refl, ap, ◌∙◌}
 use Rattle.picture.specs.declared.picture.Picture.{Picture}
-use Rattle.data_instructions.specs.declared.tables.DataItem.{DataItem}
 use Rattle.file_descriptions.specs.Files.{file_in}
 use Rattle.declarations.specs.Named.{items_in}
 use Rattle.statement_codegen.specs.FileCode.{sent_entry}

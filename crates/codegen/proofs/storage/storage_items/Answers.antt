@@ -1,4 +1,4 @@
-use Rattle.std.proofs.Common.{◌≡◌, ◌++◌, map, length, get_or, ap, ◌∙◌, arith}
+use Rattle.std.proofs.Common.{map, length, get_or, ap, ◌∙◌, arith}
 use Rattle.data_instructions.specs.Codes.{data_item}
 use Rattle.file_descriptions.specs.Files.{file_in}
 use Rattle.declarations.specs.Named.{items_in, files_in}
