@@ -14,6 +14,7 @@ const OVER: &str = "its case";
 pub struct OneTree;
 
 impl CheckCase for OneTree {
+    /// Prints the first row that differs.
     fn check<R: Print + AllocGlobal>(
         &self,
         rt: &R,
@@ -21,42 +22,57 @@ impl CheckCase for OneTree {
         case: Case,
         tally: &mut Tally,
     ) -> io::Result<()> {
-        if let Some(line) = case.wrong {
+        let wrong = case.wrong;
+        let done = do_rows(rt.alloc(), &case.rows, tally);
+        drop(case);
+        if let Some(line) = wrong {
             let fault = Fault::Spelling("this is no row");
             tally.fail_at(rt, script, OVER, line, fault)?;
         }
-        check_rows(rt, script, &case.rows, tally)
+        match done {
+            Ok(()) => Ok(()),
+            Err(Failure { line, fault }) => tally.fail_at(rt, script, OVER, line, fault),
+        }
     }
 }
 
-/// Does the rows of a case up to the first that differs, which is printed.
-fn check_rows<R: Print + AllocGlobal>(
-    rt: &R,
-    script: &str,
-    rows: &[Row],
-    tally: &mut Tally,
-) -> io::Result<()> {
+/// A row that failed: its line, and why.
+#[derive(Drop)]
+struct Failure {
+    line: u32,
+    fault: Fault,
+}
+
+/// Does the rows of a case up to the first that fails.
+fn do_rows(alloc: Global, rows: &[Row], tally: &mut Tally) -> Result<(), Failure> {
     let [first, rows @ ..] = rows else {
         return Ok(());
     };
-    match read_tree(rt.alloc(), &first.text) {
-        Ok(mut run) => check_rows_on(rt, script, &mut run, rows, tally),
-        Err(fault) => tally.fail_at(rt, script, OVER, first.line, fault),
+    match read_tree(alloc, &first.text) {
+        Ok(mut run) => {
+            let done = do_rows_on(alloc, &mut run, rows, tally);
+            drop(run);
+            done
+        }
+        Err(fault) => {
+            let line = first.line;
+            Err(Failure { line, fault })
+        }
     }
 }
 
-fn check_rows_on<R: Print + AllocGlobal>(
-    rt: &R,
-    script: &str,
+fn do_rows_on(
+    alloc: Global,
     run: &mut TreeRun,
     rows: &[Row],
     tally: &mut Tally,
-) -> io::Result<()> {
-    for row in rows.iter() {
-        match do_row(rt.alloc(), run, &row.text) {
-            Ok(()) => tally.pass(),
-            Err(fault) => return tally.fail_at(rt, script, OVER, row.line, fault),
+) -> Result<(), Failure> {
+    for row in rows {
+        if let Err(fault) = do_row(alloc, run, &row.text) {
+            let line = row.line;
+            return Err(Failure { line, fault });
         }
+        tally.pass();
     }
     Ok(())
 }

@@ -98,5 +98,10 @@ fn has_text(bytes: &[u8], place: usize, text: &[u8]) -> bool {
 
 /// `zeros PAGE PLACE`: whether the bytes of a page are zeros from a place on.
 fn has_zeros(bytes: &[u8], place: usize) -> bool {
-    bytes.iter().skip(place).all(|byte| *byte == 0)
+    for byte in bytes.iter().skip(place) {
+        if *byte != 0 {
+            return false;
+        }
+    }
+    true
 }

@@ -32,6 +32,12 @@ impl Drawing {
         }
     }
 
+    /// Makes it the drawing of no page.
+    fn clear(&mut self) {
+        self.count = 0;
+        self.start = MOST_BYTES;
+    }
+
     /// Its characters.
     pub fn bytes(&self) -> &[u8] {
         self.bytes.get(self.start..).unwrap_or(b"")
@@ -115,9 +121,9 @@ pub fn plant(volume: &mut Volume, drawing: &[u8]) {
     }
 }
 
-/// The drawing of a tree: from the root on, and turned round.
-pub fn draw(volume: &mut Volume) -> Drawing {
-    let mut drawing = Drawing::new();
+/// Draws a tree: from the root on, and turned round.
+pub fn draw(volume: &mut Volume, drawing: &mut Drawing) {
+    drawing.clear();
     if volume.root() != 0 {
         drawing.push_page(volume.root());
     }
@@ -135,7 +141,6 @@ pub fn draw(volume: &mut Volume) -> Drawing {
             None => break,
         }
     }
-    drawing
 }
 
 const WRONG: Answer = Answer::NoRow("this is no drawing");
@@ -225,20 +230,28 @@ fn plant_leaf(volume: &mut Volume, first: usize, count: usize) -> PlacedPage {
 
 /// Puts an inner page with these children on a page.
 fn plant_inner(volume: &mut Volume, children: &[PlacedPage]) -> PlacedPage {
-    let [first, ..] = children else {
+    let Some(first) = children.first() else {
         volume.refuse(WRONG);
         return NO_PAGE;
     };
     let mut inner = TreePage::new(volume.layout(), Kind::Inner);
-    for child in children.iter() {
-        if !push_row(&mut inner, child.least, &child.page.to_be_bytes()) {
-            volume.refuse(WRONG);
-        }
+    if !push_children(&mut inner, children) {
+        volume.refuse(WRONG);
     }
     PlacedPage {
         least: first.least,
         page: volume.put_page(&inner),
     }
+}
+
+/// Adds the rows of these children. The answer is whether they have room there.
+fn push_children(page: &mut TreePage, children: &[PlacedPage]) -> bool {
+    for child in children.iter() {
+        if !push_row(page, child.least, &child.page.to_be_bytes()) {
+            return false;
+        }
+    }
+    true
 }
 
 /// Adds a row after the last row of a page. The answer is whether it has room there.
@@ -248,10 +261,10 @@ fn push_row(page: &mut TreePage, number: u32, rest: &[u8]) -> bool {
         Kind::Leaf => layout.value_length,
         Kind::Inner => 4,
     };
-    let has_room = !page.is_full() && rest.len() == rest_length;
-    if has_room {
-        let key = key_of(layout.key_length, number);
-        page.insert(page.count(), &key[..layout.key_length], rest);
+    if page.is_full() || rest.len() != rest_length {
+        return false;
     }
-    has_room
+    let key = key_of(layout.key_length, number);
+    page.insert(page.count(), &key[..layout.key_length], rest);
+    true
 }

@@ -71,9 +71,11 @@ impl<'a> Operands<'a> {
 
     /// The words that the row expects after its arrow.
     pub fn expected(&mut self) -> &'a [u8] {
-        let is_expected = self.words.takes(b"->");
+        if !self.words.takes(b"->") {
+            return self.words.rest();
+        }
         match self.words.rest() {
-            [b' ', rest @ ..] if is_expected => rest,
+            [b' ', rest @ ..] => rest,
             rest => rest,
         }
     }

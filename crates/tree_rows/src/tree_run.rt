@@ -5,7 +5,7 @@ use crate::chain_calls::chain_call;
 use crate::drawings::{Drawing, draw, entries_in, leaves_in, plant};
 use crate::numbers::{copy, count_by_tens, first_from, has, number_at, put, take};
 use crate::operands::Operands;
-use crate::volume::{Found, Search, Volume};
+use crate::volume::{Found, Put, Search, Volume};
 use btree_pages::RowLayout;
 use row_scripts::Fault;
 use std::alloc::Global;
@@ -98,7 +98,9 @@ impl TreeRun {
         let one = operands.number();
         let other = operands.number();
         match call {
-            PairCall::Value => word_of(self.volume.replace(one, other), "new", "missing"),
+            PairCall::Value => {
+                word_of(self.volume.put(Put::Value, one, other), "new", "missing")
+            }
             PairCall::Valued => self.valued(one, other),
             PairCall::Reads => self.reads(one, other),
             PairCall::Leaves => self.leaves(one as usize, other as usize),
@@ -159,7 +161,7 @@ impl TreeRun {
 
     /// Puts an entry in. The answer is whether it is new.
     fn insert(&mut self, number: u32) -> bool {
-        let is_new = self.volume.insert(number);
+        let is_new = self.volume.put(Put::New, number, number);
         if is_new {
             let was_put = put(&mut self.there, number);
             self.need_memory(was_put);
@@ -340,7 +342,7 @@ impl TreeRun {
     }
 
     fn draw(&mut self) -> Answer {
-        self.drawing = draw(&mut self.volume);
+        draw(&mut self.volume, &mut self.drawing);
         Answer::Drawing
     }
 

@@ -24,6 +24,13 @@ pub enum Search {
     Next,
 }
 
+/// What is put into a tree: a new entry, or a value of an entry that is there.
+#[derive(Clone, Copy)]
+pub enum Put {
+    New,
+    Value,
+}
+
 /// What a search found.
 #[derive(Clone, Copy)]
 pub enum Found {
@@ -255,40 +262,23 @@ impl Volume {
         mem::swap(&mut self.tree, &mut self.other);
     }
 
-    /// Puts the entry of a number into the tree. The answer is whether it is new.
-    pub fn insert(&mut self, number: u32) -> bool {
+    /// Puts the entry of a number with the value of another into the tree, or gives the entry that value. The answer is whether it was
+    /// done: an entry is put in if it is new, and gets a value if it is there.
+    pub fn put(&mut self, put: Put, number: u32, other: u32) -> bool {
         if !self.fits() {
             return false;
         }
-        let RowLayout {
-            key_length,
-            value_length,
-        } = self.tree.layout();
-        let inserted = self.tree.insert(
-            &mut self.pages,
-            &mut self.station,
-            &key_of(key_length, number)[..key_length],
-            &value_of(number)[..value_length],
-        );
-        matches!(self.done(inserted), Some(true))
-    }
-
-    /// Gives the entry of a number the value of another. The answer is whether it is there.
-    pub fn replace(&mut self, number: u32, other: u32) -> bool {
-        if !self.fits() {
-            return false;
-        }
-        let RowLayout {
-            key_length,
-            value_length,
-        } = self.tree.layout();
-        let replaced = self.tree.replace(
-            &mut self.pages,
-            &mut self.station,
-            &key_of(key_length, number)[..key_length],
-            &value_of(other)[..value_length],
-        );
-        matches!(self.done(replaced), Some(true))
+        let layout = self.tree.layout();
+        let key = key_of(layout.key_length, number);
+        let key = &key[..layout.key_length];
+        let value = value_of(other);
+        let value = &value[..layout.value_length];
+        let (tree, pages, station) = (&mut self.tree, &mut self.pages, &mut self.station);
+        let done = match put {
+            Put::New => tree.insert(pages, station, key, value),
+            Put::Value => tree.replace(pages, station, key, value),
+        };
+        matches!(self.done(done), Some(true))
     }
 
     /// Takes the entry of a number out of the tree. The answer is whether it was there.
