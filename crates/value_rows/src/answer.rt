@@ -81,11 +81,12 @@ fn told(alloc: Global, bytes: &[u8]) -> Result<String, AllocError> {
 
 /// Bytes as a text that can be printed between quotation marks.
 fn text_of(bytes: &[u8]) -> Option<&str> {
-    if bytes.iter().all(|byte| is_plain(*byte)) {
-        std::str::from_utf8(bytes).ok()
-    } else {
-        None
+    for byte in bytes {
+        if !is_plain(*byte) {
+            return None;
+        }
     }
+    std::str::from_utf8(bytes).ok()
 }
 
 fn is_plain(byte: u8) -> bool {

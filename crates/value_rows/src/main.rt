@@ -18,16 +18,25 @@ use table::{Counts, check_table};
 /// The tables are the files that the words of the command name; without any, the one table is standard input.
 fn main(rt: HostRuntime) -> io::Result<ExitCode> {
     let mut counts = Counts::default();
-    let mut named = false;
-    for path in env::args(&rt)?.skip(1) {
-        named = true;
-        let text = fs::read_to_string(&rt, path.as_str())?;
-        check_table(&rt, path.as_str(), text.as_str(), &mut counts)?;
-    }
-    if !named {
+    if !check_named(&rt, &mut counts)? {
         let text = io::read_to_string(rt.alloc(), rt.stdin())?;
         check_table(&rt, "stdin", text.as_str(), &mut counts)?;
     }
     println!(rt; "{} passed, {} failed", counts.passed, counts.failed)?;
     Ok(ExitCode::from(u8::from(counts.failed > 0)))
+}
+
+/// Checks the tables that the words of the command name. The answer is whether there are any.
+fn check_named(rt: &HostRuntime, counts: &mut Counts) -> io::Result<bool> {
+    let mut is_named = false;
+    for path in env::args(rt)?.skip(1) {
+        is_named = true;
+        check_file(rt, path.as_str(), counts)?;
+    }
+    Ok(is_named)
+}
+
+fn check_file(rt: &HostRuntime, path: &str, counts: &mut Counts) -> io::Result<()> {
+    let text = fs::read_to_string(rt, path)?;
+    check_table(rt, path, text.as_str(), counts)
 }
