@@ -131,6 +131,11 @@ pub named_page : (image : List Sector) (table : List ℕ) (page sector : ℕ) �
 named_page image table page sector is some =
     entry_page image table page ∙ ap (λ (s : ℕ). page_at image s) (sym is) ∙ sector_page image sector some
 
+-- a page without a sector is none
+pub missing_page : (image : List Sector) (table : List ℕ) (page : ℕ) → get_or table page 0 ≡ 0
+    → get_or (pages_in image table) page None ≡ None
+missing_page image table page none = entry_page image table page ∙ ap (λ (s : ℕ). page_at image s) none
+
 no_sector : (image : List Sector) (sector : ℕ) → page_at image sector ≡ None → sector ≡ 0
 no_sector image zero none = refl
 no_sector image (suc s) none = cc

@@ -1,5 +1,5 @@
 -- What a change of a page keeps of the map of pages.
-use Rattle.std.proofs.Common.{◌≡◌, ◌<◌, ℕ, List, length, sym, subst}
+use Rattle.std.proofs.Common.{◌≡◌, ◌<◌, ℕ, List, length, refl, sym, ◌∙◌, subst}
 use Rattle.std.specs.Prelude.{Option, Result, Ok, Err, OnOk, OnErr, nat_eq}
 use Rattle.std.specs.List.{All, IsDistinct}
 use Rattle.std.specs.Map.{keys_of}
@@ -9,7 +9,7 @@ use Rattle.pages.specs.Image.{NamesOnce, IsCommitted, pages_in}
 use Rattle.pages.specs.Changes.{changed_pages, ChangesPage, Places, ArePlaced}
 use Rattle.pages.specs.Cache.{IsCacheOf, cache_without}
 use Rattle.pages.specs.Volumes.{volume_of}
-use Rattle.pages.specs.Pages.{changed_pages_of, catalog_of, SameCommitted, KeepsCommitted}
+use Rattle.pages.specs.Pages.{changed_pages_of, catalog_of, SameCommitted, KeepsCommitted, IsUnchanged}
 use Rattle.pages.specs.Ready.{IsReady}
 use Rattle.pages.specs.declared.change.Change.{Change}
 use Rattle.pages.specs.declared.page_map.PageMap.{PageMap}
@@ -69,3 +69,27 @@ keeps_change old new changes page same catalog are changes_page distinct without
     (λ pages is. subst (λ (l : LruCache ℕ Sector). IsCacheOf pages (changed_pages_of new) l.entries) (sym without)
     (after_removed pages (changed_pages_of old) (changed_pages_of new) old.cache.entries page distinct
     (subst (λ (l : List Change). ChangesPage (changed_pages l) page (changed_pages_of new)) are changes_page) is))
+
+-- nothing is changed, and two calls keep what each keeps
+pub keeps_self : (p : PageMap) → KeepsCommitted p p
+keeps_self p = keeps_committed p p (record { volume = refl; mark = refl; spent = refl }) refl (λ pages is. is)
+
+pub keeps_then : (one two three : PageMap) → KeepsCommitted one two → KeepsCommitted two three
+    → KeepsCommitted one three
+keeps_then one two three first second = record {
+  committed = record {
+    volume = second.committed.volume ∙ first.committed.volume;
+    mark = second.committed.mark ∙ first.committed.mark;
+    spent = second.committed.spent ∙ first.committed.spent;
+  };
+  catalog = second.catalog ∙ first.catalog;
+  agrees = λ disk agrees. second.agrees disk (first.agrees disk agrees);
+}
+
+pub unchanged_self : (p : PageMap) → IsUnchanged p p
+unchanged_self p = record {
+  map = λ image. refl;
+  changed_pages = refl;
+  filled = refl;
+  committed = record { volume = refl; mark = refl; spent = refl };
+}

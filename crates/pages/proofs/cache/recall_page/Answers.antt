@@ -6,6 +6,10 @@ use Rattle.lru.specs.LruCache.{LruCache}
 use Rattle.pages.specs.Image.{pages_in}
 use Rattle.pages.specs.Cache.{IsCacheOf, CachesPage}
 use Rattle.pages.proofs.Caches.{hit_page, after_promoted, after_kept, recalls_kept}
+use Rattle.std.specs.Prelude.{Err, OnErr}
+use Rattle.pages.specs.declared.error.PagesError.TheVariants.{Device}
+use Rattle.pages.proofs.Passing.{passed, never_ok, still_error, if_refused, refused_never, some_not_none, on_err}
+use Rattle.pages.proofs.Passing.{reads_never, reads_passed, reads_where}
 use Rattle.pages.proofs.cache.recall_page.Goals as goal
 
 pub returns-in-Some-clause-page : goal.returns-in-Some-clause-page
@@ -37,3 +41,37 @@ returns-in-Some-found-clause-recalls g c =
     recalls_kept c.args.cache.now c.keep_page.new.cache c.args.page c.in-Some-found.bytes none
     (subst (λ (l : LruCache ℕ Sector). CachesPage c.args.page c.in-Some-found.bytes l c.keep_page.new.cache) same
     c.keep_page.ensures)
+
+pub returns-in-Some-clause-only : goal.returns-in-Some-clause-only
+returns-in-Some-clause-only g c = reads_never g.D.Device _ c.args.device.now (λ is. never_ok is)
+
+pub returns-in-Some-clause-absent : goal.returns-in-Some-clause-absent
+returns-in-Some-clause-absent g c = λ is. some_not_none is
+
+pub returns-in_err-found-clause-only : goal.returns-in_err-found-clause-only
+returns-in_err-found-clause-only g c =
+    reads_passed g.D.Device c.from_residual.result c.in_err-found.field-0.0 _ _ c.from_residual.ensures.1
+    c.in_err-found.ensures.only
+
+pub returns-in_err-found-clause-cause : goal.returns-in_err-found-clause-cause
+returns-in_err-found-clause-cause g c =
+    passed c.from_residual.result c.in_err-found.field-0.0 c.from_residual.ensures.1 (λ r. OnErr r (r ≡ Err Device))
+    (still_error c.in_err-found.ensures.cause)
+
+pub returns-in_err-found-clause-page : goal.returns-in_err-found-clause-page
+returns-in_err-found-clause-page g c = λ changed honest is.
+    if_refused c.from_residual.result c.in_err-found.field-0.0 c.from_residual.ensures.1 _
+
+pub returns-in_err-found-clause-absent : goal.returns-in_err-found-clause-absent
+returns-in_err-found-clause-absent g c = λ is.
+    refused_never c.from_residual.result c.in_err-found.field-0.0 _ c.from_residual.ensures.1 is
+
+pub returns-in_err-found-clause-recalls : goal.returns-in_err-found-clause-recalls
+returns-in_err-found-clause-recalls g c =
+    if_refused c.from_residual.result c.in_err-found.field-0.0 c.from_residual.ensures.1 _
+
+pub returns-in_err-found-clause-err : goal.returns-in_err-found-clause-err
+returns-in_err-found-clause-err g c = on_err c.from_residual.result c.in_default.ensures.none
+
+pub returns-in-Some-found-clause-only : goal.returns-in-Some-found-clause-only
+returns-in-Some-found-clause-only g c = reads_where g.D.Device _ _ _ _ (λ is. never_ok is) c.in_ok-found.ensures.only

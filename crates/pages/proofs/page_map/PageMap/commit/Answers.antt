@@ -18,6 +18,15 @@ use Rattle.pages.proofs.Committed.{stays_at_rest}
 use Rattle.pages.proofs.Passing.{passed}
 use Rattle.pages.proofs.Resting.{map_with, as_committed}
 use Rattle.pages.proofs.page_map.PageMap.commit.Given.{Over}
+use Rattle.std.proofs.Common.{◌↔◌, inl, inr, true}
+use Rattle.std.specs.Prelude.{Err}
+use Rattle.station.specs.Calls.{OnlyWrites}
+use Rattle.station.proofs.Calls.{blamed_where, writes_nothing}
+use Rattle.pages.specs.Errors.{IsCommitRefusal}
+use Rattle.pages.specs.Pages.{is_spent}
+use Rattle.pages.specs.declared.error.PagesError.TheVariants.{Device, Spent}
+use Rattle.pages.proofs.Passing.{never_ok, still_error, spent_not_device, spent_not_full, never_spent, blames_where}
+use Rattle.pages.proofs.Passing.{on_err, on_refused, commit_is_refusal, commit_not_spent}
 use Rattle.pages.proofs.page_map.PageMap.commit.Goals as goal
 
 pub returns-then-self-clause-moments : goal.returns-then-self-clause-moments
@@ -167,3 +176,136 @@ returns-clause-holds g c = let self = c.args.self.now in record {
       ∙ ap (λ (n : ℕ). map_with (version_of self.mark) n self.catalog (map_on g.D.Device self c.args.device.now).pages)
       c.in_ok-commit_volume.ensures.next.0;
 }
+
+pub returns-then-self-clause-only : goal.returns-then-self-clause-only
+returns-then-self-clause-only g c =
+    blamed_where g.D.Device _ _ _ _ (λ is. spent_not_device is) (writes_nothing g.D.Device c.args.device.now)
+
+pub returns-then-self-clause-holds : goal.returns-then-self-clause-holds
+returns-then-self-clause-holds g c = record { agrees = λ _ _. tt; map = λ _ _. tt; advances = λ _ _ _. tt }
+
+pub returns-then-self-clause-room : goal.returns-then-self-clause-room
+returns-then-self-clause-room g c = record {
+  full = λ is. spent_not_full is;
+  told = λ unspent full. never_spent c.args.self.now.spent unspent c.if-self.true;
+  unchanged = λ is. spent_not_full is;
+}
+
+pub returns-then-self-clause-cause : goal.returns-then-self-clause-cause
+returns-then-self-clause-cause g c = inr (inr (inr refl))
+
+pub returns-then-self-clause-spent : goal.returns-then-self-clause-spent
+returns-then-self-clause-spent g c = (λ is. c.if-self.true, λ was. refl)
+
+pub returns-then-self-clause-caches : goal.returns-then-self-clause-caches
+returns-then-self-clause-caches g c = record { gathers = tt; cache = refl; capacity = refl }
+
+pub returns-then-is_at_rest-clause-only : goal.returns-then-is_at_rest-clause-only
+returns-then-is_at_rest-clause-only g c =
+    blamed_where g.D.Device _ _ _ _ (λ is. never_ok is) (writes_nothing g.D.Device c.args.device.now)
+
+pub returns-then-is_at_rest-clause-holds : goal.returns-then-is_at_rest-clause-holds
+returns-then-is_at_rest-clause-holds g c =
+    let rest = c.is_at_rest.ensures.rest c.if-is_at_rest.true in
+    record {
+      agrees = λ honest agrees. agrees;
+      map = λ honest agrees. record { mark = refl; catalog = refl; pages = refl };
+      advances = λ honest agrees changed. absurd (changed (ap changed_pages rest.0, rest.1, rest.2));
+    }
+
+pub returns-then-is_at_rest-clause-room : goal.returns-then-is_at_rest-clause-room
+returns-then-is_at_rest-clause-room g c =
+    let rest = c.is_at_rest.ensures.rest c.if-is_at_rest.true in
+    record {
+      full = λ is. never_ok is;
+      told = λ unspent full. absurd (full.0 (ap changed_pages rest.0, rest.1, rest.2));
+      unchanged = λ is. never_ok is;
+    }
+
+pub returns-then-is_at_rest-clause-spent : goal.returns-then-is_at_rest-clause-spent
+returns-then-is_at_rest-clause-spent g c =
+    (λ is. never_ok is, λ was. never_spent c.args.self.now.spent c.if-self.false was)
+
+pub returns-then-is_at_rest-clause-caches : goal.returns-then-is_at_rest-clause-caches
+returns-then-is_at_rest-clause-caches g c =
+    record { gathers = λ image. record { capacity = refl; entries = λ e has. inl has }; cache = tt; capacity = refl }
+
+pub returns-in_err-commit_volume-clause-only : goal.returns-in_err-commit_volume-clause-only
+returns-in_err-commit_volume-clause-only g c =
+    let here = c.in_err-commit_volume.ensures in
+    passed c.from_residual.result c.in_err-commit_volume.field-0.0 c.from_residual.ensures.1
+    (λ r. OnlyWrites g.D.Device (r ≡ Err Device) c.args.device.now c.commit_volume.new.device)
+    (record {
+      honest = here.honest;
+      sectors = here.sectors;
+      failures = blames_where _ _ _ _ (λ is. still_error is) here.failures;
+      console = here.console;
+    })
+
+pub returns-in_err-commit_volume-clause-holds : goal.returns-in_err-commit_volume-clause-holds
+returns-in_err-commit_volume-clause-holds g c =
+    let result = c.from_residual.result in
+    let told = c.from_residual.ensures.1 in
+    record {
+      agrees = λ _ _. on_refused result c.in_err-commit_volume.field-0.0 told _;
+      map = λ _ _. on_refused result c.in_err-commit_volume.field-0.0 told _;
+      advances = λ _ _ _. on_refused result c.in_err-commit_volume.field-0.0 told _;
+    }
+
+pub returns-in_err-commit_volume-clause-settles : goal.returns-in_err-commit_volume-clause-settles
+returns-in_err-commit_volume-clause-settles g c =
+    let result = c.from_residual.result in
+    let told = c.from_residual.ensures.1 in
+    record {
+      committed = on_refused result c.in_err-commit_volume.field-0.0 told _;
+      changed_pages = on_refused result c.in_err-commit_volume.field-0.0 told _;
+      filled = on_refused result c.in_err-commit_volume.field-0.0 told _;
+      unspent = on_refused result c.in_err-commit_volume.field-0.0 told _;
+    }
+
+pub returns-in_err-commit_volume-clause-same_sectors : goal.returns-in_err-commit_volume-clause-same_sectors
+returns-in_err-commit_volume-clause-same_sectors g c = c.commit_volume.ensures.same_sectors
+
+pub returns-in_err-commit_volume-clause-refused : goal.returns-in_err-commit_volume-clause-refused
+returns-in_err-commit_volume-clause-refused g c = on_err c.from_residual.result refl
+
+pub returns-in_err-commit_volume-clause-cause : goal.returns-in_err-commit_volume-clause-cause
+returns-in_err-commit_volume-clause-cause g c =
+    let here = c.in_err-commit_volume.ensures in
+    passed c.from_residual.result c.in_err-commit_volume.field-0.0 c.from_residual.ensures.1
+    (λ r. IsCommitRefusal r)
+    (commit_is_refusal c.in_err-commit_volume.field-0.0 here.cause)
+
+pub returns-in_err-commit_volume-clause-spent : goal.returns-in_err-commit_volume-clause-spent
+returns-in_err-commit_volume-clause-spent g c =
+    let here = c.in_err-commit_volume.ensures in
+    passed c.from_residual.result c.in_err-commit_volume.field-0.0 c.from_residual.ensures.1
+    (λ r. (r ≡ Err Spent) ↔ (is_spent c.args.self.now ≡ true)) (
+      λ is. commit_not_spent c.in_err-commit_volume.field-0.0 here.cause is,
+      λ was. never_spent c.args.self.now.spent c.if-self.false was,
+    )
+
+pub returns-clause-only : goal.returns-clause-only
+returns-clause-only g c =
+    let here = c.in_ok-commit_volume.ensures in
+    record {
+      honest = here.honest;
+      sectors = here.sectors;
+      failures = blames_where _ _ _ _ (λ is. never_ok is) here.failures;
+      console = here.console;
+    }
+
+pub returns-clause-same_sectors : goal.returns-clause-same_sectors
+returns-clause-same_sectors g c = c.commit_volume.ensures.same_sectors
+
+pub returns-clause-room : goal.returns-clause-room
+returns-clause-room g c =
+    let lacks = λ (l : List Change). LacksSectors (volume_of c.args.self.now.volume) l in
+    record {
+      full = λ is. never_ok is;
+      told = λ _ full. c.in_ok-commit_volume.ensures.told (subst lacks (sym c.deref.ensures.value) full.1);
+      unchanged = λ is. never_ok is;
+    }
+
+pub returns-clause-spent : goal.returns-clause-spent
+returns-clause-spent g c = (λ is. never_ok is, λ was. never_spent c.args.self.now.spent c.if-self.false was)

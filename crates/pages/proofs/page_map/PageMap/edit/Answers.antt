@@ -2,9 +2,149 @@ use Rattle.std.proofs.Common.{◌≡◌, List, subst}
 use Rattle.std.specs.Prelude.{Some, slice_set, OnOk}
 use Rattle.station.specs.Disk.{Sector}
 use Rattle.pages.specs.Pages.{map_now}
+use Rattle.std.proofs.Common.{◌↔◌, inl, inr, true, refl, arith}
+use Rattle.std.specs.Prelude.{Err}
+use Rattle.pages.specs.Errors.{IsEditRefusal}
+use Rattle.pages.specs.Pages.{is_spent}
+use Rattle.pages.specs.declared.error.PagesError.TheVariants.{Memory, Spent}
+use Rattle.pages.proofs.Keeping.{keeps_self, keeps_committed, keeps_then}
+use Rattle.pages.proofs.Passing.{passed, memory_not_spent, on_refused, on_err, memory_is_edit, memory_alone}
+use Rattle.pages.proofs.Passing.{never_spent}
 use Rattle.pages.proofs.page_map.PageMap.edit.Goals as goal
 
 pub returns-clause-map : goal.returns-clause-map
 returns-clause-map c =
     subst (λ (b : Sector). OnOk c.change.result ((image : List Sector) → (map_now c.change.new.self image).pages
     ≡ slice_set (map_now c.args.self.now image).pages c.args.page (Some b))) c.in_ok-kept.ensures c.change.ensures.map
+
+pub returns-then-self-clause-filled : goal.returns-then-self-clause-filled
+returns-then-self-clause-filled c = omega arith
+
+pub returns-then-self-clause-keeps : goal.returns-then-self-clause-keeps
+returns-then-self-clause-keeps c = keeps_self c.args.self.now
+
+pub returns-then-self-clause-cause : goal.returns-then-self-clause-cause
+returns-then-self-clause-cause c = inr refl
+
+pub returns-then-self-clause-spent : goal.returns-then-self-clause-spent
+returns-then-self-clause-spent c = (λ is. c.if-self.true, λ was. refl)
+
+pub returns-then-is_some-clause-cause : goal.returns-then-is_some-clause-cause
+returns-then-is_some-clause-cause c = memory_is_edit c.rewrite.result c.rewrite.ensures.cause
+
+pub returns-then-is_some-clause-spent : goal.returns-then-is_some-clause-spent
+returns-then-is_some-clause-spent c = (
+  λ is. memory_alone c.rewrite.result c.rewrite.ensures.cause is,
+  λ was. never_spent c.args.self.now.spent c.if-self.false was,
+)
+
+pub returns-then-is_some-clause-unchanged : goal.returns-then-is_some-clause-unchanged
+returns-then-is_some-clause-unchanged c = c.rewrite.ensures.unchanged
+
+pub returns-then-is_some-clause-filled : goal.returns-then-is_some-clause-filled
+returns-then-is_some-clause-filled c = c.rewrite.ensures.filled
+
+pub returns-then-is_some-clause-unfilled : goal.returns-then-is_some-clause-unfilled
+returns-then-is_some-clause-unfilled c = c.rewrite.ensures.unfilled
+
+pub returns-then-is_some-clause-err : goal.returns-then-is_some-clause-err
+returns-then-is_some-clause-err c = c.rewrite.ensures.err
+
+pub returns-then-is_some-clause-capacity : goal.returns-then-is_some-clause-capacity
+returns-then-is_some-clause-capacity c = c.rewrite.ensures.capacity
+
+pub returns-then-is_some-clause-cache : goal.returns-then-is_some-clause-cache
+returns-then-is_some-clause-cache c = c.rewrite.ensures.cache
+
+pub returns-then-is_some-clause-keeps : goal.returns-then-is_some-clause-keeps
+returns-then-is_some-clause-keeps c = c.rewrite.ensures.keeps
+
+pub returns-then-is_some-clause-map : goal.returns-then-is_some-clause-map
+returns-then-is_some-clause-map c = c.rewrite.ensures.map
+
+pub returns-then-is_some-clause-changes_page : goal.returns-then-is_some-clause-changes_page
+returns-then-is_some-clause-changes_page c = c.rewrite.ensures.changes_page
+
+pub returns-then-is_some-clause-fills : goal.returns-then-is_some-clause-fills
+returns-then-is_some-clause-fills c = c.rewrite.ensures.fills
+
+pub returns-then-is_some-clause-forgets : goal.returns-then-is_some-clause-forgets
+returns-then-is_some-clause-forgets c = c.rewrite.ensures.forgets
+
+pub returns-in_err-kept-clause-map : goal.returns-in_err-kept-clause-map
+returns-in_err-kept-clause-map c = on_refused c.from_residual.result Memory c.from_residual.ensures.1 _
+
+pub returns-in_err-kept-clause-changes_page : goal.returns-in_err-kept-clause-changes_page
+returns-in_err-kept-clause-changes_page c = on_refused c.from_residual.result Memory c.from_residual.ensures.1 _
+
+pub returns-in_err-kept-clause-fills : goal.returns-in_err-kept-clause-fills
+returns-in_err-kept-clause-fills c = on_refused c.from_residual.result Memory c.from_residual.ensures.1 _
+
+pub returns-in_err-kept-clause-forgets : goal.returns-in_err-kept-clause-forgets
+returns-in_err-kept-clause-forgets c = on_refused c.from_residual.result Memory c.from_residual.ensures.1 _
+
+pub returns-in_err-kept-clause-unchanged : goal.returns-in_err-kept-clause-unchanged
+returns-in_err-kept-clause-unchanged c = on_err c.from_residual.result refl
+
+pub returns-in_err-kept-clause-unfilled : goal.returns-in_err-kept-clause-unfilled
+returns-in_err-kept-clause-unfilled c = on_err c.from_residual.result refl
+
+pub returns-in_err-kept-clause-err : goal.returns-in_err-kept-clause-err
+returns-in_err-kept-clause-err c = on_err c.from_residual.result (λ image. refl)
+
+pub returns-in_err-kept-clause-cache : goal.returns-in_err-kept-clause-cache
+returns-in_err-kept-clause-cache c = on_err c.from_residual.result refl
+
+pub returns-in_err-kept-clause-filled : goal.returns-in_err-kept-clause-filled
+returns-in_err-kept-clause-filled c = omega arith
+
+pub returns-in_err-kept-clause-keeps : goal.returns-in_err-kept-clause-keeps
+returns-in_err-kept-clause-keeps c =
+    keeps_committed _ _ (record { volume = refl; mark = refl; spent = refl }) refl (λ pages is. is)
+
+pub returns-in_err-kept-clause-cause : goal.returns-in_err-kept-clause-cause
+returns-in_err-kept-clause-cause c = passed c.from_residual.result Memory c.from_residual.ensures.1
+    (λ r. IsEditRefusal r) (inl refl)
+
+pub returns-in_err-kept-clause-spent : goal.returns-in_err-kept-clause-spent
+returns-in_err-kept-clause-spent c = passed c.from_residual.result Memory c.from_residual.ensures.1
+    (λ r. (r ≡ Err Spent) ↔ (is_spent c.args.self.now ≡ true))
+    (λ is. memory_not_spent is, λ was. never_spent c.args.self.now.spent c.if-self.false was)
+
+pub returns-clause-keeps : goal.returns-clause-keeps
+returns-clause-keeps c = keeps_then _ _ c.change.new.self
+    (keeps_committed _ _ (record { volume = refl; mark = refl; spent = refl }) refl (λ pages is. is))
+    c.change.ensures.keeps
+
+pub returns-clause-unchanged : goal.returns-clause-unchanged
+returns-clause-unchanged c = c.change.ensures.unchanged
+
+pub returns-clause-filled : goal.returns-clause-filled
+returns-clause-filled c = c.change.ensures.filled
+
+pub returns-clause-unfilled : goal.returns-clause-unfilled
+returns-clause-unfilled c = c.change.ensures.unfilled
+
+pub returns-clause-err : goal.returns-clause-err
+returns-clause-err c = c.change.ensures.err
+
+pub returns-clause-capacity : goal.returns-clause-capacity
+returns-clause-capacity c = c.change.ensures.capacity
+
+pub returns-clause-cache : goal.returns-clause-cache
+returns-clause-cache c = c.change.ensures.cache
+
+pub returns-clause-cause : goal.returns-clause-cause
+returns-clause-cause c = c.change.ensures.cause
+
+pub returns-clause-spent : goal.returns-clause-spent
+returns-clause-spent c = c.change.ensures.spent
+
+pub returns-clause-changes_page : goal.returns-clause-changes_page
+returns-clause-changes_page c = c.change.ensures.changes_page
+
+pub returns-clause-fills : goal.returns-clause-fills
+returns-clause-fills c = c.change.ensures.fills
+
+pub returns-clause-forgets : goal.returns-clause-forgets
+returns-clause-forgets c = c.change.ensures.forgets

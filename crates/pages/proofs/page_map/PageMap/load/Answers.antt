@@ -8,6 +8,9 @@ use Rattle.pages.proofs.Edits.{Away, away_same, away_changed}
 use Rattle.pages.proofs.Caches.{none_found, unnamed_page}
 use Rattle.pages.proofs.Lookups.{table_fits, committed_after, cache_after}
 use Rattle.pages.proofs.page_map.PageMap.load.Given.{Over}
+use Rattle.std.proofs.Common.{[], inl, inr, refl}
+use Rattle.pages.proofs.Keeping.{unchanged_self}
+use Rattle.pages.proofs.Passing.{never_ok, spent_not_device, never_spent, device_alone, device_is_read, reads_never}
 use Rattle.pages.proofs.page_map.PageMap.load.Goals as goal
 
 -- the page wasn't changed
@@ -42,3 +45,80 @@ returns-clause-absent g c = λ image none.
     let zero_there : get_or table c.args.page 0 ≡ 0 = unnamed_page image table c.args.page
     (sym (away_same (λ (o : Option Sector). o) (pages_in image table) changes c.args.page None (away g c)) ∙ none) in
     c.load_page.ensures.absent (ap (λ (l : List ℕ). get_or l c.args.page 0) c.entries.ensures ∙ zero_there)
+
+pub returns-then-self-clause-only : goal.returns-then-self-clause-only
+returns-then-self-clause-only g c = reads_never g.D.Device _ c.args.device.now (λ is. spent_not_device is)
+
+pub returns-then-self-clause-unchanged : goal.returns-then-self-clause-unchanged
+returns-then-self-clause-unchanged g c = unchanged_self c.args.self.now
+
+pub returns-then-self-clause-loads : goal.returns-then-self-clause-loads
+returns-then-self-clause-loads g c = ([], inl refl)
+
+pub returns-then-self-clause-spent : goal.returns-then-self-clause-spent
+returns-then-self-clause-spent g c = (λ is. c.if-self.true, λ was. refl)
+
+pub returns-then-self-clause-cause : goal.returns-then-self-clause-cause
+returns-then-self-clause-cause g c = inr refl
+
+pub returns-then-is_some-clause-only : goal.returns-then-is_some-clause-only
+returns-then-is_some-clause-only g c = reads_never g.D.Device _ c.args.device.now (λ is. never_ok is)
+
+pub returns-then-is_some-clause-unchanged : goal.returns-then-is_some-clause-unchanged
+returns-then-is_some-clause-unchanged g c = record {
+  map = λ image. refl;
+  changed_pages = refl;
+  filled = refl;
+  committed = record { volume = refl; mark = refl; spent = refl };
+}
+
+pub returns-then-is_some-clause-loads : goal.returns-then-is_some-clause-loads
+returns-then-is_some-clause-loads g c = ([], inl refl)
+
+pub returns-then-is_some-clause-spent : goal.returns-then-is_some-clause-spent
+returns-then-is_some-clause-spent g c =
+    (λ is. never_ok is, λ was. never_spent c.args.self.now.spent c.if-self.false was)
+
+pub returns-then-is_some-2-clause-only : goal.returns-then-is_some-2-clause-only
+returns-then-is_some-2-clause-only g c = reads_never g.D.Device _ c.args.device.now (λ is. never_ok is)
+
+pub returns-then-is_some-2-clause-unchanged : goal.returns-then-is_some-2-clause-unchanged
+returns-then-is_some-2-clause-unchanged g c = record {
+  map = λ image. refl;
+  changed_pages = refl;
+  filled = refl;
+  committed = record { volume = refl; mark = refl; spent = refl };
+}
+
+pub returns-then-is_some-2-clause-loads : goal.returns-then-is_some-2-clause-loads
+returns-then-is_some-2-clause-loads g c = ([], inl refl)
+
+pub returns-then-is_some-2-clause-spent : goal.returns-then-is_some-2-clause-spent
+returns-then-is_some-2-clause-spent g c =
+    (λ is. never_ok is, λ was. never_spent c.args.self.now.spent c.if-self.false was)
+
+pub returns-clause-only : goal.returns-clause-only
+returns-clause-only g c = c.load_page.ensures.only
+
+pub returns-clause-unchanged : goal.returns-clause-unchanged
+returns-clause-unchanged g c = record {
+  map = λ image. refl;
+  changed_pages = refl;
+  filled = refl;
+  committed = record { volume = refl; mark = refl; spent = refl };
+}
+
+pub returns-clause-err : goal.returns-clause-err
+returns-clause-err g c = c.load_page.ensures.err
+
+pub returns-clause-loads : goal.returns-clause-loads
+returns-clause-loads g c = c.load_page.ensures.loads
+
+pub returns-clause-spent : goal.returns-clause-spent
+returns-clause-spent g c = (
+  λ is. device_alone c.load_page.result c.load_page.ensures.cause is,
+  λ was. never_spent c.args.self.now.spent c.if-self.false was,
+)
+
+pub returns-clause-cause : goal.returns-clause-cause
+returns-clause-cause g c = device_is_read c.load_page.result c.load_page.ensures.cause

@@ -7,6 +7,13 @@ use Rattle.pages.specs.Cache.{IsCacheOf}
 use Rattle.pages.specs.Pages.{committed_of}
 use Rattle.pages.proofs.Edits.{Away, away_same, away_changed}
 use Rattle.pages.proofs.Lookups.{changed_bytes, table_fits, committed_after, cache_after}
+use Rattle.std.proofs.Common.{inr, refl}
+use Rattle.std.specs.Prelude.{Contains}
+use Rattle.pages.specs.declared.change.Change.{Change}
+use Rattle.pages.proofs.Edits.{changed_at}
+use Rattle.pages.proofs.Keeping.{unchanged_self}
+use Rattle.pages.proofs.Passing.{never_ok, never_err, spent_not_device, never_spent, device_alone, device_is_read}
+use Rattle.pages.proofs.Passing.{reads_never}
 use Rattle.pages.proofs.page_map.PageMap.read.Goals as goal
 
 pub recall_page-requires : goal.recall_page-requires
@@ -51,3 +58,70 @@ returns-in-None-clause-changed g c = λ has.
     let changes = c.args.self.now.changes.items in
     let away : Away c.args.page changes = subst (Away c.args.page) c.deref.ensures.value c.in-None.ensures.absent in
     absurd (away_changed changes c.args.page away has)
+
+pub returns-then-self-clause-only : goal.returns-then-self-clause-only
+returns-then-self-clause-only g c = reads_never g.D.Device _ c.args.device.now (λ is. spent_not_device is)
+
+pub returns-then-self-clause-unchanged : goal.returns-then-self-clause-unchanged
+returns-then-self-clause-unchanged g c = unchanged_self c.args.self.now
+
+pub returns-then-self-clause-absent : goal.returns-then-self-clause-absent
+returns-then-self-clause-absent g c = λ is. never_err is
+
+pub returns-then-self-clause-spent : goal.returns-then-self-clause-spent
+returns-then-self-clause-spent g c = (λ is. c.if-self.true, λ was. refl)
+
+pub returns-then-self-clause-cause : goal.returns-then-self-clause-cause
+returns-then-self-clause-cause g c = inr refl
+
+pub returns-in-Some-clause-only : goal.returns-in-Some-clause-only
+returns-in-Some-clause-only g c = reads_never g.D.Device _ c.args.device.now (λ is. never_ok is)
+
+pub returns-in-Some-clause-unchanged : goal.returns-in-Some-clause-unchanged
+returns-in-Some-clause-unchanged g c = record {
+  map = λ image. refl;
+  changed_pages = refl;
+  filled = refl;
+  committed = record { volume = refl; mark = refl; spent = refl };
+}
+
+pub returns-in-Some-clause-recalls : goal.returns-in-Some-clause-recalls
+returns-in-Some-clause-recalls g c = λ away.
+    absurd (away (subst (λ (l : List Change). Contains (changed_pages l) c.args.page) c.deref.ensures.value
+    (changed_at c.deref.result.now c.in-Some.i c.args.page c.index.result.now c.in-Some.ensures.found.0
+    (c.in-Some.ensures.found.1 c.index.result.now))))
+
+pub returns-in-Some-clause-spent : goal.returns-in-Some-clause-spent
+returns-in-Some-clause-spent g c = (λ is. never_ok is, λ was. never_spent c.args.self.now.spent c.if-self.false was)
+
+pub returns-in-None-clause-only : goal.returns-in-None-clause-only
+returns-in-None-clause-only g c = c.recall_page.ensures.only
+
+pub returns-in-None-clause-unchanged : goal.returns-in-None-clause-unchanged
+returns-in-None-clause-unchanged g c = record {
+  map = λ image. refl;
+  changed_pages = refl;
+  filled = refl;
+  committed = record { volume = refl; mark = refl; spent = refl };
+}
+
+pub returns-in-None-clause-absent : goal.returns-in-None-clause-absent
+returns-in-None-clause-absent g c = c.recall_page.ensures.absent
+
+pub returns-in-None-clause-hit : goal.returns-in-None-clause-hit
+returns-in-None-clause-hit g c = c.recall_page.ensures.hit
+
+pub returns-in-None-clause-recalls : goal.returns-in-None-clause-recalls
+returns-in-None-clause-recalls g c = λ away. c.recall_page.ensures.recalls
+
+pub returns-in-None-clause-capacity : goal.returns-in-None-clause-capacity
+returns-in-None-clause-capacity g c = c.recall_page.ensures.capacity
+
+pub returns-in-None-clause-spent : goal.returns-in-None-clause-spent
+returns-in-None-clause-spent g c = (
+  λ is. device_alone c.recall_page.result c.recall_page.ensures.cause is,
+  λ was. never_spent c.args.self.now.spent c.if-self.false was,
+)
+
+pub returns-in-None-clause-cause : goal.returns-in-None-clause-cause
+returns-in-None-clause-cause g c = device_is_read c.recall_page.result c.recall_page.ensures.cause

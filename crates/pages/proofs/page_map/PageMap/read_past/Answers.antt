@@ -6,6 +6,9 @@ use Rattle.pages.specs.Changes.{changed_pages}
 use Rattle.pages.specs.Cache.{IsCacheOf}
 use Rattle.pages.proofs.Edits.{Away, away_same, away_changed}
 use Rattle.pages.proofs.Lookups.{changed_bytes, table_fits}
+use Rattle.std.proofs.Common.{inr, refl}
+use Rattle.pages.proofs.Passing.{never_ok, never_err, ok_is, spent_not_device, never_spent, device_alone}
+use Rattle.pages.proofs.Passing.{device_is_read, reads_never}
 use Rattle.pages.proofs.page_map.PageMap.read_past.Goals as goal
 
 pub fetch_page-requires : goal.fetch_page-requires
@@ -38,3 +41,48 @@ returns-in-None-clause-changed g c = λ has.
     let changes = c.args.self.now.changes.items in
     let away : Away c.args.page changes = subst (Away c.args.page) c.deref.ensures.value c.in-None.ensures.absent in
     absurd (away_changed changes c.args.page away has)
+
+pub returns-then-self-clause-only : goal.returns-then-self-clause-only
+returns-then-self-clause-only g c = reads_never g.D.Device _ c.args.device.now (λ is. spent_not_device is)
+
+pub returns-then-self-clause-absent : goal.returns-then-self-clause-absent
+returns-then-self-clause-absent g c = λ is. never_err is
+
+pub returns-then-self-clause-spent : goal.returns-then-self-clause-spent
+returns-then-self-clause-spent g c = (λ is. c.if-self.true, λ was. refl)
+
+pub returns-then-self-clause-cause : goal.returns-then-self-clause-cause
+returns-then-self-clause-cause g c = inr refl
+
+pub returns-in-Some-clause-only : goal.returns-in-Some-clause-only
+returns-in-Some-clause-only g c = reads_never g.D.Device _ c.args.device.now (λ is. never_ok is)
+
+pub returns-in-Some-clause-absent : goal.returns-in-Some-clause-absent
+returns-in-Some-clause-absent g c = λ is. (refl, c.copy_page.ensures.absent (ok_is is))
+
+pub returns-in-Some-clause-spent : goal.returns-in-Some-clause-spent
+returns-in-Some-clause-spent g c = (λ is. never_ok is, λ was. never_spent c.args.self.now.spent c.if-self.false was)
+
+pub returns-in-Some-clause-kept : goal.returns-in-Some-clause-kept
+returns-in-Some-clause-kept g c = λ is. never_ok is
+
+pub returns-in-None-clause-only : goal.returns-in-None-clause-only
+returns-in-None-clause-only g c = c.fetch_page.ensures.only
+
+pub returns-in-None-clause-absent : goal.returns-in-None-clause-absent
+returns-in-None-clause-absent g c = c.fetch_page.ensures.absent
+
+pub returns-in-None-clause-hit : goal.returns-in-None-clause-hit
+returns-in-None-clause-hit g c = c.fetch_page.ensures.hit
+
+pub returns-in-None-clause-spent : goal.returns-in-None-clause-spent
+returns-in-None-clause-spent g c = (
+  λ is. device_alone c.fetch_page.result c.fetch_page.ensures.cause is,
+  λ was. never_spent c.args.self.now.spent c.if-self.false was,
+)
+
+pub returns-in-None-clause-kept : goal.returns-in-None-clause-kept
+returns-in-None-clause-kept g c = λ is. device_alone c.fetch_page.result c.fetch_page.ensures.cause is
+
+pub returns-in-None-clause-cause : goal.returns-in-None-clause-cause
+returns-in-None-clause-cause g c = device_is_read c.fetch_page.result c.fetch_page.ensures.cause
