@@ -6,8 +6,7 @@ use Rattle.file_bytes.proofs.Checked.{all_bytes}
 use Rattle.half_store.proofs.Written.{at_rest}
 use Rattle.half_store.proofs.Turned.{memory_takes}
 use Rattle.half_store.proofs.Committed.{of_held, inserted_half, memory_after, idle_after, late_lacks, refused_turns}
-use Rattle.half_store.proofs.Committed.{committed_turns, refused_changes, refused_spends, committed_changes}
-use Rattle.half_store.proofs.Committed.{committed_spends}
+use Rattle.half_store.proofs.Committed.{committed_turns, refused_changes, committed_changes}
 use Rattle.half_store.proofs.store_calls.HalfStoreStore.insert.Goals as goal
 
 pub returns-then-self-clause-turns : goal.returns-then-self-clause-turns
@@ -62,13 +61,6 @@ pub returns-in_err-outcome-clause-changes : goal.returns-in_err-outcome-clause-c
 returns-in_err-outcome-clause-changes g c = refused_changes c.from_residual.result c.in_err-outcome.field-0.0
     c.from_residual.ensures.1 c.in_err-outcome.ensures.cause refl
 
-pub returns-in_err-outcome-clause-spends : goal.returns-in_err-outcome-clause-spends
-returns-in_err-outcome-clause-spends g c = refused_spends c.from_residual.result c.in_err-outcome.field-0.0
-    c.from_residual.ensures.1 c.if-self.false refl
-
 pub returns-clause-changes : goal.returns-clause-changes
 returns-clause-changes g c = committed_changes c.commit_files.ensures.only c.commit_files.ensures.sectors
     c.commit_files.ensures.unspent c.if-self.false c.commit_files.ensures.cause c.commit_files.ensures.unwritten
-
-pub returns-clause-spends : goal.returns-clause-spends
-returns-clause-spends g c = committed_spends c.if-self.false c.commit_files.ensures.spent
