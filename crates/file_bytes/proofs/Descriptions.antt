@@ -55,7 +55,7 @@ name_zeros : (k : ℕ) → name_in (replicate k 0) ≡ []
 name_zeros zero = refl
 name_zeros (suc k) = refl
 
-not_zero : (n : ℕ) → 1 ≤ n → (n == 0) ≡ false
+pub not_zero : (n : ℕ) → 1 ≤ n → (n == 0) ≡ false
 not_zero n le = go (n == 0) refl
   where
     go : (b : Bool) → (n == 0) ≡ b → (n == 0) ≡ false
