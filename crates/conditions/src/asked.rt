@@ -10,7 +10,7 @@ use source_tree::{Class, Relation, RelationalOperator, SignTest};
 use tokens::{Kind, Operator, Reserved, Token};
 
 /// What a word or a symbol asks for.
-#[derive(Clone, Copy, PartialEq, Eq)]
+#[derive(Clone, Copy)]
 pub enum Test {
     /// A relation in symbols.
     Symbol(Relation),
@@ -22,7 +22,7 @@ pub enum Test {
 }
 
 /// What is asked of an operand.
-#[derive(Clone, Copy, PartialEq, Eq)]
+#[derive(Clone, Copy)]
 pub enum Asked {
     Relation(RelationalOperator),
     Sign { negated: bool, sign: SignTest },

@@ -7,7 +7,7 @@ ghost use Rattle.conditions.specs.Evaluate as spec;
 use crate::compound::condition;
 use crate::plain::goes_on;
 use crate::sides::side;
-use grammar::{Halt, ReadFault, Tokens};
+use grammar::{Halt, ReadFault, Tokens, beside};
 use source_tree::{Choice, Object, Side, Subject};
 use std::alloc::Global;
 use tokens::{Reserved, Token};
@@ -51,6 +51,7 @@ fn alone(alloc: Global, tokens: &mut Tokens<'_>, depth: usize) -> Result<Option<
     match side(alloc, tokens, depth) {
         Ok(one) => {
             if in_condition(tokens.rest()) {
+                drop(one);
                 tokens.go_to(from);
                 return Ok(None);
             }
@@ -177,7 +178,7 @@ fn choice_value(
 ) -> Result<Choice, ReadFault>
     ensures { Reads (spec.choice_value_reader depth negated first tokens.old) result tokens.new }
 {
-    let last = last(alloc, tokens, depth)?;
+    let (first, last) = beside(first, last(alloc, tokens, depth))?;
     Ok(Choice::Value {
         negated,
         first,

@@ -56,7 +56,10 @@ fn class_after(tokens: &Tokens<'_>, item: Reference, asked: Asked) -> Result<Con
             negated,
             class,
         }),
-        _ => Err(tokens.refuse()),
+        _ => {
+            drop(item);
+            Err(tokens.refuse())
+        }
     }
 }
 
@@ -66,7 +69,7 @@ fn of_class(alloc: Global, tokens: &mut Tokens<'_>) -> Result<Condition, ReadFau
     ensures { Reads (spec.class_reader tokens.old) result tokens.new }
 {
     let item = reference(alloc, tokens)?;
-    let asked = read_asked(tokens)?;
+    let (item, asked) = beside(item, read_asked(tokens))?;
     class_after(tokens, item, asked)
 }
 
@@ -104,7 +107,7 @@ fn relation(
 ) -> Result<Condition, ReadFault>
     ensures { Reads (spec.relation_reader depth left operator tokens.old) result tokens.new }
 {
-    let right = side(alloc, tokens, depth)?;
+    let (left, right) = beside(left, side(alloc, tokens, depth))?;
     Ok(Condition::Relation {
         left,
         relation: relation_of(operator),
@@ -126,7 +129,10 @@ fn with_sign(
             negated,
             sign,
         }),
-        Side::Literal(_) => Err(tokens.refuse()),
+        Side::Literal(literal) => {
+            drop(literal);
+            Err(tokens.refuse())
+        }
     }
 }
 
@@ -142,7 +148,10 @@ fn compared_after(
     match asked {
         Asked::Relation(one) => relation(alloc, tokens, depth, left, one),
         Asked::Sign { negated, sign } => with_sign(tokens, left, negated, sign),
-        Asked::Class { .. } => Err(tokens.refuse()),
+        Asked::Class { .. } => {
+            drop(left);
+            Err(tokens.refuse())
+        }
     }
 }
 
