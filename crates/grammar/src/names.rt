@@ -46,20 +46,20 @@ pub fn begins_name(tokens: &Tokens<'_>) -> bool
 }
 
 /// A user-defined word.
-#[tactic(auto, unfolding(crate::specs::Reading::name, crate::specs::Reading::one_token, crate::specs::Reading::here))]
+#[tactic(auto, unfolding(crate::specs::Reading::name, crate::specs::Reading::one_token))]
 pub fn name(alloc: Global, tokens: &mut Tokens<'_>) -> Result<Name, ReadFault>
     ensures { Reads (spec.name tokens.old) result tokens.new }
 {
-    let place = tokens.here()?;
-    match tokens.rest() {
-        [next, rest @ ..] => match &next.kind {
-            Kind::Word(word) => {
-                let characters = Items::from_slice(alloc, word.as_slice())?;
-                tokens.go_to(rest);
-                Ok(Name { characters, place })
-            }
-            _ => Err(tokens.refuse()),
-        },
-        [] => Err(tokens.refuse()),
-    }
+    let [next, rest @ ..] = tokens.rest() else {
+        return Err(tokens.refuse());
+    };
+    let Kind::Word(word) = &next.kind else {
+        return Err(tokens.refuse());
+    };
+    let characters = Items::from_slice(alloc, word.as_slice())?;
+    tokens.go_to(rest);
+    Ok(Name {
+        characters,
+        place: next.place,
+    })
 }

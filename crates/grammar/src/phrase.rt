@@ -16,7 +16,7 @@ use std::alloc::Global;
 use tokens::{Reserved, Token};
 
 /// A phrase that has an opposite after NOT, by its words.
-#[derive(Clone, Copy, PartialEq, Eq)]
+#[derive(Clone, Copy)]
 pub enum Phrase {
     /// `[ON] SIZE ERROR`
     SizeError,

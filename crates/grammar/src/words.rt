@@ -22,9 +22,13 @@ pub fn is_word(token: &Token, word: Reserved) -> bool
 pub fn after_word(tokens: &[Token], word: Reserved) -> Option<&[Token]>
     ensures { option_copied result ≡ spec.after_word word tokens.now }
 {
-    match tokens {
-        [first, rest @ ..] if is_word(first, word) => Some(rest),
-        _ => None,
+    let [first, rest @ ..] = tokens else {
+        return None;
+    };
+    if is_word(first, word) {
+        Some(rest)
+    } else {
+        None
     }
 }
 
