@@ -3,7 +3,7 @@
 use source_tree::{Integer, Literal, Name, PictureText, SignClause, UsageClause};
 
 /// Which clause it is.
-#[derive(Clone, Copy, PartialEq, Eq)]
+#[derive(Clone, Copy)]
 pub enum ClauseKind {
     Redefines,
     Picture,

@@ -48,22 +48,22 @@ fn redefines(alloc: Global, tokens: &mut Tokens<'_>) -> Result<Clause, ReadFault
 }
 
 /// The characters of a picture.
-#[tactic(auto, unfolding(grammar::specs::Reading::one_token, grammar::specs::Reading::here))]
+#[tactic(auto, unfolding(grammar::specs::Reading::one_token))]
 fn picture_text(alloc: Global, tokens: &mut Tokens<'_>) -> Result<PictureText, ReadFault>
     ensures { Reads (read.one_token rule.picture_in tokens.old) result tokens.new }
 {
-    let place = tokens.here()?;
-    match tokens.rest() {
-        [next, rest @ ..] => match &next.kind {
-            Kind::Picture(text) => {
-                let characters = Items::from_slice(alloc, text.as_slice())?;
-                tokens.go_to(rest);
-                Ok(PictureText { characters, place })
-            }
-            _ => Err(tokens.refuse()),
-        },
-        [] => Err(tokens.refuse()),
-    }
+    let [next, rest @ ..] = tokens.rest() else {
+        return Err(tokens.refuse());
+    };
+    let Kind::Picture(text) = &next.kind else {
+        return Err(tokens.refuse());
+    };
+    let characters = Items::from_slice(alloc, text.as_slice())?;
+    tokens.go_to(rest);
+    Ok(PictureText {
+        characters,
+        place: next.place,
+    })
 }
 
 #[tactic(auto, unfolding(crate::specs::ClauseReading::picture_reader))]

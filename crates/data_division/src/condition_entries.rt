@@ -6,7 +6,7 @@ ghost use Rattle.data_division.specs.EntryReading as spec;
 
 use crate::optional::{either, skip_either};
 use expressions::{begins_literal, literal};
-use grammar::{Part, ReadFault, Tokens, name, several};
+use grammar::{Part, ReadFault, Tokens, beside, name, several};
 use source_tree::{ConditionEntry, Entry, Literal, ValueRange};
 use std::alloc::Global;
 use tokens::Reserved;
@@ -17,10 +17,10 @@ pub fn condition_entry(alloc: Global, tokens: &mut Tokens<'_>) -> Result<Entry, 
     ensures { Reads (spec.condition_reader tokens.old) result tokens.new }
 {
     let name = name(alloc, tokens)?;
-    either(tokens, Reserved::Value, Reserved::Values)?;
-    skip_either(tokens, Reserved::Is, Reserved::Are)?;
-    let values = several(&Ranges, alloc, tokens)?;
-    tokens.period()?;
+    let (name, ()) = beside(name, either(tokens, Reserved::Value, Reserved::Values))?;
+    let (name, ()) = beside(name, skip_either(tokens, Reserved::Is, Reserved::Are))?;
+    let entry = beside(name, several(&Ranges, alloc, tokens))?;
+    let ((name, values), ()) = beside(entry, tokens.period())?;
     Ok(Entry::Condition(ConditionEntry { name, values }))
 }
 
@@ -49,7 +49,7 @@ fn range(alloc: Global, tokens: &mut Tokens<'_>) -> Result<ValueRange, ReadFault
     ensures { Reads (spec.range_reader tokens.old) result tokens.new }
 {
     let first = literal(alloc, tokens)?;
-    let last = last_value(alloc, tokens)?;
+    let (first, last) = beside(first, last_value(alloc, tokens))?;
     Ok(ValueRange { first, last })
 }
 

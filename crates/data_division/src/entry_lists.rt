@@ -51,6 +51,7 @@ fn entry(alloc: Global, tokens: &mut Tokens<'_>) -> Result<Entry, ReadFault>
 {
     let level = integer(alloc, tokens)?;
     if is_condition(&level) {
+        drop(level);
         condition_entry(alloc, tokens)
     } else {
         item_entry(level, alloc, tokens)

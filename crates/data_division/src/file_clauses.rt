@@ -12,7 +12,7 @@ use std::alloc::Global;
 use tokens::{Kind, Reserved};
 
 /// A clause of an FD.
-#[derive(Clone, Copy, PartialEq, Eq)]
+#[derive(Clone, Copy)]
 pub enum FileClause {
     LabelRecords,
     BlockContains,
@@ -21,7 +21,7 @@ pub enum FileClause {
 }
 
 /// Which clauses stand in an FD.
-#[derive(Clone, Copy, PartialEq, Eq)]
+#[derive(Clone, Copy)]
 pub struct FileClauses {
     pub label_records: bool,
     pub block_contains: bool,
@@ -113,7 +113,7 @@ fn block_contains(alloc: Global, tokens: &mut Tokens<'_>) -> Result<FileClause, 
 {
     tokens.expect(Reserved::Block)?;
     tokens.skip(Reserved::Contains);
-    let _size = integer(alloc, tokens)?;
+    drop(integer(alloc, tokens)?);
     to_size(alloc, tokens)?;
     skip_either(tokens, Reserved::Records, Reserved::Characters)?;
     Ok(FileClause::BlockContains)
@@ -125,7 +125,7 @@ fn record_contains(alloc: Global, tokens: &mut Tokens<'_>) -> Result<FileClause,
 {
     tokens.expect(Reserved::Record)?;
     tokens.skip(Reserved::Contains);
-    let _size = integer(alloc, tokens)?;
+    drop(integer(alloc, tokens)?);
     tokens.skip(Reserved::Characters);
     Ok(FileClause::RecordContains)
 }

@@ -20,8 +20,8 @@ pub fn item_entry(
 ) -> Result<Entry, ReadFault>
     ensures { Reads (spec.item_reader level tokens.old) result tokens.new }
 {
-    let name = named(alloc, tokens)?;
-    let (name, clauses) = beside(name, stated_clauses(alloc, tokens))?;
+    let head = beside(level, named(alloc, tokens))?;
+    let ((level, name), clauses) = beside(head, stated_clauses(alloc, tokens))?;
     let (item, ()) = beside(item_of(level, name, clauses), tokens.period())?;
     Ok(Entry::Item(item))
 }
