@@ -3,7 +3,7 @@
 use source_tree::{Access, AlternateKeyClause, OrganizationClause, Reference};
 
 /// Which clause it is.
-#[derive(Clone, Copy, PartialEq, Eq)]
+#[derive(Clone, Copy)]
 pub enum ClauseKind {
     Organization,
     Access,

@@ -26,22 +26,23 @@ pub fn input_output(alloc: Global, tokens: &mut Tokens<'_>) -> Result<Items<Sele
 }
 
 /// The file's name on the volume: a nonnumeric literal or a word.
-#[tactic(auto, unfolding(grammar::specs::Reading::one_token, grammar::specs::Reading::here))]
+#[tactic(auto, unfolding(grammar::specs::Reading::one_token))]
 fn assigned_name(alloc: Global, tokens: &mut Tokens<'_>) -> Result<AssignedName, ReadFault>
     ensures { Reads (read.one_token spec.assigned_in tokens.old) result tokens.new }
 {
-    let place = tokens.here()?;
-    match tokens.rest() {
-        [next, rest @ ..] => match &next.kind {
-            Kind::Word(text) | Kind::Nonnumeric(text) => {
-                let characters = Items::from_slice(alloc, text.as_slice())?;
-                tokens.go_to(rest);
-                Ok(AssignedName { characters, place })
-            }
-            _ => Err(tokens.refuse()),
-        },
-        [] => Err(tokens.refuse()),
-    }
+    let [next, rest @ ..] = tokens.rest() else {
+        return Err(tokens.refuse());
+    };
+    let text = match &next.kind {
+        Kind::Word(text) | Kind::Nonnumeric(text) => text,
+        _ => return Err(tokens.refuse()),
+    };
+    let characters = Items::from_slice(alloc, text.as_slice())?;
+    tokens.go_to(rest);
+    Ok(AssignedName {
+        characters,
+        place: next.place,
+    })
 }
 
 /// A file's name, and after ASSIGN its name on the volume.
