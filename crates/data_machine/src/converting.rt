@@ -82,7 +82,9 @@ impl Data {
         let place = self.places.pop();
         let to = item_of(tables, place.item);
         let part = part_of(to, place.length);
-        self.convert_at(seen(to, &part), place.offset, one, numbers)
+        let done = self.convert_at(seen(to, &part), place.offset, one, numbers);
+        drop(part);
+        done
     }
 
     /// The same with an item at an offset.

@@ -126,7 +126,9 @@ impl Data {
         let place = self.places.pop();
         let one = item_of(tables, place.item);
         let part = part_of(one, place.length);
-        self.gather_at(seen(one, &part), place.offset)
+        let done = self.gather_at(seen(one, &part), place.offset);
+        drop(part);
+        done
     }
 
     /// `gather up to place`: the bytes at the newest place, up to those at the next one, which stays.
@@ -143,7 +145,9 @@ impl Data {
         let place = self.places.pop();
         let one = item_of(tables, place.item);
         let part = part_of(one, place.length);
-        self.gather_up_to_next(tables, seen(one, &part), place.offset)
+        let done = self.gather_up_to_next(tables, seen(one, &part), place.offset);
+        drop(part);
+        done
     }
 
     /// The bytes of an item at an offset, up to those at the newest place, which stays.
@@ -166,7 +170,9 @@ impl Data {
         let next = self.places.below(0);
         let other = item_of(tables, next.item);
         let part = part_of(other, next.length);
-        self.gather_between(one, offset, seen(other, &part), next.offset)
+        let done = self.gather_between(one, offset, seen(other, &part), next.offset);
+        drop(part);
+        done
     }
 
     /// `gather up to text`: the bytes at the newest place, up to a text of the table.
@@ -187,7 +193,9 @@ impl Data {
         let place = self.places.pop();
         let one = item_of(tables, place.item);
         let part = part_of(one, place.length);
-        self.gather_up_to_at(seen(one, &part), place.offset, delimiter)
+        let done = self.gather_up_to_at(seen(one, &part), place.offset, delimiter);
+        drop(part);
+        done
     }
 
     /// `gather text up to place`: a text of the table, up to the bytes at the newest place, which stays.
@@ -205,7 +213,9 @@ impl Data {
         let next = self.places.below(0);
         let other = item_of(tables, next.item);
         let part = part_of(other, next.length);
-        self.gather_before(bytes, seen(other, &part), next.offset)
+        let done = self.gather_before(bytes, seen(other, &part), next.offset);
+        drop(part);
+        done
     }
 
     /// `gather sized`: the bytes at the newest place, as many as its item has.
@@ -220,7 +230,9 @@ impl Data {
         let place = self.places.pop();
         let one = item_of(tables, place.item);
         let part = part_of(one, place.length);
-        self.gather_sized_at(seen(one, &part), place.offset)
+        let done = self.gather_sized_at(seen(one, &part), place.offset);
+        drop(part);
+        done
     }
 
     /// `gather measured`: the bytes at the newest place, padded to the size of its item in the table, and where in the line they
@@ -237,7 +249,9 @@ impl Data {
         let place = self.places.pop();
         let one = item_of(tables, place.item);
         let part = part_of(one, place.length);
-        self.gather_measured_at(seen(one, &part), place.offset, one.item.length)
+        let done = self.gather_measured_at(seen(one, &part), place.offset, one.item.length);
+        drop(part);
+        done
     }
 
     /// The same with an item at an offset and this size.

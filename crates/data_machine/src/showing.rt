@@ -27,7 +27,9 @@ impl Data {
         let place = self.places.pop();
         let one = item_of(tables, place.item);
         let part = part_of(one, place.length);
-        self.append_at(seen(one, &part), place.offset)
+        let done = self.append_at(seen(one, &part), place.offset);
+        drop(part);
+        done
     }
 
     /// `append` of a text of the table.

@@ -31,7 +31,9 @@ impl Data {
         let place = self.places.pop();
         let one = item_of(tables, place.item);
         let part = part_of(one, place.length);
-        self.give_at(seen(one, &part), place.offset, rounded, keep)
+        let done = self.give_at(seen(one, &part), place.offset, rounded, keep);
+        drop(part);
+        done
     }
 
     /// `clear truth`: no size error arose.

@@ -109,7 +109,9 @@ impl Data {
         let place = self.places.pop();
         let one = item_of(tables, place.item);
         let part = part_of(one, place.length);
-        self.string_first_at(seen(one, &part), place.offset)
+        let done = self.string_first_at(seen(one, &part), place.offset);
+        drop(part);
+        done
     }
 
     /// The same with an item at an offset.
@@ -159,12 +161,15 @@ impl Data {
         let to_part = part_of(to, pointer.length);
         let one = item_of(tables, place.item);
         let part = part_of(one, place.length);
-        self.string_at(
+        let done = self.string_at(
             seen(one, &part),
             place.offset,
             seen(to, &to_part),
             pointer.offset,
-        )
+        );
+        drop(part);
+        drop(to_part);
+        done
     }
 
     /// `string`, with a pointer or without. It takes no memory.

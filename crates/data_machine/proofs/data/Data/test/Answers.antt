@@ -1,6 +1,9 @@
-use Rattle.std.proofs.Common.{subst}
+use Rattle.std.proofs.Common.{subst, sym}
 use Rattle.data_instructions.specs.declared.test.Test.{Test}
 use Rattle.data_instructions.specs.declared.instruction.DataInstruction.TheVariants as i
+use Rattle.data_instructions.specs.Table.{test_step}
+use Rattle.data_machine.specs.Comes.{IsStepOf}
+use Rattle.data_machine.specs.Data.{scratch_of}
 use Rattle.data_machine.specs.Ready.{IsReady}
 use Rattle.data_machine.proofs.Readies.{ready_compare, ready_compare_literal, ready_class, ready_or_equal}
 use Rattle.data_machine.proofs.Readies.{ready_or_within}
@@ -26,3 +29,53 @@ or_equal-requires-clause-literal c = ready_or_equal c.args.tables.now c.args.sel
 pub or_within-requires-clause-literals : goal.or_within-requires-clause-literals
 or_within-requires-clause-literals c = ready_or_within c.args.tables.now c.args.self.now c.in-OrWithin.first
     (subst (λ (one : Test). IsReady c.args.tables.now c.args.self.now (i.Test one)) c.in-OrWithin.is c.requires)
+
+pub returns-in-Compare-clause-does : goal.returns-in-Compare-clause-does
+returns-in-Compare-clause-does c =
+    subst (λ (one : Test). IsStepOf c.compare.result (scratch_of c.compare.new.self)
+    (test_step c.args.tables.now one (scratch_of c.args.self.now))) (sym c.in-Compare.is) c.compare.ensures.does
+
+pub returns-in-Compare-clause-keeps : goal.returns-in-Compare-clause-keeps
+returns-in-Compare-clause-keeps c = c.compare.ensures.keeps
+
+pub returns-in-CompareLiteral-clause-does : goal.returns-in-CompareLiteral-clause-does
+returns-in-CompareLiteral-clause-does c =
+    subst (λ (one : Test). IsStepOf c.compare_literal.result (scratch_of c.compare_literal.new.self)
+    (test_step c.args.tables.now one (scratch_of c.args.self.now))) (sym c.in-CompareLiteral.is)
+    c.compare_literal.ensures.does
+
+pub returns-in-CompareLiteral-clause-keeps : goal.returns-in-CompareLiteral-clause-keeps
+returns-in-CompareLiteral-clause-keeps c = c.compare_literal.ensures.keeps
+
+pub returns-in-CompareNumbers-clause-does : goal.returns-in-CompareNumbers-clause-does
+returns-in-CompareNumbers-clause-does c =
+    subst (λ (one : Test). IsStepOf c.compare_numbers.result (scratch_of c.compare_numbers.new.self)
+    (test_step c.args.tables.now one (scratch_of c.args.self.now))) (sym c.in-CompareNumbers.is)
+    c.compare_numbers.ensures.does
+
+pub returns-in-CompareNumbers-clause-keeps : goal.returns-in-CompareNumbers-clause-keeps
+returns-in-CompareNumbers-clause-keeps c = c.compare_numbers.ensures.keeps
+
+pub returns-in-Class-clause-does : goal.returns-in-Class-clause-does
+returns-in-Class-clause-does c =
+    subst (λ (one : Test). IsStepOf c.class.result (scratch_of c.class.new.self)
+    (test_step c.args.tables.now one (scratch_of c.args.self.now))) (sym c.in-Class.is) c.class.ensures.does
+
+pub returns-in-Class-clause-keeps : goal.returns-in-Class-clause-keeps
+returns-in-Class-clause-keeps c = c.class.ensures.keeps
+
+pub returns-in-OrEqual-clause-does : goal.returns-in-OrEqual-clause-does
+returns-in-OrEqual-clause-does c =
+    subst (λ (one : Test). IsStepOf c.or_equal.result (scratch_of c.or_equal.new.self)
+    (test_step c.args.tables.now one (scratch_of c.args.self.now))) (sym c.in-OrEqual.is) c.or_equal.ensures.does
+
+pub returns-in-OrEqual-clause-keeps : goal.returns-in-OrEqual-clause-keeps
+returns-in-OrEqual-clause-keeps c = c.or_equal.ensures.keeps
+
+pub returns-in-OrWithin-clause-does : goal.returns-in-OrWithin-clause-does
+returns-in-OrWithin-clause-does c =
+    subst (λ (one : Test). IsStepOf c.or_within.result (scratch_of c.or_within.new.self)
+    (test_step c.args.tables.now one (scratch_of c.args.self.now))) (sym c.in-OrWithin.is) c.or_within.ensures.does
+
+pub returns-in-OrWithin-clause-keeps : goal.returns-in-OrWithin-clause-keeps
+returns-in-OrWithin-clause-keeps c = c.or_within.ensures.keeps
