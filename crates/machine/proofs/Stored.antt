@@ -1,9 +1,11 @@
 -- What a file statement leaves in storage.
 use Rattle.std.proofs.Common.{◌≡◌, ◌≢◌, ◌<◌, ℕ, zero, suc, ◌%◌, ◌^◌, ◌==◌, Bool, true, false, List, [], ◌∷◌, length}
 use Rattle.std.proofs.Common.{map, Option, Some, None, refl, sym, ◌∙◌, ap, subst, inl, inr, arith, if◌then◌else◌}
+use Rattle.std.proofs.Common.{◌⊎◌, get_or, Result, Ok, Err}
 use Rattle.std.specs.Prelude.{slice_get, slice_set, slice_index_or, IfSome}
 use Rattle.std.specs.Option.{option_map}
 use Rattle.std.proofs.lemmas.Bool.Decides.{nat_tests}
+use Rattle.std.proofs.lemmas.Option.{same_Some, slice_get_within}
 use Rattle.records.specs.declared.status.Status.{Status}
 use Rattle.records.specs.declared.verb.Verb.{Verb}
 use Rattle.records.specs.Files.{Files}
@@ -14,11 +16,14 @@ use Rattle.records.specs.Spec.{is_spec}
 use Rattle.source_tree.specs.Storage.{Storage}
 use Rattle.source_tree.specs.References.{ItemPlace}
 use Rattle.source_tree.specs.ProgramFiles.{FilePlaces, digits_in, digits_at}
-use Rattle.source_tree.specs.FileStatements.{number_stored, with_number, with_status, area_of, stored_by, step_by}
+use Rattle.source_tree.specs.FileStatements.{relative_number, number_stored, with_number, with_status, area_of}
+use Rattle.source_tree.specs.FileStatements.{stored_by, step_by}
 use Rattle.data_instructions.specs.declared.index.ItemIndex.{ItemIndex}
 use Rattle.data_instructions.specs.declared.tables.DataItem.{DataItem}
 use Rattle.data_instructions.specs.declared.tables.DataTables.{DataTables}
+use Rattle.data_machine.specs.Finds.{IsAtOffset}
 use Rattle.data_machine.specs.FindsFirst.{IsAtFirst}
+use Rattle.data_machine.proofs.Inspects.{entry_read}
 use Rattle.file_image.specs.declared.file.CodeFile.{CodeFile}
 use Rattle.file_image.specs.Files.{place_of_item, place_at, entry_of, places_of, spec_of as file_spec}
 use Rattle.machine.specs.Filing.{FindsNumber, FindsStatus, with_low_number, Did}
@@ -181,6 +186,29 @@ step_looks entries places verb files connectors storage asks =
 
 -- ---- an item where it stands
 
+module _ (tables : DataTables) (storage : Storage) (index : ItemIndex) (items : List DataItem) (one : DataItem)
+    (is : items ≡ tables.items) (found : IsAtFirst tables storage index)
+    (read : one ≡ get_or items index.number one) where
+  pub item_here : slice_get tables.items index.number ≡ Some one
+  item_here =
+      entry_read items tables.items index.number one is
+      (slice_get_within tables.items index.number found.one found.here) read
+
+  pub item_found : found.one ≡ one
+  item_found = same_Some found.one one (sym found.here ∙ item_here)
+
+  pub item_stands : IsAtOffset one storage one.offset
+  item_stands = subst (λ (d : DataItem). IsAtOffset d storage d.offset) item_found found.stands
+
+pub number_read : (tables : DataTables) (item : Option ItemIndex) (index : ItemIndex) (one : DataItem)
+    (storage : Storage) (number : ℕ) → item ≡ Some index → slice_get tables.items index.number ≡ Some one
+    → number ≡ relative_number (Some (place_of_item one)) storage
+    → number ≡ relative_number (place_at tables item) storage
+number_read tables item index one storage number some here is =
+    is
+    ∙ ap (λ (o : Option DataItem). relative_number (option_map place_of_item o) storage) (sym here)
+    ∙ ap (λ (i : Option ItemIndex). relative_number (place_at tables i) storage) (sym some)
+
 pub low_number_stored : (tables : DataTables) (item : Option ItemIndex) (index : ItemIndex) (one : DataItem)
     (old new : ℕ) (storage after : Storage)
     → item ≡ Some index → slice_get tables.items index.number ≡ Some one → (old == new) ≡ false
@@ -223,3 +251,12 @@ step_done {places} {did = did} {answered} {connectors} {after} {old} {back} {lef
       storage_is = storage_left places did answered old back left before number bytes before_is does.area_is
           does.status_is back_is left_is fits;
     }
+
+-- what was done was not refused
+pub never_err : {T E A : Type 0} {x : T} {e : E} → (◌≡◌ {A = Result T E} (Ok x) (Err e)) → A
+never_err is = cc
+
+pub never_lacks : {T E A : Type 0} {x : T} {e f : E}
+    → (◌≡◌ {A = Result T E} (Ok x) (Err e)) ⊎ (◌≡◌ {A = Result T E} (Ok x) (Err f)) → A
+never_lacks (inl is) = never_err is
+never_lacks (inr is) = never_err is

@@ -11,7 +11,7 @@ use station::DeviceError;
 use thiserror::Error;
 
 /// What ended a run that its program didn't end.
-#[derive(Clone, Copy, Debug, PartialEq, Eq, Error)]
+#[derive(Clone, Copy, Debug, Error)]
 pub enum Refusal {
     #[error("the device failed")]
     Device,
@@ -79,7 +79,7 @@ impl From<DeviceError> for Refusal {
 }
 
 /// How a run ended.
-#[derive(Clone, Copy, Debug, PartialEq, Eq)]
+#[derive(Clone, Copy)]
 pub enum Ended {
     /// By STOP RUN, or after the last paragraph.
     Stopped,

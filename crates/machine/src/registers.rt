@@ -37,10 +37,10 @@ impl Registers {
         requires { IsVerified code.now }
         ensures { IfOk result (IsLoaded code.now) }
     {
+        let room = room_along(alloc, code)?;
         let counters = vec![in alloc; 0; code.instructions.len()]?;
         let returns = Returns::new(alloc, code)?;
         let input = vec![in alloc; 0; longest_item(&code.tables)]?;
-        let room = room_along(alloc, code)?;
         let scratch = Data::new(alloc, &code.tables, room)?;
         Ok(Registers {
             counters,

@@ -2,10 +2,12 @@ use Rattle.std.proofs.Common.{◌∙◌, List, length, ap, refl, arith, Err}
 use Rattle.std.proofs.lemmas.Option.{slice_get_within}
 use Rattle.records.specs.Connector.{Entry}
 use Rattle.records.specs.FileStep.{entry_at}
+use Rattle.file_image.specs.Files.{entries_of}
 use Rattle.code_image.specs.declared.instruction.Instruction.TheVariants as instruction
 use Rattle.machine.proofs.Standing.{stands_behind_stored}
 use Rattle.machine.proofs.Placed.{on_ok, at_file, entry_here, entries_many, finds_places}
 use Rattle.machine.proofs.FileCalls.{moments_under_way, moments_noted, goes_on_noted, given_up_by}
+use Rattle.machine.proofs.Ending.{kept_by_both, serves_after, never_true, caused_later, caused_by_store, unheard_over}
 use Rattle.machine.proofs.file_statement.file_statement.Goals as goal
 
 pub perform-performed-requires-clause-places : goal.perform-performed-requires-clause-places
@@ -133,3 +135,41 @@ returns-in-Err-clause-over g c = λ day run before left files stands so_far.
     c.perform-performed.new.verbs c.perform-performed.new.device c.in-Err.fault (c.in-Err.ensures.turns files stands)
     c.in-Err.ensures.changes stands.honest c.refusal_of.result c.refusal_of.ensures c.in-Err.ensures.asks
     (c.in-Err.ensures.full files stands) c.in-Err.ensures.old
+
+pub refusal_of-requires-clause-whole : goal.refusal_of-requires-clause-whole
+refusal_of-requires-clause-whole g c = λ is.
+    never_true c.requires.serves.whole (c.in-Err.ensures.changes.spent (ap Err is))
+
+pub refusal_of-requires-clause-layout : goal.refusal_of-requires-clause-layout
+refusal_of-requires-clause-layout g c = λ is. c.in-Err.ensures.changes.own_layout (ap Err is)
+
+pub returns-in-Ok-clause-sectors : goal.returns-in-Ok-clause-sectors
+returns-in-Ok-clause-sectors g c = c.note.ensures.sectors ∙ c.in-Ok.ensures.changes.only.sectors
+
+pub returns-in-Ok-clause-honest : goal.returns-in-Ok-clause-honest
+returns-in-Ok-clause-honest g c = kept_by_both c.in-Ok.ensures.changes.only.honest c.note.ensures.honest
+
+pub returns-in-Ok-clause-cause : goal.returns-in-Ok-clause-cause
+returns-in-Ok-clause-cause g c =
+    caused_later c.note.result _ _ _ c.in-Ok.ensures.changes.only.failures.no_fewer c.note.ensures.cause
+
+pub returns-in-Ok-clause-serves : goal.returns-in-Ok-clause-serves
+returns-in-Ok-clause-serves g c = on_ok c.note.result _
+    (serves_after c.in-Ok.ensures.changes.needs c.in-Ok.ensures.entries c.in-Ok.ensures.changes.same
+    (c.note.ensures.sectors ∙ c.in-Ok.ensures.changes.only.sectors) c.requires.serves)
+
+pub returns-in-Ok-clause-over : goal.returns-in-Ok-clause-over
+returns-in-Ok-clause-over g c = λ day run before left files stands so_far.
+    let only = c.in-Ok.ensures.changes.only in
+    unheard_over g.F.Keeps.holds g.F.Keeps.lacks (entries_of c.args.code.now.tables c.args.code.now.files) run
+    c.note.result before (g.S.Device.state c.args.station.now) _ _ c.note.ensures.device
+    (c.note.ensures.unheard (only.honest.0 stands.honest)) (only.console stands.honest).lines so_far.console
+
+pub returns-in-Err-clause-sectors : goal.returns-in-Err-clause-sectors
+returns-in-Err-clause-sectors g c = c.in-Err.ensures.changes.only.sectors
+
+pub returns-in-Err-clause-honest : goal.returns-in-Err-clause-honest
+returns-in-Err-clause-honest g c = c.in-Err.ensures.changes.only.honest
+
+pub returns-in-Err-clause-cause : goal.returns-in-Err-clause-cause
+returns-in-Err-clause-cause g c = caused_by_store c.refusal_of.ensures c.in-Err.ensures.changes.only.failures

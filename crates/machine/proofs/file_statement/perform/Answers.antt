@@ -10,7 +10,7 @@ use Rattle.file_image.specs.Files.{places_of, place_at}
 use Rattle.machine.proofs.Counters.{now_has}
 use Rattle.machine.proofs.Table.{StaysOrFits}
 use Rattle.machine.proofs.Stored.{status_as_long, number_as_long, taken_back, back_lengths, step_of}
-use Rattle.machine.proofs.Stored.{item_number_fits, step_done}
+use Rattle.machine.proofs.Stored.{item_number_fits, step_done, never_err, never_lacks}
 use Rattle.machine.proofs.FileCalls.{change_known}
 use Rattle.machine.proofs.file_statement.perform.Given.{Over}
 use Rattle.machine.proofs.file_statement.perform.Goals as goal
@@ -140,3 +140,9 @@ returns-in-Err-clause-changes g c = c.in-Err.ensures.store.changes
 
 pub returns-in-Err-clause-old : goal.returns-in-Err-clause-old
 returns-in-Err-clause-old g c = c.in-Err.ensures.lacks.old
+
+pub returns-in-Ok-clause-full : goal.returns-in-Ok-clause-full
+returns-in-Ok-clause-full g c = λ files stands full. never_lacks full
+
+pub returns-in-Ok-clause-old : goal.returns-in-Ok-clause-old
+returns-in-Ok-clause-old g c = λ is. never_err is
