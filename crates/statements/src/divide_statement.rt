@@ -48,7 +48,8 @@ fn remainder_of(
     quotient: Receiver,
     tokens: &mut Tokens<'_>,
 ) -> Result<Operation, ReadFault>
-    ensures { Reads (spec.remainder_of first order second (Some quotient) tokens.old) result tokens.new }
+    ensures { Reads (spec.remainder_of first order second (Some quotient) tokens.old) result
+        tokens.new }
 {
     let divided = (first, second, quotient);
     let (divided, ()) = beside(divided, tokens.expect(Reserved::Remainder))?;

@@ -24,15 +24,12 @@ patched_so old joined branched jumped branch other end e n b j =
     let patched =
     λ (l : List Instruction) (to : ℕ). slice_set (slice_set l branch (Branch other)) (other - 2) (Jump to) in
     let instructions : jumped ≡ patched (old.instructions ++ Join ∷ []) (length old.instructions + 1) =
-    j ∙ ap (λ (l : List Instruction). slice_set l (other - 2) (Jump end)) b
-    ∙ ap (λ (c : Code). patched c.instructions end) e
+    j ∙ ap (λ l. slice_set l (other - 2) (Jump end)) b ∙ ap (λ (c : Code). patched c.instructions end) e
     ∙ ap (patched (old.instructions ++ Join ∷ [])) (n ∙ joined_length old joined e) in
-    ap (λ (l : List Instruction). record joined { instructions = l }) instructions
-    ∙ ap
-    (λ (c : Code). record c { instructions = patched (old.instructions ++ Join ∷ []) (length old.instructions + 1) }) e
-    ∙ ap
-    (λ (c : Code). record c { instructions = patched (old.instructions ++ Join ∷ []) (length old.instructions + 1) })
-    (joined_nothing old)
+    let both = patched (old.instructions ++ Join ∷ []) (length old.instructions + 1) in
+    let placed = λ (c : Code). record c { instructions = both } in
+    ap (λ (l : List Instruction). record joined { instructions = l }) instructions ∙ ap placed e
+    ∙ ap placed (joined_nothing old)
 
 pub set-requires : goal.set-requires
 set-requires c =
