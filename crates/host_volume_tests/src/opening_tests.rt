@@ -11,26 +11,18 @@ use std::process::Abort;
 use std::rt::Files;
 use std::time::SystemTime;
 
+/// An opening to read and one to write are refused.
+fn refuses_both<R: Files<File = File> + AllocGlobal + Abort>(rt: &R, path: &str, kind: ErrorKind) {
+    fails_as(rt, HostVolume::open(rt, path, Access::Read), kind);
+    fails_as(rt, HostVolume::open(rt, path, Access::ReadWrite), kind);
+}
+
 #[test]
 fn openings_that_are_refused(rt: HostRuntime) {
     value_of(&rt, fs::create_dir(&rt, "refused"));
-    for access in [Access::Read, Access::ReadWrite] {
-        fails_as(
-            &rt,
-            HostVolume::open(&rt, "refused/V", access),
-            ErrorKind::NotFound,
-        );
-        fails_as(
-            &rt,
-            HostVolume::open(&rt, "refused", access),
-            ErrorKind::InvalidInput,
-        );
-        fails_as(
-            &rt,
-            HostVolume::open(&rt, "/dev/zero", access),
-            ErrorKind::InvalidInput,
-        );
-    }
+    refuses_both(&rt, "refused/V", ErrorKind::NotFound);
+    refuses_both(&rt, "refused", ErrorKind::InvalidInput);
+    refuses_both(&rt, "/dev/zero", ErrorKind::InvalidInput);
     holds(&rt, !value_of(&rt, fs::exists(&rt, "refused/V")));
     fails_as(
         &rt,
@@ -45,34 +37,36 @@ fn openings_that_are_refused(rt: HostRuntime) {
     value_of(&rt, fs::remove_dir_all(&rt, "refused"));
 }
 
+/// While a volume is open to write, it is opened by nobody else.
+fn has_one_writer<R: Files<File = File> + AllocGlobal + Abort>(rt: &R, path: &str) {
+    let writer = opened(rt, path, Access::ReadWrite);
+    refuses_both(rt, path, ErrorKind::WouldBlock);
+    fails_as(rt, NewVolume::open(rt, path), ErrorKind::WouldBlock);
+    drop(writer);
+}
+
+/// While a volume is open to read, others read it, and nobody writes it.
+fn has_some_readers<R: Files<File = File> + AllocGlobal + Abort>(rt: &R, path: &str) {
+    let reader = opened(rt, path, Access::Read);
+    drop(opened(rt, path, Access::Read));
+    fails_as(
+        rt,
+        HostVolume::open(rt, path, Access::ReadWrite),
+        ErrorKind::WouldBlock,
+    );
+    holds(rt, reader.write(0, &[8; 4096]).is_err());
+    drop(reader);
+}
+
 #[test]
 fn one_writer_or_some_readers(rt: HostRuntime) {
     make_file(&rt, "locks.V", 4096);
-    let writer = opened(&rt, "locks.V", Access::ReadWrite);
-    fails_as(
-        &rt,
-        HostVolume::open(&rt, "locks.V", Access::Read),
-        ErrorKind::WouldBlock,
-    );
-    fails_as(
-        &rt,
-        HostVolume::open(&rt, "locks.V", Access::ReadWrite),
-        ErrorKind::WouldBlock,
-    );
-    fails_as(&rt, NewVolume::open(&rt, "locks.V"), ErrorKind::WouldBlock);
-    drop(writer);
-    let reader = opened(&rt, "locks.V", Access::Read);
-    drop(opened(&rt, "locks.V", Access::Read));
-    fails_as(
-        &rt,
-        HostVolume::open(&rt, "locks.V", Access::ReadWrite),
-        ErrorKind::WouldBlock,
-    );
-    holds(&rt, reader.write(0, &[8; 4096]).is_err());
-    drop(reader);
+    has_one_writer(&rt, "locks.V");
+    has_some_readers(&rt, "locks.V");
     let volume = opened(&rt, "locks.V", Access::ReadWrite);
     let mut bytes = [0; 4096];
     value_of(&rt, volume.read(0, &mut bytes));
+    drop(volume);
     holds(&rt, bytes == [7; 4096]);
     remove(&rt, "locks.V");
 }
@@ -145,9 +139,15 @@ fn bytes_of_a_new_volume(rt: HostRuntime) {
         calls = calls.wrapping_add(1);
     });
     same(&rt, value_of(&rt, filled).count(), 513);
-    same(&rt, (calls, reported), (3, [256, 512, 513]));
-    let bytes = content(&rt, "new.V");
-    same(&rt, bytes.len(), 513 * 4096);
-    holds(&rt, bytes.iter().all(|byte| *byte == 0));
+    same(&rt, calls, 3);
+    holds(&rt, reported == [256, 512, 513]);
+    has_zeros(&rt, "new.V", 513 * 4096);
     remove(&rt, "new.V");
+}
+
+/// Asserts that a file has so many bytes, which are zeros.
+fn has_zeros<R: Files<File = File> + AllocGlobal + Abort>(rt: &R, path: &str, count: usize) {
+    let bytes = content(rt, path);
+    same(rt, bytes.len(), count);
+    holds(rt, bytes.iter().all(|byte| *byte == 0));
 }

@@ -50,14 +50,13 @@ const TWO_ROWS: &[FileRows] = &[FileRows {
 
 const KEYS: Printing = Printing::Dump(b"KEYS");
 
-/// What becomes of a call of the new device.
-#[derive(Clone, Copy)]
-enum Disturbance {
-    /// It fails.
-    Failure,
-    /// It fails, and all later ones.
-    Stop,
-}
+/// What commands print of a copy.
+const PRINTS: [(Printing, &[u8]); 4] = [
+    (Printing::List, LISTING),
+    (KEYS, b"A1\nB2\nC3\n"),
+    (Printing::Dump(b"BOXES"), b"1\n2\n"),
+    (Printing::Dump(b"LOG"), b"Z\nA\nM\n"),
+];
 
 fn copy(
     rt: &impl Abort,
@@ -94,12 +93,9 @@ fn copy_lasts(rt: &impl Abort, alloc: Global, choices: &[u32]) {
     let mut old = volume_of(rt, alloc, FILES);
     let mut new = done(rt, alloc, &mut old);
     new.crash(choices);
-    prints(rt, alloc, &mut new, Printing::List, PRINTED, LISTING);
-    prints(rt, alloc, &mut new, KEYS, PRINTED, b"A1\nB2\nC3\n");
-    let boxes = Printing::Dump(b"BOXES");
-    prints(rt, alloc, &mut new, boxes, PRINTED, b"1\n2\n");
-    let log = Printing::Dump(b"LOG");
-    prints(rt, alloc, &mut new, log, PRINTED, b"Z\nA\nM\n");
+    for (printing, text) in &PRINTS {
+        prints(rt, alloc, &mut new, *printing, PRINTED, text);
+    }
 }
 
 // The new volume holds the same files, whatever a crash leaves, and the old one isn't written.
@@ -120,21 +116,18 @@ fn volumes_without_files(rt: HostRuntime) {
     holds(&rt, copied.copy == Err(error));
 }
 
-fn disturb(station: &mut MemoryStation, how: Disturbance, call: u64) {
-    match how {
-        Disturbance::Failure => station.fail_at(call),
-        Disturbance::Stop => station.stop_at(call),
-    }
-}
-
-/// Disturbs each call of the new device in turn, until a copy is done. None of them is passed over, and a crash by these choices leaves
-/// no volume or the whole copy.
-fn is_disturbed(rt: &impl Abort, alloc: Global, how: Disturbance, choices: &[u32]) {
+/// Fails each call of the new device in turn, or stops it there, until a copy is done. None of them is passed over, and a crash by these
+/// choices leaves no volume or the whole copy.
+fn is_disturbed(rt: &impl Abort, alloc: Global, is_stop: bool, choices: &[u32]) {
     let mut old = volume_of(rt, alloc, TWO_ROWS);
     let mut new = blank_station(rt, alloc);
     let mut disturbed = 0u64;
     for call in 1..200 {
-        disturb(&mut new, how, call);
+        if is_stop {
+            new.stop_at(call);
+        } else {
+            new.fail_at(call);
+        }
         let Copied { device, copy } = copy(rt, alloc, &mut old, new);
         new = device;
         if copy == Ok(VolumeCopy::Done) {
@@ -151,17 +144,11 @@ fn is_disturbed(rt: &impl Abort, alloc: Global, how: Disturbance, choices: &[u32
     prints(rt, alloc, &mut new, KEYS, PRINTED, b"A1\nC3\n");
 }
 
-// No failure of the new device is passed over: each of its calls is needed. None leaves some of the
-// rows.
+// No failure and no stop of the new device is passed over: each of its calls is needed. None leaves some of the rows.
 #[test]
-fn new_devices_that_fail(rt: HostRuntime) {
-    is_disturbed(&rt, rt.alloc(), Disturbance::Failure, &[1, 0, 1, 0, 1, 0]);
-}
-
-// A stop at each call of the new device leaves no volume, or the whole copy.
-#[test]
-fn new_devices_that_stop(rt: HostRuntime) {
-    is_disturbed(&rt, rt.alloc(), Disturbance::Stop, &[0, 1, 0, 1, 1, 1]);
+fn new_devices_that_fail_or_stop(rt: HostRuntime) {
+    is_disturbed(&rt, rt.alloc(), false, &[1, 0, 1, 0, 1, 0]);
+    is_disturbed(&rt, rt.alloc(), true, &[0, 1, 0, 1, 1, 1]);
 }
 
 fn old_device_fails(rt: &impl Abort, alloc: Global, call: u64) {

@@ -1,10 +1,9 @@
 //! What `dump` prints.
-use crate::printing::{PRINTED, Printing, fails_at_flush, fills_writers, prints};
-use crate::volume::{FileRows, INDEXED, blank_station, volume_of};
+use crate::printing::{
+    PRINTED, PrintRow, Printing, fails_at_flush, fills_writers, finds_damage, print_rows,
+};
+use crate::volume::{FileRows, INDEXED};
 use records::Organization;
-use station::MemoryStation;
-use std::alloc::Global;
-use std::process::Abort;
 use volume_commands::{FileDump, VolumeError};
 
 const FILES: &[FileRows] = &[
@@ -26,43 +25,26 @@ const SALES: Printing = Printing::Dump(b"SALES");
 
 const DUMP: &[u8] = b"\\x1f \\x80\\xff\nAB\\\\\\x00\n~\\x7f\\x0a\\xa5\n";
 
-fn is_unknown(rt: &impl Abort, alloc: Global, station: &mut MemoryStation, name: &'static [u8]) {
-    let unknown = Ok(FileDump::UnknownName);
-    prints(rt, alloc, station, Printing::Dump(name), unknown, b"");
-}
+const UNKNOWN: Result<FileDump, VolumeError> = Ok(FileDump::UnknownName);
 
-// Rows of an indexed file in order of its key, those of a sequential file in the order of their WRITEs.
+// Rows of an indexed file in order of its key, those of a sequential file in the order of their WRITEs, and names that no file has.
+const DUMPS: [PrintRow; 6] = [
+    (SALES, PRINTED, DUMP),
+    (Printing::Dump(b"LOG"), PRINTED, b"2\n1\n"),
+    (Printing::Dump(b"NONE"), UNKNOWN, b""),
+    (Printing::Dump(b"sales"), UNKNOWN, b""),
+    (Printing::Dump(b"SALE"), UNKNOWN, b""),
+    (Printing::Dump(b""), UNKNOWN, b""),
+];
+
+// Damage is found before the name is looked up. A writer that fails has taken a beginning, cut anywhere, or the whole dump if it fails
+// when it is flushed.
 #[test]
-fn rows_in_order(rt: HostRuntime) {
+fn dumps(rt: HostRuntime) {
     let alloc = rt.alloc();
-    let mut station = volume_of(&rt, alloc, FILES);
-    prints(&rt, alloc, &mut station, SALES, PRINTED, DUMP);
-    let log = Printing::Dump(b"LOG");
-    prints(&rt, alloc, &mut station, log, PRINTED, b"2\n1\n");
-    is_unknown(&rt, alloc, &mut station, b"NONE");
-    is_unknown(&rt, alloc, &mut station, b"sales");
-    is_unknown(&rt, alloc, &mut station, b"SALE");
-    is_unknown(&rt, alloc, &mut station, b"");
-}
-
-// Damage is found before the name is looked up.
-#[test]
-fn damage_comes_before_the_name(rt: HostRuntime) {
-    let alloc = rt.alloc();
-    let mut blank = blank_station(&rt, alloc);
-    let damaged = Err(VolumeError::Damaged);
-    let none = Printing::Dump(b"NONE");
-    prints(&rt, alloc, &mut blank, none, damaged, b"");
-}
-
-// A writer that fails has taken a beginning, cut anywhere.
-#[test]
-fn writers_that_fail(rt: HostRuntime) {
+    print_rows(&rt, alloc, FILES, &DUMPS);
+    finds_damage(&rt, alloc, Printing::Dump(b"NONE"));
     let rooms = [0, 13, 14, DUMP.len() - 1, DUMP.len()];
-    fills_writers(&rt, rt.alloc(), FILES, SALES, DUMP, &rooms);
-}
-
-#[test]
-fn writer_that_fails_at_flush(rt: HostRuntime) {
-    fails_at_flush(&rt, rt.alloc(), FILES, SALES, DUMP);
+    fills_writers(&rt, alloc, FILES, SALES, DUMP, &rooms);
+    fails_at_flush(&rt, alloc, FILES, SALES, DUMP);
 }

@@ -37,30 +37,42 @@ fn load(alloc: Global, station: &mut MemoryStation, name: &[u8], text: &[u8]) ->
     load_volume(alloc, station, name, text, &mut Unseen)
 }
 
-fn load_ends(rt: &impl Abort, alloc: Global, text: &[u8], rows: u64, end: LoadEnd, dump: &[u8]) {
+// Lines are rows up to the first that is refused, and the rows before it stay: the lines, how many became rows, why no more did, and
+// the dump of the file.
+const LOADS: [(&[u8], u64, LoadEnd, &[u8]); 7] = [
+    (b"", 0, LoadEnd::Done, b""),
+    (LINES, 3, LoadEnd::Done, b"\\x00 \nA1\nB2\n"),
+    (
+        b"B2\nB3\nA1\n",
+        1,
+        LoadEnd::Rejected(Status::DuplicateKey),
+        b"B2\n",
+    ),
+    (b"\n", 1, LoadEnd::Done, b"  \n"),
+    (b"B\nABC", 1, LoadEnd::Malformed(LineFault::Long), b"B \n"),
+    (
+        b"B\nA\x1f",
+        1,
+        LoadEnd::Malformed(LineFault::Control),
+        b"B \n",
+    ),
+    (b"B\nA\\", 1, LoadEnd::Malformed(LineFault::Escape), b"B \n"),
+];
+
+fn load_ends(rt: &impl Abort, alloc: Global, lines: &[u8], rows: u64, end: LoadEnd, dump: &[u8]) {
     let mut station = volume_of(rt, alloc, KEYS);
-    let answer = load(alloc, &mut station, b"KEYS", text);
-    same_in(rt, &text, answer.rows, rows);
+    let answer = load(alloc, &mut station, b"KEYS", lines);
+    same_in(rt, &lines, answer.rows, rows);
     holds(rt, answer.end == end);
     let keys = Printing::Dump(b"KEYS");
     prints(rt, alloc, &mut station, keys, PRINTED, dump);
 }
 
-// Lines are rows up to the first that is refused, and the rows before it stay.
 #[test]
 fn lines_that_are_refused(rt: HostRuntime) {
-    let alloc = rt.alloc();
-    let taken = LoadEnd::Rejected(Status::DuplicateKey);
-    load_ends(&rt, alloc, b"", 0, LoadEnd::Done, b"");
-    load_ends(&rt, alloc, LINES, 3, LoadEnd::Done, b"\\x00 \nA1\nB2\n");
-    load_ends(&rt, alloc, b"B2\nB3\nA1\n", 1, taken, b"B2\n");
-    load_ends(&rt, alloc, b"\n", 1, LoadEnd::Done, b"  \n");
-    let long = LoadEnd::Malformed(LineFault::Long);
-    load_ends(&rt, alloc, b"B\nABC", 1, long, b"B \n");
-    let control = LoadEnd::Malformed(LineFault::Control);
-    load_ends(&rt, alloc, b"B\nA\x1f", 1, control, b"B \n");
-    let escape = LoadEnd::Malformed(LineFault::Escape);
-    load_ends(&rt, alloc, b"B\nA\\", 1, escape, b"B \n");
+    for (lines, rows, end, dump) in &LOADS {
+        load_ends(&rt, rt.alloc(), lines, *rows, *end, dump);
+    }
 }
 
 // Without the file, and without files.

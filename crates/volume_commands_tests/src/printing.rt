@@ -1,7 +1,7 @@
 //! The commands that print what a volume holds: how they end, and what they print.
 use crate::asserted::{holds, same_in};
 use crate::narrow_writer::NarrowWriter;
-use crate::volume::{FileRows, volume_of};
+use crate::volume::{FileRows, blank_station, volume_of};
 use station::MemoryStation;
 use std::alloc::Global;
 use std::process::Abort;
@@ -17,6 +17,9 @@ pub enum Printing {
 
 /// How a command ends that has printed all.
 pub const PRINTED: Result<FileDump, VolumeError> = Ok(FileDump::Written);
+
+/// How a command ends, and what it prints.
+pub type PrintRow = (Printing, Result<FileDump, VolumeError>, &'static [u8]);
 
 impl Printing {
     /// Prints to a writer.
@@ -36,6 +39,21 @@ impl Printing {
             Err(error) => Err(error),
         }
     }
+}
+
+/// Asserts how commands on a volume of files end, and what they print.
+pub fn print_rows(rt: &impl Abort, alloc: Global, files: &[FileRows], rows: &[PrintRow]) {
+    let mut station = volume_of(rt, alloc, files);
+    for (printing, answer, text) in rows {
+        prints(rt, alloc, &mut station, *printing, *answer, text);
+    }
+}
+
+/// Asserts that a command finds a device of zeros damaged.
+pub fn finds_damage(rt: &impl Abort, alloc: Global, printing: Printing) {
+    let mut blank = blank_station(rt, alloc);
+    let damaged = Err(VolumeError::Damaged);
+    prints(rt, alloc, &mut blank, printing, damaged, b"");
 }
 
 /// Asserts how a command ends, what it prints to a writer, and that it doesn't write to the volume.
