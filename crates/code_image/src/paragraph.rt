@@ -152,7 +152,5 @@ pub(crate) fn has_order(
     let found = order_of(alloc, count, &ranges);
     drop(ranges);
     let order = found?;
-    let has = has_ranks(&order);
-    drop(order);
-    Ok(has)
+    Ok(has_ranks(&order))
 }

@@ -100,7 +100,7 @@ fn emit_onward(
     emit_meeting(code, branch, other)
 }
 
-/// The test stands before the first turn, and at the end of each.
+/// UNTIL is tested before the first turn, and at the end of each.
 #[cycle(statement)]
 fn emit_until_before(
     emitter: &Emitter<'_>,

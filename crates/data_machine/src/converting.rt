@@ -82,9 +82,7 @@ impl Data {
         let place = self.places.pop();
         let to = item_of(tables, place.item);
         let part = part_of(to, place.length);
-        let done = self.convert_at(seen(to, &part), place.offset, one, numbers);
-        drop(part);
-        done
+        self.convert_at(seen(to, &part), place.offset, one, numbers)
     }
 
     /// The same with an item at an offset.

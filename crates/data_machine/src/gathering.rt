@@ -126,9 +126,7 @@ impl Data {
         let place = self.places.pop();
         let one = item_of(tables, place.item);
         let part = part_of(one, place.length);
-        let done = self.gather_at(seen(one, &part), place.offset);
-        drop(part);
-        done
+        self.gather_at(seen(one, &part), place.offset)
     }
 
     /// `gather up to place`: the bytes at the newest place, up to those at the next one, which stays.
@@ -145,9 +143,7 @@ impl Data {
         let place = self.places.pop();
         let one = item_of(tables, place.item);
         let part = part_of(one, place.length);
-        let done = self.gather_up_to_next(tables, seen(one, &part), place.offset);
-        drop(part);
-        done
+        self.gather_up_to_next(tables, seen(one, &part), place.offset)
     }
 
     /// The bytes of an item at an offset, up to those at the newest place, which stays.
@@ -170,9 +166,7 @@ impl Data {
         let next = self.places.below(0);
         let other = item_of(tables, next.item);
         let part = part_of(other, next.length);
-        let done = self.gather_between(one, offset, seen(other, &part), next.offset);
-        drop(part);
-        done
+        self.gather_between(one, offset, seen(other, &part), next.offset)
     }
 
     /// `gather up to text`: the bytes at the newest place, up to a text of the table.
@@ -193,9 +187,7 @@ impl Data {
         let place = self.places.pop();
         let one = item_of(tables, place.item);
         let part = part_of(one, place.length);
-        let done = self.gather_up_to_at(seen(one, &part), place.offset, delimiter);
-        drop(part);
-        done
+        self.gather_up_to_at(seen(one, &part), place.offset, delimiter)
     }
 
     /// `gather text up to place`: a text of the table, up to the bytes at the newest place, which stays.
@@ -213,9 +205,7 @@ impl Data {
         let next = self.places.below(0);
         let other = item_of(tables, next.item);
         let part = part_of(other, next.length);
-        let done = self.gather_before(bytes, seen(other, &part), next.offset);
-        drop(part);
-        done
+        self.gather_before(bytes, seen(other, &part), next.offset)
     }
 
     /// `gather sized`: the bytes at the newest place, as many as its item has.
@@ -230,9 +220,7 @@ impl Data {
         let place = self.places.pop();
         let one = item_of(tables, place.item);
         let part = part_of(one, place.length);
-        let done = self.gather_sized_at(seen(one, &part), place.offset);
-        drop(part);
-        done
+        self.gather_sized_at(seen(one, &part), place.offset)
     }
 
     /// `gather measured`: the bytes at the newest place, padded to the size of its item in the table, and where in the line they
@@ -249,9 +237,7 @@ impl Data {
         let place = self.places.pop();
         let one = item_of(tables, place.item);
         let part = part_of(one, place.length);
-        let done = self.gather_measured_at(seen(one, &part), place.offset, one.item.length);
-        drop(part);
-        done
+        self.gather_measured_at(seen(one, &part), place.offset, one.item.length)
     }
 
     /// The same with an item at an offset and this size.

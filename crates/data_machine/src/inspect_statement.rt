@@ -52,9 +52,7 @@ impl Data {
         let subject = self.places.below(one.counters.len());
         let to = item_of(tables, subject.item);
         let part = part_of(to, subject.length);
-        let done = self.inspect_at(tables, one, numbers, subject, to, seen(to, &part));
-        drop(part);
-        done
+        self.inspect_at(tables, one, numbers, subject, to, seen(to, &part))
     }
 
     /// The same with the place below those of the counters, its item in the table, and that item as the place shows it.
@@ -199,9 +197,7 @@ fn add_at(
 {
     let one = item_of(tables, place.item);
     let part = part_of(one, place.length);
-    let done = add_fits(areas, seen(one, &part), place.offset, counts, from, entries);
-    drop(part);
-    done
+    add_fits(areas, seen(one, &part), place.offset, counts, from, entries)
 }
 
 /// Adds to each counter in turn: so many entries are the first one's, and so on.

@@ -71,9 +71,7 @@ impl Data {
         let place = self.places.pop();
         let one = item_of(tables, place.item);
         let part = part_of(one, place.length);
-        let done = self.push_at(seen(one, &part), place.offset);
-        drop(part);
-        done
+        self.push_at(seen(one, &part), place.offset)
     }
 
     /// `index`: the newest place becomes that of the occurrence which the newest number names, or fault 91; fault 90 where

@@ -61,7 +61,6 @@ impl Data {
         let part = part_of(one, place.length);
         self.areas
             .overlay(seen(one, &part), place.offset, bytes, marks);
-        drop(part);
         Ok(())
     }
 

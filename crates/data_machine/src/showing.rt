@@ -27,9 +27,7 @@ impl Data {
         let place = self.places.pop();
         let one = item_of(tables, place.item);
         let part = part_of(one, place.length);
-        let done = self.append_at(seen(one, &part), place.offset);
-        drop(part);
-        done
+        self.append_at(seen(one, &part), place.offset)
     }
 
     /// `append` of a text of the table.

@@ -31,9 +31,7 @@ impl Data {
         let place = self.places.pop();
         let one = item_of(tables, place.item);
         let part = part_of(one, place.length);
-        let done = self.give_at(seen(one, &part), place.offset, rounded, keep);
-        drop(part);
-        done
+        self.give_at(seen(one, &part), place.offset, rounded, keep)
     }
 
     /// `clear truth`: no size error arose.

@@ -109,9 +109,7 @@ impl Data {
         let place = self.places.pop();
         let one = item_of(tables, place.item);
         let part = part_of(one, place.length);
-        let done = self.string_first_at(seen(one, &part), place.offset);
-        drop(part);
-        done
+        self.string_first_at(seen(one, &part), place.offset)
     }
 
     /// The same with an item at an offset.
@@ -161,15 +159,12 @@ impl Data {
         let to_part = part_of(to, pointer.length);
         let one = item_of(tables, place.item);
         let part = part_of(one, place.length);
-        let done = self.string_at(
+        self.string_at(
             seen(one, &part),
             place.offset,
             seen(to, &to_part),
             pointer.offset,
-        );
-        drop(part);
-        drop(to_part);
-        done
+        )
     }
 
     /// `string`, with a pointer or without. It takes no memory.

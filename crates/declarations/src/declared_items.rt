@@ -22,8 +22,7 @@ use name_table::{LookUp, NameTable, item_names};
 use source_tree::{Entry, FileDescription, Program, QualifiedName, Select};
 use std::alloc::{AllocError, Global};
 
-/// The items of working storage and of records: their names, and where they stand, with the data of their program. They have no
-/// statements, so what looks at them is handed none.
+/// The items of working storage and of records: their names and places, and what declares them. No field reaches a statement.
 #[derive(Drop)]
 pub(crate) struct DeclaredItems<'a> {
     pub(crate) selects: &'a [Select],

@@ -77,7 +77,7 @@ subscripted_reader item first = do
   part ← part_behind_reader
   pure (record { item = item; subscripts = first ∷ more; part = part })
 
--- the subscripts, of which this is the first, and the part behind them
+-- the subscripts, of which this is the first, and the part after them
 unfoldable pub numbers_from_reader : Subscript → Parser (List Subscript × Option ItemPart)
 numbers_from_reader first = do
   more ← r.any subscript_reader begins_subscript

@@ -119,8 +119,7 @@ fn subscripted(
 ) -> Result<Reference, ReadFault>
     ensures { Reads (spec.subscripted_reader item first tokens.old) result tokens.new }
 {
-    let numbers = numbers_from(first, alloc, tokens)?;
-    let (subscripts, part) = numbers;
+    let (subscripts, part) = numbers_from(first, alloc, tokens)?;
     Ok(Reference {
         item,
         subscripts,
@@ -128,7 +127,7 @@ fn subscripted(
     })
 }
 
-/// Subscripts, of which this is the first, and the part behind them.
+/// Subscripts, of which this is the first, and the part after them.
 #[tactic(auto, unfolding(crate::specs::References::numbers_from_reader))]
 fn numbers_from(
     first: Subscript,

@@ -1,4 +1,4 @@
--- The data of programs with the names of their items, and where those stand.
+-- The data of programs, with the names and places of their items.
 use Rattle.std.specs.Prelude.{◌≡◌, List, map}
 use Rattle.source_tree.specs.declared.program.Program.{Program}
 use Rattle.source_tree.specs.Places.{LocatedItem}

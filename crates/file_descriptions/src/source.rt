@@ -11,8 +11,7 @@ use name_table::{LookUp, NameTable, items_named};
 use records::KeyPlace;
 use source_tree::{Entry, FileDescription, QualifiedName, Reference};
 
-/// The entries and FDs of a program, with the names of its items, and where those stand. It has no statements, so what looks at it is
-/// handed none.
+/// The entries and FDs of a program, with the names and places of its items. No field reaches a statement.
 #[derive(Clone, Copy)]
 pub struct Source<'a, 'b> {
     pub storage: &'a [Entry],

@@ -57,10 +57,7 @@ fn put_named(alloc: Global, found: Found<'_>, out: &mut Vec<Option<u8>>) -> Resu
     match picture_of(alloc, one.entry)? {
         Some(picture) => {
             let item = elementary(around, one.entry, &picture);
-            let editing = editing(around, one.entry, picture);
-            let put = put_initialized(alloc, item, &editing, out);
-            drop(editing);
-            put
+            put_initialized(alloc, item, &editing(around, one.entry, picture), out)
         }
         None => put_within(alloc, inside(around, one.entry), one.inner, out),
     }

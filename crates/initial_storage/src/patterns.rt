@@ -136,12 +136,10 @@ fn put_elementary(
 {
     let item = elementary(around, entry, &picture);
     let editing = editing(around, entry, picture);
-    let put = match entry.name {
+    match entry.name {
         None => put_old(item.length, out),
         Some(_) => put_initialized(alloc, item, &editing, out),
-    };
-    drop(editing);
-    put
+    }
 }
 
 /// Puts one occurrence of an item in a group.

@@ -226,10 +226,6 @@ pub returns-in_err-repeated-clause-file : goal.returns-in_err-repeated-clause-fi
 returns-in_err-repeated-clause-file g c =
     (refl, refl)
 
-pub returns-in_err-repeated-clause-place : goal.returns-in_err-repeated-clause-place
-returns-in_err-repeated-clause-place g c =
-    c.is_repeated.ensures.place
-
 pub returns-in_err-read_row-clause-found : goal.returns-in_err-read_row-clause-found
 returns-in_err-read_row-clause-found g c =
     λ honest agrees spec i rows row told near. if_refused c.from_residual-in_err-read_row.result
@@ -243,7 +239,3 @@ returns-in_err-read_row-clause-bytes g c =
 pub returns-in_err-read_row-clause-file : goal.returns-in_err-read_row-clause-file
 returns-in_err-read_row-clause-file g c =
     (refl, refl)
-
-pub returns-in_err-read_row-clause-place : goal.returns-in_err-read_row-clause-place
-returns-in_err-read_row-clause-place g c =
-    c.is_repeated.ensures.place

@@ -152,27 +152,3 @@ returns-clause-cause g c =
 pub returns-clause-spent : goal.returns-clause-spent
 returns-clause-spent g c =
     λ is. (c.in-Err.ensures.spent.0 (ap Err (spent_back c.in-Err.error (sym c.to_fault.ensures ∙ same_error is)))).0
-
-pub returns-in-Ok-true-clause-few : goal.returns-in-Ok-true-clause-few
-returns-in-Ok-true-clause-few g c =
-    c.replace.ensures.changed_pages
-
-pub returns-in-Ok-true-clause-filled : goal.returns-in-Ok-true-clause-filled
-returns-in-Ok-true-clause-filled g c =
-    c.replace.ensures.filled
-
-pub returns-in-Ok-false-clause-few : goal.returns-in-Ok-false-clause-few
-returns-in-Ok-false-clause-few g c =
-    c.replace.ensures.changed_pages
-
-pub returns-in-Ok-false-clause-filled : goal.returns-in-Ok-false-clause-filled
-returns-in-Ok-false-clause-filled g c =
-    c.replace.ensures.filled
-
-pub returns-clause-few : goal.returns-clause-few
-returns-clause-few g c =
-    c.replace.ensures.changed_pages
-
-pub returns-clause-filled : goal.returns-clause-filled
-returns-clause-filled g c =
-    c.replace.ensures.filled

@@ -178,27 +178,15 @@ returns-in_err-insert_among-clause-few g c =
     λ honest agrees left right entries stands.
     c.insert_among.ensures.changed_pages honest agrees left right entries stands
 
-pub returns-in_err-insert_among-clause-layout : goal.returns-in_err-insert_among-clause-layout
-returns-in_err-insert_among-clause-layout g c =
-    c.insert_among.ensures.layout
-
 pub returns-then-branch-clause-few : goal.returns-then-branch-clause-few
 returns-then-branch-clause-few g c =
     λ honest agrees left right entries stands.
     c.insert_among.ensures.changed_pages honest agrees left right entries stands
 
-pub returns-then-branch-clause-layout : goal.returns-then-branch-clause-layout
-returns-then-branch-clause-layout g c =
-    c.insert_among.ensures.layout
-
 pub returns-clause-few : goal.returns-clause-few
 returns-clause-few g c =
     λ honest agrees left right entries stands.
     c.insert_among.ensures.changed_pages honest agrees left right entries stands
-
-pub returns-clause-layout : goal.returns-clause-layout
-returns-clause-layout g c =
-    c.insert_among.ensures.layout
 
 pub insert_among-requires-clause-key : goal.insert_among-requires-clause-key
 insert_among-requires-clause-key g c =

@@ -224,57 +224,6 @@ returns-in_ok-take_pair-in-Replace-clause-spent g c =
     λ is. spent_before c.args.pages.now c.take_pair-in-Replace.new.pages c.take_pair-in-Replace.ensures.edits.committed
     (c.give_pair-in-Replace.ensures.spent is)
 
-pub returns-in-Insert-clause-edits : goal.returns-in-Insert-clause-edits
-returns-in-Insert-clause-edits g c = c.give_pair.ensures.edits
-
-pub returns-in-Insert-clause-layout : goal.returns-in-Insert-clause-layout
-returns-in-Insert-clause-layout g c = c.give_pair.ensures.layout
-
-pub returns-in-Insert-clause-spent : goal.returns-in-Insert-clause-spent
-returns-in-Insert-clause-spent g c = c.give_pair.ensures.spent
-
-pub returns-in-Insert-clause-cause : goal.returns-in-Insert-clause-cause
-returns-in-Insert-clause-cause g c = c.give_pair.ensures.cause
-
-pub returns-in-Remove-clause-edits : goal.returns-in-Remove-clause-edits
-returns-in-Remove-clause-edits g c = c.take_pair.ensures.edits
-
-pub returns-in-Remove-clause-layout : goal.returns-in-Remove-clause-layout
-returns-in-Remove-clause-layout g c = c.take_pair.ensures.layout
-
-pub returns-in-Remove-clause-spent : goal.returns-in-Remove-clause-spent
-returns-in-Remove-clause-spent g c = c.take_pair.ensures.spent
-
-pub returns-in_ok-take_pair-in-Replace-clause-cause : goal.returns-in_ok-take_pair-in-Replace-clause-cause
-returns-in_ok-take_pair-in-Replace-clause-cause g c = c.give_pair-in-Replace.ensures.cause
-
-pub returns-in_err-take_pair-in-Replace-clause-layout : goal.returns-in_err-take_pair-in-Replace-clause-layout
-returns-in_err-take_pair-in-Replace-clause-layout g c = c.take_pair-in-Replace.ensures.layout
-
-pub give_pair-requires-clause-sectors : goal.give_pair-requires-clause-sectors
-give_pair-requires-clause-sectors g c = c.requires.sectors
-
-pub give_pair-requires-clause-key : goal.give_pair-requires-clause-key
-give_pair-requires-clause-key g c = c.requires.key
-
-pub give_pair-requires-clause-layout : goal.give_pair-requires-clause-layout
-give_pair-requires-clause-layout g c = c.requires.layout
-
-pub take_pair-requires-clause-sectors : goal.take_pair-requires-clause-sectors
-take_pair-requires-clause-sectors g c = c.requires.sectors
-
-pub take_pair-requires-clause-key : goal.take_pair-requires-clause-key
-take_pair-requires-clause-key g c = c.requires.key
-
-pub take_pair-requires-in-Replace-clause-sectors : goal.take_pair-requires-in-Replace-clause-sectors
-take_pair-requires-in-Replace-clause-sectors g c = c.requires.sectors
-
-pub take_pair-requires-in-Replace-clause-key : goal.take_pair-requires-in-Replace-clause-key
-take_pair-requires-in-Replace-clause-key g c = c.requires.key
-
-pub give_pair-requires-in-Replace-clause-key : goal.give_pair-requires-in-Replace-clause-key
-give_pair-requires-in-Replace-clause-key g c = c.requires.key
-
 pub give_pair-requires-in-Replace-clause-layout : goal.give_pair-requires-in-Replace-clause-layout
 give_pair-requires-in-Replace-clause-layout g c =
     c.take_pair-in-Replace.ensures.layout ∙ c.requires.layout

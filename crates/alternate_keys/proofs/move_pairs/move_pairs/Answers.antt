@@ -265,9 +265,6 @@ file_tree-tree-requires-clause-key g c =
     let low : c.loop-key.key < length c.args.file.now.alternates.items = omega (arith, n, test) in
     low
 
-pub file_tree-tree-requires-clause-value : goal.file_tree-tree-requires-clause-value
-file_tree-tree-requires-clause-value g c = c.requires.listing
-
 pub move_pair-requires-clause-key : goal.move_pair-requires-clause-key
 move_pair-requires-clause-key g c =
     let n : c.len-count.result ≡ length c.args.file.now.alternates.items =
@@ -275,12 +272,3 @@ move_pair-requires-clause-key g c =
     let test = c.loop-key-test.true in
     let low : c.loop-key.key < length c.args.file.now.alternates.items = omega (arith, n, test) in
     low
-
-pub move_pair-requires-clause-layout : goal.move_pair-requires-clause-layout
-move_pair-requires-clause-layout g c = c.file_tree-tree.ensures.layout
-
-pub move_pair-requires-clause-values : goal.move_pair-requires-clause-values
-move_pair-requires-clause-values g c = c.requires.values
-
-pub returns-clause-cause : goal.returns-clause-cause
-returns-clause-cause g c = tt

@@ -249,11 +249,3 @@ returns g c =
     (λ honest agrees named generation left right has.
     sym (ap (λ (ch : FileChange). ch.outcome) (new honest agrees named generation left right has).1))
     (sym c.is_done.ensures ∙ c.if-not-is_done.false) c.in_ok-listing.ensures.long
-
-pub insert_row-requires-clause-layout : goal.insert_row-requires-clause-layout
-insert_row-requires-clause-layout g c =
-    c.row_tree-prime.ensures.layout
-
-pub insert_row-requires-clause-form : goal.insert_row-requires-clause-form
-insert_row-requires-clause-form g c =
-    c.row_tree-prime.ensures.form

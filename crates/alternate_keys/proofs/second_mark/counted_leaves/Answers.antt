@@ -441,35 +441,5 @@ first_in-requires g c = record { sectors = c.requires.sectors }
 pub make_room-requires : goal.make_room-requires
 make_room-requires g c = c.layout-layout.ensures.is ∙ c.catalog_tree.ensures.layout
 
-pub with_last-requires-clause-leaves : goal.with_last-requires-clause-leaves
-with_last-requires-clause-leaves g c = c.loop-turn.invariant.fills.each
-
-pub with_last-requires-clause-like : goal.with_last-requires-clause-like
-with_last-requires-clause-like g c = c.loop-turn.invariant.fills.like
-
-pub with_last-requires-clause-kind : goal.with_last-requires-clause-kind
-with_last-requires-clause-kind g c = c.loop-turn.invariant.fills.kind
-
-pub returns-in-None-clause-leaves : goal.returns-in-None-clause-leaves
-returns-in-None-clause-leaves g c = c.with_last.ensures.leaves
-
-pub with_last-requires-in-None-next-clause-leaves : goal.with_last-requires-in-None-next-clause-leaves
-with_last-requires-in-None-next-clause-leaves g c = c.loop-turn.invariant.fills.each
-
-pub with_last-requires-in-None-next-clause-like : goal.with_last-requires-in-None-next-clause-like
-with_last-requires-in-None-next-clause-like g c = c.loop-turn.invariant.fills.like
-
-pub with_last-requires-in-None-next-clause-kind : goal.with_last-requires-in-None-next-clause-kind
-with_last-requires-in-None-next-clause-kind g c = c.loop-turn.invariant.fills.kind
-
-pub returns-in-None-next-clause-leaves : goal.returns-in-None-next-clause-leaves
-returns-in-None-next-clause-leaves g c = c.with_last-in-None-next.ensures.leaves
-
-pub returns-in-Some-next-clause-leaves : goal.returns-in-Some-next-clause-leaves
-returns-in-Some-next-clause-leaves g c = tt
-
 pub returns-in-Some-next-clause-lists : goal.returns-in-Some-next-clause-lists
 returns-in-Some-next-clause-lists g c = λ honest agrees files holds. tt
-
-pub returns-in-Some-next-clause-cause : goal.returns-in-Some-next-clause-cause
-returns-in-Some-next-clause-cause g c = tt

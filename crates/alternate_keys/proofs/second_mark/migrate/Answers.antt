@@ -336,18 +336,3 @@ returns-clause-refused g c = λ honest.
     (opened g at.After-remake_catalog honest files holds))).sound is)
     (λ is. never_spent_then c.in-Ok.pages c.remake_catalog.new.pages c.set_mark.new.self c.in-Ok.ensures.ready.0
     c.remake_catalog.ensures.prepares.committed c.set_mark.ensures.spent (c.commit_pages.ensures.spent is))
-
-pub returns-in-Err-clause-honest : goal.returns-in-Err-clause-honest
-returns-in-Err-clause-honest g c = c.in-Err.ensures.honest
-
-pub returns-in-Err-clause-sectors : goal.returns-in-Err-clause-sectors
-returns-in-Err-clause-sectors g c = c.in-Err.ensures.sectors
-
-pub returns-in-Second-clause-honest : goal.returns-in-Second-clause-honest
-returns-in-Second-clause-honest g c = c.in-Ok.ensures.honest
-
-pub returns-in-Second-clause-sectors : goal.returns-in-Second-clause-sectors
-returns-in-Second-clause-sectors g c = c.in-Ok.ensures.sectors
-
-pub remake_catalog-requires-clause-unspent : goal.remake_catalog-requires-clause-unspent
-remake_catalog-requires-clause-unspent g c = c.in-Ok.ensures.ready.0

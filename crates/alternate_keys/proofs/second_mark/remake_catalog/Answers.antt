@@ -264,14 +264,5 @@ returns-clause-spent g c = λ is.
 pub returns-clause-cause : goal.returns-clause-cause
 returns-clause-cause g c = build_writes c.in-Err.error c.to_fault.result c.in-Err.ensures.cause c.to_fault.ensures
 
-pub returns-in-Ok-clause-cause : goal.returns-in-Ok-clause-cause
-returns-in-Ok-clause-cause g c = tt
-
 pub returns-clause-will : goal.returns-clause-will
 returns-clause-will g c = λ honest agrees files holds. tt
-
-pub counted_leaves-requires-clause-sectors : goal.counted_leaves-requires-clause-sectors
-counted_leaves-requires-clause-sectors g c = c.requires.sectors
-
-pub counted_leaves-requires-clause-mark : goal.counted_leaves-requires-clause-mark
-counted_leaves-requires-clause-mark g c = c.requires.mark

@@ -339,35 +339,17 @@ returns-in_err-told-in-Alternate-clause-cause g c =
     c.from_residual-in_err-told-in-Alternate.ensures.1 (λ r. IfErr r IsRecordRefusal)
     c.in_err-told-in-Alternate.ensures.cause
 
-pub returns-in_err-look_near-clause-place : goal.returns-in_err-look_near-clause-place
-returns-in_err-look_near-clause-place g c = c.look_near.ensures.place
-
 pub returns-in_err-look_near-clause-file : goal.returns-in_err-look_near-clause-file
 returns-in_err-look_near-clause-file g c = (refl, refl)
-
-pub returns-then-not-branch-clause-place : goal.returns-then-not-branch-clause-place
-returns-then-not-branch-clause-place g c = c.look_near.ensures.place
 
 pub returns-then-not-branch-clause-file : goal.returns-then-not-branch-clause-file
 returns-then-not-branch-clause-file g c = (refl, refl)
 
-pub returns-in_err-told-in-Prime-clause-place : goal.returns-in_err-told-in-Prime-clause-place
-returns-in_err-told-in-Prime-clause-place g c = c.look_near.ensures.place
-
 pub returns-in_err-told-in-Prime-clause-file : goal.returns-in_err-told-in-Prime-clause-file
 returns-in_err-told-in-Prime-clause-file g c = (refl, refl)
 
-pub returns-in_ok-told-in-Prime-clause-place : goal.returns-in_ok-told-in-Prime-clause-place
-returns-in_ok-told-in-Prime-clause-place g c = c.look_near.ensures.place
-
 pub returns-in_ok-told-in-Prime-clause-file : goal.returns-in_ok-told-in-Prime-clause-file
 returns-in_ok-told-in-Prime-clause-file g c = (refl, refl)
-
-pub returns-in_err-told-in-Alternate-clause-file : goal.returns-in_err-told-in-Alternate-clause-file
-returns-in_err-told-in-Alternate-clause-file g c = c.read_alternate_row.ensures.file
-
-pub returns-in_ok-told-in-Alternate-clause-file : goal.returns-in_ok-told-in-Alternate-clause-file
-returns-in_ok-told-in-Alternate-clause-file g c = c.read_alternate_row.ensures.file
 
 pub returns-then-not-branch-clause-damaged : goal.returns-then-not-branch-clause-damaged
 returns-then-not-branch-clause-damaged g c = λ honest agrees bound rows way near fits is. never_ok is

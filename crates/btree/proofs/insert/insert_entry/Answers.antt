@@ -328,20 +328,8 @@ returns-in_err-enter_leaf-clause-damaged g c = λ honest agrees is levels holds.
 pub returns-then-root-eq0-clause-damaged : goal.returns-then-root-eq0-clause-damaged
 returns-then-root-eq0-clause-damaged g c = λ honest agrees is. never_ok is
 
-pub returns-then-root-eq0-clause-cause : goal.returns-then-root-eq0-clause-cause
-returns-then-root-eq0-clause-cause g c = tt
-
 pub returns-then-branch-clause-damaged : goal.returns-then-branch-clause-damaged
 returns-then-branch-clause-damaged g c = λ honest agrees is. never_ok is
-
-pub returns-then-branch-clause-cause : goal.returns-then-branch-clause-cause
-returns-then-branch-clause-cause g c = tt
-
-pub returns-clause-full : goal.returns-clause-full
-returns-clause-full g c = c.insert_slowly.ensures.full
-
-pub returns-clause-cause : goal.returns-clause-cause
-returns-clause-cause g c = c.insert_slowly.ensures.cause
 
 pub returns-in_err-way-clause-changed_pages : goal.returns-in_err-way-clause-changed_pages
 returns-in_err-way-clause-changed_pages g c = λ honest agrees levels holds.

@@ -292,11 +292,5 @@ returns-in-Ok-clause-damaged g c = λ honest agrees is. never_ok is
 pub returns-in-Ok-clause-there : goal.returns-in-Ok-clause-there
 returns-in-Ok-clause-there g c = λ is. c.descend.ensures.unchanged
 
-pub returns-in-Ok-clause-cause : goal.returns-in-Ok-clause-cause
-returns-in-Ok-clause-cause g c = tt
-
 pub returns-clause-damaged : goal.returns-clause-damaged
 returns-clause-damaged g c = λ honest agrees is. never_ok is
-
-pub returns-clause-cause : goal.returns-clause-cause
-returns-clause-cause g c = tt

@@ -277,9 +277,6 @@ returns-then-not-is_page-clause-filled g c =
     few_one (filled_of c.args.pages.now) (filled_of c.args.pages.now) (length c.args.way.now.path.items)
     (few_more (filled_of c.args.pages.now) 2)
 
-pub returns-then-not-is_page-clause-cause : goal.returns-then-not-is_page-clause-cause
-returns-then-not-is_page-clause-cause g c = tt
-
 pub returns-then-not-is_page-clause-full : goal.returns-then-not-is_page-clause-full
 returns-then-not-is_page-clause-full g c = λ is. damaged_not_full is
 
@@ -335,29 +332,17 @@ returns-in-None-clause-damaged g c = λ honest agrees is. never_ok is
 pub returns-in-None-clause-some : goal.returns-in-None-clause-some
 returns-in-None-clause-some g c = λ some. some
 
-pub returns-in-None-clause-cause : goal.returns-in-None-clause-cause
-returns-in-None-clause-cause g c = tt
-
 pub returns-in-None-clause-full : goal.returns-in-None-clause-full
 returns-in-None-clause-full g c = λ is. never_ok is
 
 pub returns-clause-damaged : goal.returns-clause-damaged
 returns-clause-damaged g c = λ honest agrees is. never_ok is
 
-pub returns-clause-some : goal.returns-clause-some
-returns-clause-some g c = c.in_ok-new.ensures.some
-
-pub returns-clause-cause : goal.returns-clause-cause
-returns-clause-cause g c = tt
-
 pub returns-clause-full : goal.returns-clause-full
 returns-clause-full g c = λ is. never_ok is
 
 pub put_row-requires-clause-page : goal.put_row-requires-clause-page
 put_row-requires-clause-page g c = c.is_page.ensures.is.0 c.if-not-is_page.false
-
-pub put_row-requires-clause-place : goal.put_row-requires-clause-place
-put_row-requires-clause-place g c = c.requires.place
 
 pub put_row-requires-clause-key : goal.put_row-requires-clause-key
 put_row-requires-clause-key g c =

@@ -90,33 +90,9 @@ pub returns-in_err-up-clause-pages : goal.returns-in_err-up-clause-pages
 returns-in_err-up-clause-pages c =
     if_refused c.from_residual.result c.in_err-up.field-0.0 c.from_residual.ensures.1 _
 
-pub returns-clause-pages : goal.returns-clause-pages
-returns-clause-pages c = c.in_ok-up.ensures.pages
-
 pub returns-in_err-up-clause-keys : goal.returns-in_err-up-clause-keys
 returns-in_err-up-clause-keys c =
     if_refused c.from_residual.result c.in_err-up.field-0.0 c.from_residual.ensures.1 _
-
-pub returns-clause-keys : goal.returns-clause-keys
-returns-clause-keys c = c.in_ok-up.ensures.keys
-
-pub returns-in_err-up-clause-changed_pages : goal.returns-in_err-up-clause-changed_pages
-returns-in_err-up-clause-changed_pages c = c.update_parent.ensures.changed_pages
-
-pub returns-clause-changed_pages : goal.returns-clause-changed_pages
-returns-clause-changed_pages c = c.update_parent.ensures.changed_pages
-
-pub returns-in_err-up-clause-filled : goal.returns-in_err-up-clause-filled
-returns-in_err-up-clause-filled c = c.update_parent.ensures.filled
-
-pub returns-clause-filled : goal.returns-clause-filled
-returns-clause-filled c = c.update_parent.ensures.filled
-
-pub returns-in_err-up-clause-keeps : goal.returns-in_err-up-clause-keeps
-returns-in_err-up-clause-keeps c = c.update_parent.ensures.keeps
-
-pub returns-clause-keeps : goal.returns-clause-keeps
-returns-clause-keeps c = c.update_parent.ensures.keeps
 
 pub returns-in_err-up-clause-damaged : goal.returns-in_err-up-clause-damaged
 returns-in_err-up-clause-damaged c = λ is image inner low some is_in.

@@ -37,24 +37,6 @@ pub returns-in_err-page-clause-pages : goal.returns-in_err-page-clause-pages
 returns-in_err-page-clause-pages c =
     if_refused c.from_residual.result c.in_err-page.field-0.0 c.from_residual.ensures.1 _
 
-pub returns-in_err-page-clause-changed_pages : goal.returns-in_err-page-clause-changed_pages
-returns-in_err-page-clause-changed_pages c = c.put_new.ensures.changed_pages
-
-pub returns-clause-changed_pages : goal.returns-clause-changed_pages
-returns-clause-changed_pages c = c.put_new.ensures.changed_pages
-
-pub returns-in_err-page-clause-filled : goal.returns-in_err-page-clause-filled
-returns-in_err-page-clause-filled c = c.put_new.ensures.filled
-
-pub returns-clause-filled : goal.returns-clause-filled
-returns-clause-filled c = c.put_new.ensures.filled
-
-pub returns-in_err-page-clause-keeps : goal.returns-in_err-page-clause-keeps
-returns-in_err-page-clause-keeps c = c.put_new.ensures.keeps
-
-pub returns-clause-keeps : goal.returns-clause-keeps
-returns-clause-keeps c = c.put_new.ensures.keeps
-
 pub returns-in_err-page-clause-cause : goal.returns-in_err-page-clause-cause
 returns-in_err-page-clause-cause c = passed c.from_residual.result c.in_err-page.field-0.0 c.from_residual.ensures.1
     (λ r. IfErr r IsWriteRefusal)
@@ -66,9 +48,6 @@ returns-in_err-page-clause-spent c =
     passed c.from_residual.result c.in_err-page.field-0.0 c.from_residual.ensures.1
     (λ r. (r ≡ Err Spent) ↔ (is_spent c.args.pages.now ≡ true))
     (λ is. told.0 (still_error is), λ was. still_error (told.1 was))
-
-pub returns-clause-some : goal.returns-clause-some
-returns-clause-some c = c.in_ok-page.ensures.some
 
 pub returns-clause-full : goal.returns-clause-full
 returns-clause-full c = λ is. never_ok is

@@ -55,9 +55,6 @@ edit-requires c = record {
       c.in_ok-page.ensures.page;
 }
 
-pub returns-clause-some : goal.returns-clause-some
-returns-clause-some c = c.in_ok-page.ensures.page.0
-
 pub returns-clause-keeps : goal.returns-clause-keeps
 returns-clause-keeps c =
     keeps_on c.args.pages.now c.allocate.new.self c.edit.new.self c.allocate.ensures.keeps c.edit.ensures.keeps
@@ -79,12 +76,6 @@ returns-in_err-page-clause-pages c =
 pub returns-in_err-page-clause-changed_pages : goal.returns-in_err-page-clause-changed_pages
 returns-in_err-page-clause-changed_pages c = few_equal (changed_pages_of c.args.pages.now)
     (changed_pages_of c.allocate.new.self) 1 c.in_err-page.ensures.unchanged
-
-pub returns-in_err-page-clause-filled : goal.returns-in_err-page-clause-filled
-returns-in_err-page-clause-filled c = c.allocate.ensures.filled
-
-pub returns-in_err-page-clause-keeps : goal.returns-in_err-page-clause-keeps
-returns-in_err-page-clause-keeps c = c.allocate.ensures.keeps
 
 pub returns-in_err-page-clause-cause : goal.returns-in_err-page-clause-cause
 returns-in_err-page-clause-cause c = passed c.from_residual.result c.in_err-page.field-0.0 c.from_residual.ensures.1

@@ -66,18 +66,6 @@ pub returns-in_err-edit_and_release-clause-changed_pages : goal.returns-in_err-e
 returns-in_err-edit_and_release-clause-changed_pages c =
     on_refused c.from_residual.result c.in_err-edit_and_release.field-0.0 c.from_residual.ensures.1 _
 
-pub returns-clause-changed_pages : goal.returns-clause-changed_pages
-returns-clause-changed_pages c = c.in_ok-edit_and_release.ensures.changed_pages
-
 pub returns-in_err-edit_and_release-clause-filled : goal.returns-in_err-edit_and_release-clause-filled
 returns-in_err-edit_and_release-clause-filled c =
     on_refused c.from_residual.result c.in_err-edit_and_release.field-0.0 c.from_residual.ensures.1 _
-
-pub returns-clause-filled : goal.returns-clause-filled
-returns-clause-filled c = c.in_ok-edit_and_release.ensures.filled
-
-pub returns-in_err-edit_and_release-clause-keeps : goal.returns-in_err-edit_and_release-clause-keeps
-returns-in_err-edit_and_release-clause-keeps c = c.edit_and_release.ensures.keeps
-
-pub returns-clause-keeps : goal.returns-clause-keeps
-returns-clause-keeps c = c.edit_and_release.ensures.keeps

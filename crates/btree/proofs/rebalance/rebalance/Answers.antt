@@ -51,20 +51,11 @@ merge-requires-clause-left_page c = c.is_page.ensures.is.0 c.if-not-is_page.fals
 pub merge-requires-clause-right_page : goal.merge-requires-clause-right_page
 merge-requires-clause-right_page c = c.is_page-2.ensures.is.0 c.if-not-is_page-2.false
 
-pub merge-requires-clause-like : goal.merge-requires-clause-like
-merge-requires-clause-like c = c.requires.like
-
 pub redistribute-requires-clause-left_page : goal.redistribute-requires-clause-left_page
 redistribute-requires-clause-left_page c = c.is_page.ensures.is.0 c.if-not-is_page.false
 
 pub redistribute-requires-clause-right_page : goal.redistribute-requires-clause-right_page
 redistribute-requires-clause-right_page c = c.is_page-2.ensures.is.0 c.if-not-is_page-2.false
-
-pub redistribute-requires-clause-like : goal.redistribute-requires-clause-like
-redistribute-requires-clause-like c = c.requires.like
-
-pub merge-requires-clause-many : goal.merge-requires-clause-many
-merge-requires-clause-many c = c.requires.many
 
 pub merge-requires-clause-room : goal.merge-requires-clause-room
 merge-requires-clause-room c =
@@ -79,51 +70,3 @@ redistribute-requires-clause-full c =
     let room : c.capacity-room.result ≡ capacity node.layout node.kind = c.capacity-room.ensures
     ∙ ap (λ (l : RowLayout). capacity l c.kind.result) c.layout.ensures ∙ ap (capacity node.layout) c.kind.ensures in
     omega (arith, room, c.count.ensures.rows, c.count-2.ensures.rows, c.if-count-room.false)
-
-pub returns-then-count-room-clause-rows : goal.returns-then-count-room-clause-rows
-returns-then-count-room-clause-rows c = c.merge.ensures.rows
-
-pub returns-then-count-room-clause-pages : goal.returns-then-count-room-clause-pages
-returns-then-count-room-clause-pages c = c.merge.ensures.pages
-
-pub returns-then-count-room-clause-joined : goal.returns-then-count-room-clause-joined
-returns-then-count-room-clause-joined c = c.merge.ensures.joined
-
-pub returns-then-count-room-clause-even : goal.returns-then-count-room-clause-even
-returns-then-count-room-clause-even c = c.merge.ensures.even
-
-pub returns-then-count-room-clause-changed_pages : goal.returns-then-count-room-clause-changed_pages
-returns-then-count-room-clause-changed_pages c = c.merge.ensures.changed_pages
-
-pub returns-then-count-room-clause-filled : goal.returns-then-count-room-clause-filled
-returns-then-count-room-clause-filled c = c.merge.ensures.filled
-
-pub returns-then-count-room-clause-keeps : goal.returns-then-count-room-clause-keeps
-returns-then-count-room-clause-keeps c = c.merge.ensures.keeps
-
-pub returns-then-count-room-clause-spent : goal.returns-then-count-room-clause-spent
-returns-then-count-room-clause-spent c = c.merge.ensures.spent
-
-pub returns-clause-rows : goal.returns-clause-rows
-returns-clause-rows c = c.redistribute.ensures.rows
-
-pub returns-clause-pages : goal.returns-clause-pages
-returns-clause-pages c = c.redistribute.ensures.pages
-
-pub returns-clause-joined : goal.returns-clause-joined
-returns-clause-joined c = c.redistribute.ensures.joined
-
-pub returns-clause-even : goal.returns-clause-even
-returns-clause-even c = c.redistribute.ensures.even
-
-pub returns-clause-changed_pages : goal.returns-clause-changed_pages
-returns-clause-changed_pages c = c.redistribute.ensures.changed_pages
-
-pub returns-clause-filled : goal.returns-clause-filled
-returns-clause-filled c = c.redistribute.ensures.filled
-
-pub returns-clause-keeps : goal.returns-clause-keeps
-returns-clause-keeps c = c.redistribute.ensures.keeps
-
-pub returns-clause-spent : goal.returns-clause-spent
-returns-clause-spent c = c.redistribute.ensures.spent

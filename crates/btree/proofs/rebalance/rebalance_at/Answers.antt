@@ -229,20 +229,8 @@ returns-then-not-leads-clause-spent g c = λ is. damaged_not_spent is
 pub returns-then-not-leads-clause-rebalances : goal.returns-then-not-leads-clause-rebalances
 returns-then-not-leads-clause-rebalances g c = λ honest agrees. tt
 
-pub returns-then-not-leads-clause-fits : goal.returns-then-not-leads-clause-fits
-returns-then-not-leads-clause-fits g c = tt
-
-pub returns-then-not-leads-clause-changed_pages : goal.returns-then-not-leads-clause-changed_pages
-returns-then-not-leads-clause-changed_pages g c = tt
-
-pub returns-then-not-leads-clause-filled : goal.returns-then-not-leads-clause-filled
-returns-then-not-leads-clause-filled g c = tt
-
 pub returns-then-not-leads-clause-committed : goal.returns-then-not-leads-clause-committed
 returns-then-not-leads-clause-committed g c = record { volume = refl; mark = refl; spent = refl }
-
-pub returns-then-not-leads-clause-catalog : goal.returns-then-not-leads-clause-catalog
-returns-then-not-leads-clause-catalog g c = refl
 
 pub returns-then-not-leads-clause-agrees : goal.returns-then-not-leads-clause-agrees
 returns-then-not-leads-clause-agrees g c = λ honest agrees. agrees
@@ -253,20 +241,8 @@ returns-then-not-leads-clause-cause g c = rest_no_full (Err Damaged) tt
 pub returns-then-count-lt2-clause-rebalances : goal.returns-then-count-lt2-clause-rebalances
 returns-then-count-lt2-clause-rebalances g c = λ honest agrees. tt
 
-pub returns-then-count-lt2-clause-fits : goal.returns-then-count-lt2-clause-fits
-returns-then-count-lt2-clause-fits g c = tt
-
-pub returns-then-count-lt2-clause-changed_pages : goal.returns-then-count-lt2-clause-changed_pages
-returns-then-count-lt2-clause-changed_pages g c = tt
-
-pub returns-then-count-lt2-clause-filled : goal.returns-then-count-lt2-clause-filled
-returns-then-count-lt2-clause-filled g c = tt
-
 pub returns-then-count-lt2-clause-committed : goal.returns-then-count-lt2-clause-committed
 returns-then-count-lt2-clause-committed g c = record { volume = refl; mark = refl; spent = refl }
-
-pub returns-then-count-lt2-clause-catalog : goal.returns-then-count-lt2-clause-catalog
-returns-then-count-lt2-clause-catalog g c = refl
 
 pub returns-then-count-lt2-clause-agrees : goal.returns-then-count-lt2-clause-agrees
 returns-then-count-lt2-clause-agrees g c = λ honest agrees. agrees
@@ -288,18 +264,6 @@ returns-then-count-lt2-clause-damaged g c = λ honest agrees is left right inner
 pub returns-in_err-beside-clause-rebalances : goal.returns-in_err-beside-clause-rebalances
 returns-in_err-beside-clause-rebalances g c = λ honest agrees.
     if_refused c.from_residual.result c.in_err-beside.field-0.0 c.from_residual.ensures.1 _
-
-pub returns-in_err-beside-clause-committed : goal.returns-in_err-beside-clause-committed
-returns-in_err-beside-clause-committed g c = c.read_kind.ensures.unchanged.committed
-
-pub returns-in_err-beside-clause-agrees : goal.returns-in_err-beside-clause-agrees
-returns-in_err-beside-clause-agrees g c = c.read_kind.ensures.agrees
-
-pub read_kind-requires-clause-sectors : goal.read_kind-requires-clause-sectors
-read_kind-requires-clause-sectors g c = c.requires.sectors
-
-pub read_kind-requires-clause-layout : goal.read_kind-requires-clause-layout
-read_kind-requires-clause-layout g c = c.requires.layout
 
 pub child-page-requires-clause-inner : goal.child-page-requires-clause-inner
 child-page-requires-clause-inner g c = (c.leads.ensures.is.0 c.if-not-leads.false).0

@@ -74,18 +74,6 @@ pub returns-in_err-edit_two-clause-changed_pages : goal.returns-in_err-edit_two-
 returns-in_err-edit_two-clause-changed_pages c =
     on_refused c.from_residual.result c.in_err-edit_two.field-0.0 c.from_residual.ensures.1 _
 
-pub returns-clause-changed_pages : goal.returns-clause-changed_pages
-returns-clause-changed_pages c = c.in_ok-edit_two.ensures.changed_pages
-
 pub returns-in_err-edit_two-clause-filled : goal.returns-in_err-edit_two-clause-filled
 returns-in_err-edit_two-clause-filled c =
     on_refused c.from_residual.result c.in_err-edit_two.field-0.0 c.from_residual.ensures.1 _
-
-pub returns-clause-filled : goal.returns-clause-filled
-returns-clause-filled c = c.in_ok-edit_two.ensures.filled
-
-pub returns-in_err-edit_two-clause-keeps : goal.returns-in_err-edit_two-clause-keeps
-returns-in_err-edit_two-clause-keeps c = c.edit_two.ensures.keeps
-
-pub returns-clause-keeps : goal.returns-clause-keeps
-returns-clause-keeps c = c.edit_two.ensures.keeps

@@ -58,9 +58,6 @@ pub returns-in_err-release-clause-filled : goal.returns-in_err-release-clause-fi
 returns-in_err-release-clause-filled c =
     on_refused c.from_residual.result c.in_err-release.field-0.0 c.from_residual.ensures.1 _
 
-pub returns-in_err-release-clause-keeps : goal.returns-in_err-release-clause-keeps
-returns-in_err-release-clause-keeps c = c.release.ensures.keeps
-
 pub returns-in_err-release-clause-damaged : goal.returns-in_err-release-clause-damaged
 returns-in_err-release-clause-damaged c = λ is image some is_in.
     let e = c.in_err-release.field-0.0 in
@@ -85,9 +82,6 @@ returns-clause-changed_pages c = changes_count (changed_pages_of c.args.pages.no
 
 pub returns-clause-filled : goal.returns-clause-filled
 returns-clause-filled c = omega (arith, c.release.ensures.filled)
-
-pub returns-clause-keeps : goal.returns-clause-keeps
-returns-clause-keeps c = c.release.ensures.keeps
 
 pub returns-clause-damaged : goal.returns-clause-damaged
 returns-clause-damaged c = λ is image some is_in. never_ok is

@@ -97,9 +97,6 @@ returns-then-root-eq0-clause-removed g c = λ honest agrees levels holds.
     subst (λ (l : List (List TreeNode)). Removes c.args.layout pages l pages c.args.key.now None)
     (sym (no_levels c.args.layout pages c.args.root levels c.if-root-eq0.true holds)) refl
 
-pub returns-then-root-eq0-clause-cause : goal.returns-then-root-eq0-clause-cause
-returns-then-root-eq0-clause-cause g c = tt
-
 pub remove_from_leaf-removed-requires-clause-sectors : goal.remove_from_leaf-removed-requires-clause-sectors
 remove_from_leaf-removed-requires-clause-sectors g c =
     sectors_on c.args.pages.now c.descend.new.pages _ _ c.descend.ensures.unchanged.committed.volume
@@ -179,6 +176,3 @@ returns-clause-spent g c = (
   ),
   λ both. never_ok (sym c.in_ok-way.was ∙ c.descend.ensures.spent.1 both.0),
 )
-
-pub returns-clause-cause : goal.returns-clause-cause
-returns-clause-cause g c = c.remove_from_leaf-removed.ensures.cause

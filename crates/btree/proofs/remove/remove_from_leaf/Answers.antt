@@ -206,9 +206,6 @@ returns-in-Err-clause-changed_pages g c =
     few_equal (changed_pages_of c.args.pages.now) (changed_pages_of c.args.pages.now)
     (2 * length c.args.way.now.path.items + 1) refl
 
-pub returns-then-not-is_page-clause-changed_pages : goal.returns-then-not-is_page-clause-changed_pages
-returns-then-not-is_page-clause-changed_pages g c = tt
-
 pub returns-in_err-out-clause-changed_pages : goal.returns-in_err-out-clause-changed_pages
 returns-in_err-out-clause-changed_pages g c =
     on_refused c.from_residual.result c.in_err-out.field-0.0 c.from_residual.ensures.1
@@ -234,9 +231,6 @@ pub returns-in-Err-clause-filled : goal.returns-in-Err-clause-filled
 returns-in-Err-clause-filled g c =
     few_same (filled_of c.args.pages.now) (filled_of c.args.pages.now)
     (2 * length c.args.way.now.path.items + 1) refl
-
-pub returns-then-not-is_page-clause-filled : goal.returns-then-not-is_page-clause-filled
-returns-then-not-is_page-clause-filled g c = tt
 
 pub returns-in_err-out-clause-filled : goal.returns-in_err-out-clause-filled
 returns-in_err-out-clause-filled g c =
@@ -287,12 +281,6 @@ returns-in_err-new-clause-spent g c =
 pub returns-clause-spent : goal.returns-clause-spent
 returns-clause-spent g c = λ is. never_ok is
 
-pub returns-in-Err-clause-cause : goal.returns-in-Err-clause-cause
-returns-in-Err-clause-cause g c = tt
-
-pub returns-then-not-is_page-clause-cause : goal.returns-then-not-is_page-clause-cause
-returns-then-not-is_page-clause-cause g c = tt
-
 pub returns-in_err-out-clause-cause : goal.returns-in_err-out-clause-cause
 returns-in_err-out-clause-cause g c =
     passed c.from_residual.result c.in_err-out.field-0.0 c.from_residual.ensures.1
@@ -310,6 +298,3 @@ returns-in_err-new-clause-cause g c =
     passed c.from_residual-in_err-new.result c.in_err-new.field-0.0 c.from_residual-in_err-new.ensures.1
     (λ r. IfErr r IsChangeRefusal)
     (rest_is_change c.in_err-new.field-0.0 c.in_err-new.ensures.cause)
-
-pub returns-clause-cause : goal.returns-clause-cause
-returns-clause-cause g c = tt

@@ -53,9 +53,6 @@ pub returns-in_err-outcome-clause-filled : goal.returns-in_err-outcome-clause-fi
 returns-in_err-outcome-clause-filled c =
     if_refused c.from_residual.result c.in_err-outcome.field-0.0 c.from_residual.ensures.1 _
 
-pub returns-in_err-outcome-clause-keeps : goal.returns-in_err-outcome-clause-keeps
-returns-in_err-outcome-clause-keeps c = c.write_back.ensures.keeps
-
 pub returns-in_err-outcome-clause-damaged : goal.returns-in_err-outcome-clause-damaged
 returns-in_err-outcome-clause-damaged c = λ is image inner low some is_in.
     passed c.from_residual.result c.in_err-outcome.field-0.0 c.from_residual.ensures.1 (λ r. r ≡ Err Damaged → ⊥)
@@ -72,15 +69,6 @@ returns-in_err-outcome-clause-cause c =
     passed c.from_residual.result c.in_err-outcome.field-0.0 c.from_residual.ensures.1
     (λ r. IfErr r IsRestRefusal)
     (put_is_rest c.in_err-outcome.field-0.0 c.in_err-outcome.ensures.cause)
-
-pub returns-clause-changed_pages : goal.returns-clause-changed_pages
-returns-clause-changed_pages c = c.in_ok-outcome.ensures.changed_pages
-
-pub returns-clause-filled : goal.returns-clause-filled
-returns-clause-filled c = c.in_ok-outcome.ensures.filled
-
-pub returns-clause-keeps : goal.returns-clause-keeps
-returns-clause-keeps c = c.write_back.ensures.keeps
 
 pub returns-clause-damaged : goal.returns-clause-damaged
 returns-clause-damaged c = λ is image inner low some is_in. never_ok is

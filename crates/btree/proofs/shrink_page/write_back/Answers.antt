@@ -150,21 +150,6 @@ pub returns-in_err-edit-clause-filled : goal.returns-in_err-edit-clause-filled
 returns-in_err-edit-clause-filled c =
     if_refused c.from_residual-in_err-edit.result c.in_err-edit.field-0.0 c.from_residual-in_err-edit.ensures.1 _
 
-pub returns-in_err-release-clause-keeps : goal.returns-in_err-release-clause-keeps
-returns-in_err-release-clause-keeps c = c.release.ensures.keeps
-
-pub returns-then-count-eq0-clause-keeps : goal.returns-then-count-eq0-clause-keeps
-returns-then-count-eq0-clause-keeps c = c.release.ensures.keeps
-
-pub returns-in_err-edit-clause-keeps : goal.returns-in_err-edit-clause-keeps
-returns-in_err-edit-clause-keeps c = c.edit.ensures.keeps
-
-pub returns-then-keeps_least-clause-keeps : goal.returns-then-keeps_least-clause-keeps
-returns-then-keeps_least-clause-keeps c = c.edit.ensures.keeps
-
-pub returns-clause-keeps : goal.returns-clause-keeps
-returns-clause-keeps c = c.edit.ensures.keeps
-
 pub returns-then-is_short-clause-keeps : goal.returns-then-is_short-clause-keeps
 returns-then-is_short-clause-keeps c = keeps_still c.args.pages.now
 

@@ -22,12 +22,6 @@ pub returns-clause-changed_pages : goal.returns-clause-changed_pages
 returns-clause-changed_pages c = changes_count (changed_pages_of c.args.pages.now) c.args.page
     (changed_pages_of c.edit.new.self) c.in_ok-edit.ensures.changes_page
 
-pub returns-clause-filled : goal.returns-clause-filled
-returns-clause-filled c = c.edit.ensures.filled
-
-pub returns-clause-keeps : goal.returns-clause-keeps
-returns-clause-keeps c = c.edit.ensures.keeps
-
 pub returns-clause-spent : goal.returns-clause-spent
 returns-clause-spent c = (λ is. never_ok is, λ was. never_ok (c.in_ok-edit.ensures.spent.1 was))
 
@@ -42,12 +36,6 @@ returns-in_err-edit-clause-pages c =
 pub returns-in_err-edit-clause-changed_pages : goal.returns-in_err-edit-clause-changed_pages
 returns-in_err-edit-clause-changed_pages c = few_equal (changed_pages_of c.args.pages.now)
     (changed_pages_of c.edit.new.self) 1 c.in_err-edit.ensures.unchanged
-
-pub returns-in_err-edit-clause-filled : goal.returns-in_err-edit-clause-filled
-returns-in_err-edit-clause-filled c = c.edit.ensures.filled
-
-pub returns-in_err-edit-clause-keeps : goal.returns-in_err-edit-clause-keeps
-returns-in_err-edit-clause-keeps c = c.edit.ensures.keeps
 
 pub returns-in_err-edit-clause-cause : goal.returns-in_err-edit-clause-cause
 returns-in_err-edit-clause-cause c = passed c.from_residual.result c.in_err-edit.field-0.0 c.from_residual.ensures.1

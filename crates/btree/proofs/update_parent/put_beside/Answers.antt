@@ -28,24 +28,6 @@ pub returns-in_err-split-clause-split : goal.returns-in_err-split-clause-split
 returns-in_err-split-clause-split c =
     if_refused c.from_residual.result c.in_err-split.field-0.0 c.from_residual.ensures.1 _
 
-pub returns-in_err-split-clause-changed_pages : goal.returns-in_err-split-clause-changed_pages
-returns-in_err-split-clause-changed_pages c = c.put_row.ensures.changed_pages
-
-pub returns-clause-changed_pages : goal.returns-clause-changed_pages
-returns-clause-changed_pages c = c.put_row.ensures.changed_pages
-
-pub returns-in_err-split-clause-filled : goal.returns-in_err-split-clause-filled
-returns-in_err-split-clause-filled c = c.put_row.ensures.filled
-
-pub returns-clause-filled : goal.returns-clause-filled
-returns-clause-filled c = c.put_row.ensures.filled
-
-pub returns-in_err-split-clause-keeps : goal.returns-in_err-split-clause-keeps
-returns-in_err-split-clause-keeps c = c.put_row.ensures.keeps
-
-pub returns-clause-keeps : goal.returns-clause-keeps
-returns-clause-keeps c = c.put_row.ensures.keeps
-
 pub returns-in_err-split-clause-cause : goal.returns-in_err-split-clause-cause
 returns-in_err-split-clause-cause c = passed c.from_residual.result c.in_err-split.field-0.0 c.from_residual.ensures.1
     (λ r. IfErr r IsWriteRefusal)

@@ -50,24 +50,6 @@ pub returns-in_err-beside-in-Some-clause-keys : goal.returns-in_err-beside-in-So
 returns-in_err-beside-in-Some-clause-keys c =
     if_refused c.from_residual.result c.in_err-beside-in-Some.field-0.0 c.from_residual.ensures.1 _
 
-pub returns-in_err-beside-in-Some-clause-keeps : goal.returns-in_err-beside-in-Some-clause-keeps
-returns-in_err-beside-in-Some-clause-keeps c = c.put_beside.ensures.keeps
-
-pub returns-in_err-beside-in-Some-clause-changed_pages : goal.returns-in_err-beside-in-Some-clause-changed_pages
-returns-in_err-beside-in-Some-clause-changed_pages c = c.put_beside.ensures.changed_pages
-
-pub returns-in_err-beside-in-Some-clause-filled : goal.returns-in_err-beside-in-Some-clause-filled
-returns-in_err-beside-in-Some-clause-filled c = c.put_beside.ensures.filled
-
-pub returns-in_ok-beside-in-Some-clause-keeps : goal.returns-in_ok-beside-in-Some-clause-keeps
-returns-in_ok-beside-in-Some-clause-keeps c = c.put_beside.ensures.keeps
-
-pub returns-in_ok-beside-in-Some-clause-changed_pages : goal.returns-in_ok-beside-in-Some-clause-changed_pages
-returns-in_ok-beside-in-Some-clause-changed_pages c = c.put_beside.ensures.changed_pages
-
-pub returns-in_ok-beside-in-Some-clause-filled : goal.returns-in_ok-beside-in-Some-clause-filled
-returns-in_ok-beside-in-Some-clause-filled c = c.put_beside.ensures.filled
-
 pub returns-in_err-beside-in-Some-clause-cause : goal.returns-in_err-beside-in-Some-clause-cause
 returns-in_err-beside-in-Some-clause-cause c = passed c.from_residual.result c.in_err-beside-in-Some.field-0.0
     c.from_residual.ensures.1 (λ r. IfErr r IsWriteRefusal) c.in_err-beside-in-Some.ensures.cause
@@ -96,9 +78,6 @@ returns-in_err-back-in-None-clause-keys c =
     if_refused c.from_residual-in_err-back-in-None.result c.in_err-back-in-None.field-0.0
     c.from_residual-in_err-back-in-None.ensures.1 _
 
-pub returns-in_err-back-in-None-clause-keeps : goal.returns-in_err-back-in-None-clause-keeps
-returns-in_err-back-in-None-clause-keeps c = c.put_back.ensures.keeps
-
 pub returns-in_err-back-in-None-clause-changed_pages : goal.returns-in_err-back-in-None-clause-changed_pages
 returns-in_err-back-in-None-clause-changed_pages c = few_weaker (length (changed_pages_of c.args.pages.now))
     (length (changed_pages_of c.put_back.new.pages)) 1 1 c.put_back.ensures.changed_pages
@@ -106,9 +85,6 @@ returns-in_err-back-in-None-clause-changed_pages c = few_weaker (length (changed
 pub returns-in_err-back-in-None-clause-filled : goal.returns-in_err-back-in-None-clause-filled
 returns-in_err-back-in-None-clause-filled c =
     few_weaker (filled_of c.args.pages.now) (filled_of c.put_back.new.pages) 1 1 c.put_back.ensures.filled
-
-pub returns-in_ok-back-in-None-clause-keeps : goal.returns-in_ok-back-in-None-clause-keeps
-returns-in_ok-back-in-None-clause-keeps c = c.put_back.ensures.keeps
 
 pub returns-in_ok-back-in-None-clause-changed_pages : goal.returns-in_ok-back-in-None-clause-changed_pages
 returns-in_ok-back-in-None-clause-changed_pages c = few_weaker (length (changed_pages_of c.args.pages.now))

@@ -108,9 +108,6 @@ returns-then-seen-len-clause-only g c = reads_then g.D.Device _ _ _ _ _ _ (λ is
 pub returns-clause-only : goal.returns-clause-only
 returns-clause-only g c = reads_where g.D.Device _ _ _ _ (λ is. never_ok is) c.loop-place.invariant.reads.only
 
-pub returns-clause-unchanged : goal.returns-clause-unchanged
-returns-clause-unchanged g c = c.loop-place.invariant.reads.unchanged
-
 pub returns-in_err-node-clause-agrees : goal.returns-in_err-node-clause-agrees
 returns-in_err-node-clause-agrees g c = λ honest agrees. c.check_node.ensures.agrees
     (c.loop-place.invariant.reads.only.honest.0 honest) (c.loop-place.invariant.reads.agrees honest agrees)
@@ -122,9 +119,6 @@ returns-in_err-push_separators-clause-agrees g c = λ honest agrees. c.check_nod
 pub returns-then-seen-len-clause-agrees : goal.returns-then-seen-len-clause-agrees
 returns-then-seen-len-clause-agrees g c = λ honest agrees. c.check_node.ensures.agrees
     (c.loop-place.invariant.reads.only.honest.0 honest) (c.loop-place.invariant.reads.agrees honest agrees)
-
-pub returns-clause-agrees : goal.returns-clause-agrees
-returns-clause-agrees g c = c.loop-place.invariant.reads.agrees
 
 -- A level was checked.
 pub returns-clause-level : goal.returns-clause-level
@@ -141,9 +135,6 @@ returns-clause-marks g c =
 
 pub returns-clause-more : goal.returns-clause-more
 returns-clause-more g c = omega (arith, c.loop-place.invariant.more, c.loop-place-test.false)
-
-pub returns-clause-few : goal.returns-clause-few
-returns-clause-few g c = c.loop-place.invariant.few
 
 pub returns-clause-damaged : goal.returns-clause-damaged
 returns-clause-damaged g c = λ honest agrees is can level are few. never_ok is

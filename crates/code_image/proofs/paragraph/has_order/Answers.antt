@@ -18,4 +18,4 @@ returns c =
     let order = subst (λ given. IsOrder n given found) second c.in_ok-order.ensures in
     let same = order_is code found (subst (λ m. All (IsRange m) all) count ranges)
     (subst (λ m. IsOrder m all found) count order) in
-    (λ e. same.0 (c.has_ranks-has.ensures.0 e), λ has. c.has_ranks-has.ensures.1 (same.1 has))
+    (λ e. same.0 (c.has_ranks.ensures.0 e), λ has. c.has_ranks.ensures.1 (same.1 has))

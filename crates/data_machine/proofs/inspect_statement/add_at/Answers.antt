@@ -28,8 +28,8 @@ seen-requires-clause-shortened c =
     (stands_one c.args.tables.now c.args.areas.now c.args.place c.args.tables.now.items one refl c.item_of-one.ensures
     c.requires.stands).editing
 
-pub add_fits-done-requires-clause-stands : goal.add_fits-done-requires-clause-stands
-add_fits-done-requires-clause-stands c =
+pub add_fits-requires-clause-stands : goal.add_fits-requires-clause-stands
+add_fits-requires-clause-stands c =
     let one = c.item_of-one.result.now in
     let seen_is = c.seen.ensures ∙ ap (λ (d : DataItem). shortened_item one d.item.length) c.part_of-part.ensures in
     subst (λ (o : DataItem). IsAtOffset o c.args.areas.now c.args.place.offset) (sym seen_is)
@@ -42,6 +42,6 @@ returns-clause-adds c =
     let seen_is = c.seen.ensures ∙ ap (λ (d : DataItem). shortened_item one d.item.length) c.part_of-part.ensures in
     let there_is = ap (λ (o : DataItem). item_place o c.args.place.offset) seen_is
     ∙ sym (ap (there_or_none c.args.place) c.item_of-one.ensures) in
-    subst (λ (to : ItemPlace). IsAddedStorage c.add_fits-done.result c.add_fits-done.new.areas (meaning.add_fits to
+    subst (λ (to : ItemPlace). IsAddedStorage c.add_fits.result c.add_fits.new.areas (meaning.add_fits to
     (layout.fits_together (slice_index c.args.counts.now) c.args.from c.args.entries) c.args.areas.now))
-    there_is c.add_fits-done.ensures.adds
+    there_is c.add_fits.ensures.adds

@@ -22,9 +22,6 @@ check_description-requires c =
           (omega (arith, within, c.requires.few));
     }
 
-pub with-areas-requires : goal.with-areas-requires
-with-areas-requires c = c.loop-one.invariant.areas.within
-
 pub returns-in_err-bytes-clause-rules : goal.returns-in_err-bytes-clause-rules
 returns-in_err-bytes-clause-rules c =
     let p = err_from_is_err_and c.from_residual.result c.from_residual.ensures.1 in

@@ -263,20 +263,11 @@ returns-in_err-check_alternates-clause-cause g c =
 pub returns-then-not-is_next-clause-file : goal.returns-then-not-is_next-clause-file
 returns-then-not-is_next-clause-file g c = λ honest agrees. tt
 
-pub returns-then-not-is_next-clause-cause : goal.returns-then-not-is_next-clause-cause
-returns-then-not-is_next-clause-cause g c = tt
-
 pub returns-then-not-is_counted-clause-file : goal.returns-then-not-is_counted-clause-file
 returns-then-not-is_counted-clause-file g c = λ honest agrees. tt
 
-pub returns-then-not-is_counted-clause-cause : goal.returns-then-not-is_counted-clause-cause
-returns-then-not-is_counted-clause-cause g c = tt
-
 pub returns-in_default-clause-file : goal.returns-in_default-clause-file
 returns-in_default-clause-file g c = λ honest agrees. tt
-
-pub returns-in_default-clause-cause : goal.returns-in_default-clause-cause
-returns-in_default-clause-cause g c = tt
 
 pub returns-then-not-is_next-clause-looks : goal.returns-then-not-is_next-clause-looks
 returns-then-not-is_next-clause-looks g c =
@@ -312,9 +303,6 @@ returns-in_err-check_pages-clause-looks g c =
 pub returns-clause-damaged : goal.returns-clause-damaged
 returns-clause-damaged g c = λ honest agrees told. never_ok told
 
-pub returns-clause-cause : goal.returns-clause-cause
-returns-clause-cause g c = tt
-
 pub read_rows-requires-clause-unspent : goal.read_rows-requires-clause-unspent
 read_rows-requires-clause-unspent g c =
     unspent_kept g.D.Device (c.check_pages.result ≡ Err Device) c.args.pages.now
@@ -341,24 +329,6 @@ check_alternates-requires-clause-sectors g c =
 
 pub read_rows-requires-clause-layout : goal.read_rows-requires-clause-layout
 read_rows-requires-clause-layout g c = c.new-tree.ensures.layout ∙ c.tree_layout-layout.ensures.layout
-
-pub check_alternates-requires-clause-value : goal.check_alternates-requires-clause-value
-check_alternates-requires-clause-value g c = c.listing_part-value.ensures.long
-
-pub check_pages-requires-clause-unspent : goal.check_pages-requires-clause-unspent
-check_pages-requires-clause-unspent g c = c.requires.unspent
-
-pub check_pages-requires-clause-sectors : goal.check_pages-requires-clause-sectors
-check_pages-requires-clause-sectors g c = c.requires.sectors
-
-pub read_listing-requires : goal.read_listing-requires
-read_listing-requires g c = c.listing_part-value.ensures.long
-
-pub next_arrival-next-requires : goal.next_arrival-next-requires
-next_arrival-next-requires g c = c.listing_part-value.ensures.long
-
-pub prime_root-requires : goal.prime_root-requires
-prime_root-requires g c = c.listing_part-value.ensures.long
 
 pub listing_part-value-requires : goal.listing_part-value-requires
 listing_part-value-requires g c = listing_fits (mark_of c.args.pages.now) c.args.entry.now.value c.requires.lengths.1

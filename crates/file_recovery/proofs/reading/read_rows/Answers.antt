@@ -169,14 +169,8 @@ returns-in-None-clause-looks g c =
     (λ is. never_ok is)
     c.loop-turn.invariant.looks
 
-pub returns-in-None-clause-are : goal.returns-in-None-clause-are
-returns-in-None-clause-are g c = c.loop-turn.invariant.are
-
 pub returns-in-None-clause-damaged : goal.returns-in-None-clause-damaged
 returns-in-None-clause-damaged g c = λ honest agrees levels holds told. never_ok told
-
-pub returns-in-None-clause-cause : goal.returns-in-None-clause-cause
-returns-in-None-clause-cause g c = tt
 
 pub returns-in_err-next-clause-looks : goal.returns-in_err-next-clause-looks
 returns-in_err-next-clause-looks g c =
@@ -244,14 +238,8 @@ returns-clause-looks g c =
     looks_blamed g.D.Device ⊥ _ c.args.pages.now c.loop-turn.pages c.args.device.now c.loop-turn.device
     (λ is. let never : ⊥ = cc in absurd never) c.loop-turn.invariant.looks
 
-pub returns-clause-are : goal.returns-clause-are
-returns-clause-are g c = tt
-
 pub returns-clause-rows : goal.returns-clause-rows
 returns-clause-rows g c = λ honest agrees levels holds. tt
 
 pub returns-clause-damaged : goal.returns-clause-damaged
 returns-clause-damaged g c = λ honest agrees levels holds told. let never : ⊥ = cc in absurd never
-
-pub returns-clause-cause : goal.returns-clause-cause
-returns-clause-cause g c = tt

@@ -46,41 +46,8 @@ returns-in-CountNumber-clause-moments g c = λ honest run before files connector
     (between_now c.args.code.now c.args.day.now run before files connectors c.args.address left c.args.registers.now _
     so_far)
 
-pub returns-in-Show-clause-sectors : goal.returns-in-Show-clause-sectors
-returns-in-Show-clause-sectors g c = c.converse.ensures.sectors
-
-pub returns-in-Show-clause-honest : goal.returns-in-Show-clause-honest
-returns-in-Show-clause-honest g c = c.converse.ensures.honest
-
-pub returns-in-Show-clause-cause : goal.returns-in-Show-clause-cause
-returns-in-Show-clause-cause g c = c.converse.ensures.cause
-
-pub returns-in-Show-clause-within : goal.returns-in-Show-clause-within
-returns-in-Show-clause-within g c = c.converse.ensures.within
-
-pub returns-in-Show-clause-stands : goal.returns-in-Show-clause-stands
-returns-in-Show-clause-stands g c = c.converse.ensures.stands
-
-pub returns-in-Show-clause-returns : goal.returns-in-Show-clause-returns
-returns-in-Show-clause-returns g c = c.converse.ensures.returns
-
-pub returns-in-Show-clause-own : goal.returns-in-Show-clause-own
-returns-in-Show-clause-own g c = c.converse.ensures.own
-
-pub returns-in-Show-clause-moments : goal.returns-in-Show-clause-moments
-returns-in-Show-clause-moments g c = c.converse.ensures.moments
-
-pub returns-in-Show-clause-on : goal.returns-in-Show-clause-on
-returns-in-Show-clause-on g c = c.converse.ensures.on
-
-pub returns-in-Count-clause-sectors : goal.returns-in-Count-clause-sectors
-returns-in-Count-clause-sectors g c = refl
-
 pub returns-in-Count-clause-honest : goal.returns-in-Count-clause-honest
 returns-in-Count-clause-honest g c = (λ is. is, λ is. is)
-
-pub returns-in-CountNumber-clause-sectors : goal.returns-in-CountNumber-clause-sectors
-returns-in-CountNumber-clause-sectors g c = refl
 
 pub returns-in-CountNumber-clause-honest : goal.returns-in-CountNumber-clause-honest
 returns-in-CountNumber-clause-honest g c = (λ is. is, λ is. is)
@@ -93,26 +60,8 @@ returns-in-Count-clause-within g c =
     (counted_from c.args.code.now c.requires.verified c.args.address c.in-Count.counter c.in-Count.turns
     (c.requires.here ∙ ap Some c.in-Count.is)).0
 
-pub returns-in-Count-clause-returns : goal.returns-in-Count-clause-returns
-returns-in-Count-clause-returns g c = refl
-
-pub returns-in-Count-clause-own : goal.returns-in-Count-clause-own
-returns-in-Count-clause-own g c = tt
-
 pub returns-in-CountNumber-clause-cause : goal.returns-in-CountNumber-clause-cause
 returns-in-CountNumber-clause-cause g c = without_failure c.count_number.result _ c.count_number.ensures.fault
-
-pub returns-in-CountNumber-clause-within : goal.returns-in-CountNumber-clause-within
-returns-in-CountNumber-clause-within g c = c.count_number.ensures.within
-
-pub returns-in-CountNumber-clause-stands : goal.returns-in-CountNumber-clause-stands
-returns-in-CountNumber-clause-stands g c = c.count_number.ensures.stands
-
-pub returns-in-CountNumber-clause-returns : goal.returns-in-CountNumber-clause-returns
-returns-in-CountNumber-clause-returns g c = c.count_number.ensures.returns
-
-pub returns-in-CountNumber-clause-own : goal.returns-in-CountNumber-clause-own
-returns-in-CountNumber-clause-own g c = c.count_number.ensures.own
 
 pub returns-in-CountNumber-clause-on : goal.returns-in-CountNumber-clause-on
 returns-in-CountNumber-clause-on g c = λ honest run before files connectors left so_far.

@@ -46,39 +46,6 @@ returns-in-File-clause-on g c = λ run before past left so_far.
     (c.file_statement.ensures.on c.args.day.now run before left so_far.files so_far.there so_far.running)
     (c.file_statement.ensures.over c.args.day.now run before left so_far.files so_far.there so_far.running)
 
-pub returns-in-Count-clause-sectors : goal.returns-in-Count-clause-sectors
-returns-in-Count-clause-sectors g c = c.act.ensures.sectors
-
-pub returns-in-Count-clause-honest : goal.returns-in-Count-clause-honest
-returns-in-Count-clause-honest g c = c.act.ensures.honest
-
-pub returns-in-Count-clause-cause : goal.returns-in-Count-clause-cause
-returns-in-Count-clause-cause g c = c.act.ensures.cause
-
-pub returns-in-Count-clause-within : goal.returns-in-Count-clause-within
-returns-in-Count-clause-within g c = c.act.ensures.within
-
-pub returns-in-Count-clause-stands : goal.returns-in-Count-clause-stands
-returns-in-Count-clause-stands g c = c.act.ensures.stands
-
-pub returns-in-File-clause-sectors : goal.returns-in-File-clause-sectors
-returns-in-File-clause-sectors g c = c.file_statement.ensures.sectors
-
-pub returns-in-File-clause-honest : goal.returns-in-File-clause-honest
-returns-in-File-clause-honest g c = c.file_statement.ensures.honest
-
-pub returns-in-File-clause-cause : goal.returns-in-File-clause-cause
-returns-in-File-clause-cause g c = c.file_statement.ensures.cause
-
-pub returns-in-File-clause-within : goal.returns-in-File-clause-within
-returns-in-File-clause-within g c = c.file_statement.ensures.within
-
-pub returns-in-File-clause-stands : goal.returns-in-File-clause-stands
-returns-in-File-clause-stands g c = c.file_statement.ensures.stands
-
-pub returns-in-File-clause-serves : goal.returns-in-File-clause-serves
-returns-in-File-clause-serves g c = c.file_statement.ensures.serves
-
 -- ---- nothing else
 
 pub unreachable-requires : goal.unreachable-requires

@@ -165,11 +165,5 @@ returns-in-Ok-clause-over g c = λ day run before left files stands so_far.
     c.note.result before (g.S.Device.state c.args.station.now) _ _ c.note.ensures.device
     (c.note.ensures.unheard (only.honest.0 stands.honest)) (only.console stands.honest).lines so_far.console
 
-pub returns-in-Err-clause-sectors : goal.returns-in-Err-clause-sectors
-returns-in-Err-clause-sectors g c = c.in-Err.ensures.changes.only.sectors
-
-pub returns-in-Err-clause-honest : goal.returns-in-Err-clause-honest
-returns-in-Err-clause-honest g c = c.in-Err.ensures.changes.only.honest
-
 pub returns-in-Err-clause-cause : goal.returns-in-Err-clause-cause
 returns-in-Err-clause-cause g c = caused_by_store c.refusal_of.ensures c.in-Err.ensures.changes.only.failures

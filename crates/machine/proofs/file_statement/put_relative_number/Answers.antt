@@ -38,6 +38,3 @@ put_number-requires-clause-kind c =
     c.index-as_slice-item.result
     c.as_slice.ensures found.found c.index-as_slice-item.is in
     subst (λ (d : DataItem). is_unsigned_integer d.item.kind ≡ true) is found.kind
-
-pub returns-then-old-new-clause-lengths : goal.returns-then-old-new-clause-lengths
-returns-then-old-new-clause-lengths c = c.put_number.ensures.lengths

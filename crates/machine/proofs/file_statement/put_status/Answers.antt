@@ -11,6 +11,3 @@ pad-requires c =
     c.requires in
     item_stands c.args.tables.now c.args.areas.now c.in-Some.item c.as_slice.result.now c.index-as_slice-item.result
     c.as_slice.ensures found.found c.index-as_slice-item.is
-
-pub returns-clause-lengths : goal.returns-clause-lengths
-returns-clause-lengths c = c.pad.ensures.lengths

@@ -141,34 +141,13 @@ pub returns-in-Err-date-clause-within : goal.returns-in-Err-date-clause-within
 returns-in-Err-date-clause-within g c =
     outside_from c.args.code.now c.requires.verified c.args.address c.args.one c.requires.here c.requires.outside
 
-pub returns-in-Ok-clause-sectors : goal.returns-in-Ok-clause-sectors
-returns-in-Ok-clause-sectors g c = c.show_line.ensures.sectors
-
-pub returns-in-Ok-clause-honest : goal.returns-in-Ok-clause-honest
-returns-in-Ok-clause-honest g c = c.show_line.ensures.honest
-
 pub returns-in-Ok-clause-within : goal.returns-in-Ok-clause-within
 returns-in-Ok-clause-within g c =
     outside_from c.args.code.now c.requires.verified c.args.address c.args.one c.requires.here c.requires.outside
 
-pub returns-in-Ok-clause-returns : goal.returns-in-Ok-clause-returns
-returns-in-Ok-clause-returns g c = refl
-
-pub returns-in-Err-clause-sectors : goal.returns-in-Err-clause-sectors
-returns-in-Err-clause-sectors g c = c.show_line.ensures.sectors
-
-pub returns-in-Err-clause-honest : goal.returns-in-Err-clause-honest
-returns-in-Err-clause-honest g c = c.show_line.ensures.honest
-
 pub returns-in-Err-clause-within : goal.returns-in-Err-clause-within
 returns-in-Err-clause-within g c =
     outside_from c.args.code.now c.requires.verified c.args.address c.args.one c.requires.here c.requires.outside
-
-pub returns-in-Err-clause-returns : goal.returns-in-Err-clause-returns
-returns-in-Err-clause-returns g c = refl
-
-pub returns-in-Ok-clause-cause : goal.returns-in-Ok-clause-cause
-returns-in-Ok-clause-cause g c = c.show_line.ensures.failures.no_fewer
 
 pub returns-in-Err-clause-cause : goal.returns-in-Err-clause-cause
 returns-in-Err-clause-cause g c =
@@ -177,40 +156,13 @@ returns-in-Err-clause-cause g c =
       failed = λ is. c.in-Err.ensures.failures.failed refl;
     }
 
-pub returns-in-Ok-clause-own : goal.returns-in-Ok-clause-own
-returns-in-Ok-clause-own g c = tt
-
-pub returns-in-Err-clause-stands : goal.returns-in-Err-clause-stands
-returns-in-Err-clause-stands g c = tt
-
-pub returns-in-Ok-accept_line-clause-sectors : goal.returns-in-Ok-accept_line-clause-sectors
-returns-in-Ok-accept_line-clause-sectors g c = c.accept_line.ensures.sectors
-
-pub returns-in-Ok-accept_line-clause-honest : goal.returns-in-Ok-accept_line-clause-honest
-returns-in-Ok-accept_line-clause-honest g c = c.accept_line.ensures.honest
-
 pub returns-in-Ok-accept_line-clause-within : goal.returns-in-Ok-accept_line-clause-within
 returns-in-Ok-accept_line-clause-within g c =
     outside_from c.args.code.now c.requires.verified c.args.address c.args.one c.requires.here c.requires.outside
 
-pub returns-in-Ok-accept_line-clause-returns : goal.returns-in-Ok-accept_line-clause-returns
-returns-in-Ok-accept_line-clause-returns g c = refl
-
-pub returns-in-Err-accept_line-clause-sectors : goal.returns-in-Err-accept_line-clause-sectors
-returns-in-Err-accept_line-clause-sectors g c = c.accept_line.ensures.sectors
-
-pub returns-in-Err-accept_line-clause-honest : goal.returns-in-Err-accept_line-clause-honest
-returns-in-Err-accept_line-clause-honest g c = c.accept_line.ensures.honest
-
 pub returns-in-Err-accept_line-clause-within : goal.returns-in-Err-accept_line-clause-within
 returns-in-Err-accept_line-clause-within g c =
     outside_from c.args.code.now c.requires.verified c.args.address c.args.one c.requires.here c.requires.outside
-
-pub returns-in-Err-accept_line-clause-returns : goal.returns-in-Err-accept_line-clause-returns
-returns-in-Err-accept_line-clause-returns g c = refl
-
-pub returns-in-Ok-accept_line-clause-cause : goal.returns-in-Ok-accept_line-clause-cause
-returns-in-Ok-accept_line-clause-cause g c = c.accept_line.ensures.failures.no_fewer
 
 pub returns-in-Err-accept_line-clause-cause : goal.returns-in-Err-accept_line-clause-cause
 returns-in-Err-accept_line-clause-cause g c =
@@ -219,35 +171,11 @@ returns-in-Err-accept_line-clause-cause g c =
       failed = λ is. c.in-Err-accept_line.ensures.failures.failed refl;
     }
 
-pub returns-in-Ok-accept_line-clause-own : goal.returns-in-Ok-accept_line-clause-own
-returns-in-Ok-accept_line-clause-own g c = tt
-
-pub returns-in-Err-accept_line-clause-stands : goal.returns-in-Err-accept_line-clause-stands
-returns-in-Err-accept_line-clause-stands g c = tt
-
-pub returns-in-Ok-date-clause-sectors : goal.returns-in-Ok-date-clause-sectors
-returns-in-Ok-date-clause-sectors g c = refl
-
 pub returns-in-Ok-date-clause-honest : goal.returns-in-Ok-date-clause-honest
 returns-in-Ok-date-clause-honest g c = (λ is. is, λ is. is)
 
-pub returns-in-Ok-date-clause-returns : goal.returns-in-Ok-date-clause-returns
-returns-in-Ok-date-clause-returns g c = refl
-
-pub returns-in-Ok-date-clause-own : goal.returns-in-Ok-date-clause-own
-returns-in-Ok-date-clause-own g c = tt
-
-pub returns-in-Err-date-clause-sectors : goal.returns-in-Err-date-clause-sectors
-returns-in-Err-date-clause-sectors g c = refl
-
 pub returns-in-Err-date-clause-honest : goal.returns-in-Err-date-clause-honest
 returns-in-Err-date-clause-honest g c = (λ is. is, λ is. is)
-
-pub returns-in-Err-date-clause-returns : goal.returns-in-Err-date-clause-returns
-returns-in-Err-date-clause-returns g c = refl
-
-pub returns-in-Err-date-clause-own : goal.returns-in-Err-date-clause-own
-returns-in-Err-date-clause-own g c = tt
 
 pub returns-in-Ok-date-clause-cause : goal.returns-in-Ok-date-clause-cause
 returns-in-Ok-date-clause-cause g c = omega arith
@@ -256,16 +184,10 @@ pub returns-in-Err-date-clause-cause : goal.returns-in-Err-date-clause-cause
 returns-in-Err-date-clause-cause g c =
     record { no_fewer = omega arith; failed = λ is. fault_or_refusal is }
 
-pub returns-in-Err-date-clause-stands : goal.returns-in-Err-date-clause-stands
-returns-in-Err-date-clause-stands g c = tt
-
 pub accept_line-requires-clause-room : goal.accept_line-requires-clause-room
 accept_line-requires-clause-room g c =
     subst (λ (l : List ℕ). HasItemRoom c.args.code.now.tables (length l)) (sym c.as_mut_slice-input.ensures.value)
     c.requires.stands.equipped.input
-
-pub date-requires-clause-day : goal.date-requires-clause-day
-date-requires-clause-day g c = c.requires.day
 
 pub unreachable-requires : goal.unreachable-requires
 unreachable-requires g c =

@@ -126,9 +126,6 @@ pub returns-in_err-draft-clause-next : goal.returns-in_err-draft-clause-next
 returns-in_err-draft-clause-next g c =
     on_refused c.from_residual.result c.in_err-draft.field-0.0 c.from_residual.ensures.1 _
 
-pub returns-in_err-draft-clause-same_sectors : goal.returns-in_err-draft-clause-same_sectors
-returns-in_err-draft-clause-same_sectors g c = c.next_volume.ensures.sectors
-
 pub returns-in_err-draft-clause-short : goal.returns-in_err-draft-clause-short
 returns-in_err-draft-clause-short g c =
     passed c.from_residual.result c.in_err-draft.field-0.0 c.from_residual.ensures.1
@@ -143,12 +140,6 @@ returns-in_err-draft-clause-told g c = λ lacks.
 pub returns-in_err-draft-clause-full : goal.returns-in_err-draft-clause-full
 returns-in_err-draft-clause-full g c = λ is honest. (refl, refl)
 
-pub returns-in_err-two_phase_write-clause-honest : goal.returns-in_err-two_phase_write-clause-honest
-returns-in_err-two_phase_write-clause-honest g c = c.two_phase_write.ensures.only.honest
-
-pub returns-in_err-two_phase_write-clause-sectors : goal.returns-in_err-two_phase_write-clause-sectors
-returns-in_err-two_phase_write-clause-sectors g c = c.two_phase_write.ensures.only.sectors
-
 pub returns-in_err-two_phase_write-clause-failures : goal.returns-in_err-two_phase_write-clause-failures
 returns-in_err-two_phase_write-clause-failures g c =
     passed c.from_residual-in_err-two_phase_write.result Device c.from_residual-in_err-two_phase_write.ensures.1
@@ -160,9 +151,6 @@ pub returns-in_err-two_phase_write-clause-cause : goal.returns-in_err-two_phase_
 returns-in_err-two_phase_write-clause-cause g c =
     passed c.from_residual-in_err-two_phase_write.result Device c.from_residual-in_err-two_phase_write.ensures.1
     (λ r. IsCommitError r) (inl refl)
-
-pub returns-in_err-two_phase_write-clause-console : goal.returns-in_err-two_phase_write-clause-console
-returns-in_err-two_phase_write-clause-console g c = c.two_phase_write.ensures.only.console
 
 pub returns-in_err-two_phase_write-clause-committed : goal.returns-in_err-two_phase_write-clause-committed
 returns-in_err-two_phase_write-clause-committed g c = λ honest rests.
@@ -180,9 +168,6 @@ pub returns-in_err-two_phase_write-clause-next : goal.returns-in_err-two_phase_w
 returns-in_err-two_phase_write-clause-next g c =
     on_refused c.from_residual-in_err-two_phase_write.result Device c.from_residual-in_err-two_phase_write.ensures.1 _
 
-pub returns-in_err-two_phase_write-clause-same_sectors : goal.returns-in_err-two_phase_write-clause-same_sectors
-returns-in_err-two_phase_write-clause-same_sectors g c = c.next_volume.ensures.sectors
-
 pub returns-in_err-two_phase_write-clause-short : goal.returns-in_err-two_phase_write-clause-short
 returns-in_err-two_phase_write-clause-short g c =
     passed c.from_residual-in_err-two_phase_write.result Device c.from_residual-in_err-two_phase_write.ensures.1
@@ -197,17 +182,8 @@ returns-in_err-two_phase_write-clause-full g c =
     (λ r. r ≡ Err Full → DoesNothing g.D.Device c.args.device.now c.two_phase_write.new.device)
     (λ is. device_not_full is)
 
-pub returns-clause-honest : goal.returns-clause-honest
-returns-clause-honest g c = c.two_phase_write.ensures.only.honest
-
-pub returns-clause-sectors : goal.returns-clause-sectors
-returns-clause-sectors g c = c.two_phase_write.ensures.only.sectors
-
 pub returns-clause-failures : goal.returns-clause-failures
 returns-clause-failures g c = blames_where _ _ _ _ (λ is. never_ok is) c.in_ok-two_phase_write.ensures.only.failures
-
-pub returns-clause-console : goal.returns-clause-console
-returns-clause-console g c = c.two_phase_write.ensures.only.console
 
 pub returns-clause-short : goal.returns-clause-short
 returns-clause-short g c = λ is. never_ok is

@@ -127,9 +127,6 @@ cycle_from-requires-clause-grouped c =
 pub cycle_from-requires-clause-stands : goal.cycle_from-requires-clause-stands
 cycle_from-requires-clause-stands c = c.loop-paragraph.invariant.stands
 
-pub cycle_from-requires-clause-path : goal.cycle_from-requires-clause-path
-cycle_from-requires-clause-path c = c.loop-paragraph.invariant.path
-
 pub cycle_from-requires-clause-within : goal.cycle_from-requires-clause-within
 cycle_from-requires-clause-within c = omega (arith, c.loop-paragraph.invariant.same)
 

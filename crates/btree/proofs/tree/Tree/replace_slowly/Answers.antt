@@ -224,29 +224,5 @@ pub returns-then-top-eq0-clause-filled : goal.returns-then-top-eq0-clause-filled
 returns-then-top-eq0-clause-filled g c =
     few_same (filled_of c.args.pages.now) (filled_of c.args.pages.now) 1 refl
 
-pub returns-then-top-eq0-clause-cause : goal.returns-then-top-eq0-clause-cause
-returns-then-top-eq0-clause-cause g c = tt
-
-pub returns-in-Err-clause-cause : goal.returns-in-Err-clause-cause
-returns-in-Err-clause-cause g c = tt
-
-pub returns-clause-cause : goal.returns-clause-cause
-returns-clause-cause g c = tt
-
-pub returns-then-top-eq0-clause-tree : goal.returns-then-top-eq0-clause-tree
-returns-then-top-eq0-clause-tree g c = refl
-
-pub returns-in_err-way-clause-tree : goal.returns-in_err-way-clause-tree
-returns-in_err-way-clause-tree g c = refl
-
-pub returns-in-Err-clause-tree : goal.returns-in-Err-clause-tree
-returns-in-Err-clause-tree g c = refl
-
-pub returns-in_err-put_rest-clause-tree : goal.returns-in_err-put_rest-clause-tree
-returns-in_err-put_rest-clause-tree g c = refl
-
-pub returns-clause-tree : goal.returns-clause-tree
-returns-clause-tree g c = refl
-
 pub returns-in-Err-clause-same : goal.returns-in-Err-clause-same
 returns-in-Err-clause-same g c = λ is. c.descend.ensures.unchanged

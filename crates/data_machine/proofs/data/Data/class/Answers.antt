@@ -27,8 +27,8 @@ seen-requires-clause-shortened c =
     c.item_of-one.result.now c.item_of-one.ensures c.part_of-part.result
     (ap (λ (d : DataItem). d.item.length) c.part_of-part.ensures)
 
-pub class_at-done-requires : goal.class_at-done-requires
-class_at-done-requires c =
+pub class_at-requires : goal.class_at-requires
+class_at-requires c =
     seen_stands c.args.tables.now c.args.self.now.areas c.args.self.now.places.newest_first
     c.requires c.pop-place.result c.pop-place.new.self.newest_first c.pop-place.ensures.newest
     c.item_of-one.result.now c.item_of-one.ensures c.part_of-part.result
@@ -41,6 +41,5 @@ returns-clause-does c =
     c.requires c.pop-place.result c.pop-place.new.self.newest_first c.pop-place.ensures.newest
     c.item_of-one.result.now c.item_of-one.ensures c.part_of-part.result
     (ap (λ (d : DataItem). d.item.length) c.part_of-part.ensures)
-    c.seen.result.now c.seen.ensures c.class_at-done.result (scratch_of c.class_at-done.new.self)
-    (scratch_of c.args.self.now)
-    (spec.class_step c.args.class) c.pop-place.ensures.newest c.class_at-done.ensures.does
+    c.seen.result.now c.seen.ensures c.class_at.result (scratch_of c.class_at.new.self) (scratch_of c.args.self.now)
+    (spec.class_step c.args.class) c.pop-place.ensures.newest c.class_at.ensures.does

@@ -30,8 +30,8 @@ seen-requires-clause-shortened c =
     c.item_of-to.result.now c.item_of-to.ensures c.part_of-part.result
     (ap (λ (d : DataItem). d.item.length) c.part_of-part.ensures)
 
-pub convert_at-done-requires-clause-item : goal.convert_at-done-requires-clause-item
-convert_at-done-requires-clause-item c =
+pub convert_at-requires-clause-item : goal.convert_at-requires-clause-item
+convert_at-requires-clause-item c =
     seen_stands c.args.tables.now c.args.self.now.areas c.args.self.now.places.newest_first
     c.requires.operand c.pop-place.result c.pop-place.new.self.newest_first c.pop-place.ensures.newest
     c.item_of-to.result.now c.item_of-to.ensures c.part_of-part.result
@@ -42,7 +42,7 @@ pub returns-clause-does : goal.returns-clause-does
 returns-clause-does c =
     let s = scratch_of c.args.self.now in
     let one = c.args.one.now in
-    subst (λ (step : Step). IsStepOf c.convert_at-done.result (scratch_of c.convert_at-done.new.self) step)
+    subst (λ (step : Step). IsStepOf c.convert_at.result (scratch_of c.convert_at.new.self) step)
     (numbers_first c.args.tables.now c.args.numbers (λ ns. spec.converted_at (spec.measured_inspection ns one)) s
     c.pop-place.result c.pop-place.new.self.newest_first c.item_of-to.result.now c.pop-place.ensures.newest
     c.item_of-to.ensures)
@@ -50,6 +50,6 @@ returns-clause-does c =
     c.requires.operand c.pop-place.result c.pop-place.new.self.newest_first c.pop-place.ensures.newest
     c.item_of-to.result.now c.item_of-to.ensures c.part_of-part.result
     (ap (λ (d : DataItem). d.item.length) c.part_of-part.ensures)
-    c.seen.result.now c.seen.ensures c.convert_at-done.result (scratch_of c.convert_at-done.new.self) s
+    c.seen.result.now c.seen.ensures c.convert_at.result (scratch_of c.convert_at.new.self) s
     (λ place. spec.at_numbers c.args.numbers (λ ns. spec.converted_at (spec.measured_inspection ns one) place))
-    c.pop-place.ensures.newest c.convert_at-done.ensures.does)
+    c.pop-place.ensures.newest c.convert_at.ensures.does)

@@ -29,8 +29,8 @@ seen-requires-clause-shortened c =
     c.item_of-one.result.now c.item_of-one.ensures c.part_of-part.result
     (ap (λ (d : DataItem). d.item.length) c.part_of-part.ensures)
 
-pub date_at-done-requires-clause-item : goal.date_at-done-requires-clause-item
-date_at-done-requires-clause-item c =
+pub date_at-requires-clause-item : goal.date_at-requires-clause-item
+date_at-requires-clause-item c =
     seen_stands c.args.tables.now c.args.self.now.areas c.args.self.now.places.newest_first
     c.requires.operand c.pop-place.result c.pop-place.new.self.newest_first c.pop-place.ensures.newest
     c.item_of-one.result.now c.item_of-one.ensures c.part_of-part.result
@@ -43,6 +43,6 @@ returns-clause-does c =
     c.requires.operand c.pop-place.result c.pop-place.new.self.newest_first c.pop-place.ensures.newest
     c.item_of-one.result.now c.item_of-one.ensures c.part_of-part.result
     (ap (λ (d : DataItem). d.item.length) c.part_of-part.ensures)
-    c.seen.result.now c.seen.ensures c.date_at-done.result (scratch_of c.date_at-done.new.self)
+    c.seen.result.now c.seen.ensures c.date_at.result (scratch_of c.date_at.new.self)
     (scratch_of c.args.self.now) (λ place t. spec.storage_step (move_to (date_sender c.args.day.now) place t.storage) t)
-    c.pop-place.ensures.newest c.date_at-done.ensures.does
+    c.pop-place.ensures.newest c.date_at.ensures.does

@@ -28,8 +28,8 @@ seen-requires-clause-shortened c =
     c.item_of-one.result.now c.item_of-one.ensures c.part_of-part.result
     (ap (λ (d : DataItem). d.item.length) c.part_of-part.ensures)
 
-pub gather_at-done-requires-clause-item : goal.gather_at-done-requires-clause-item
-gather_at-done-requires-clause-item c =
+pub gather_at-requires-clause-item : goal.gather_at-requires-clause-item
+gather_at-requires-clause-item c =
     seen_stands c.args.tables.now c.args.self.now.areas c.args.self.now.places.newest_first
     c.requires.operand c.pop-place.result c.pop-place.new.self.newest_first c.pop-place.ensures.newest
     c.item_of-one.result.now c.item_of-one.ensures c.part_of-part.result
@@ -42,6 +42,5 @@ returns-clause-does c =
     c.requires.operand c.pop-place.result c.pop-place.new.self.newest_first c.pop-place.ensures.newest
     c.item_of-one.result.now c.item_of-one.ensures c.part_of-part.result
     (ap (λ (d : DataItem). d.item.length) c.part_of-part.ensures)
-    c.seen.result.now c.seen.ensures c.gather_at-done.result (scratch_of c.gather_at-done.new.self)
-    (scratch_of c.args.self.now)
-    (λ place t. spec.append_step (part_of t.storage place) t) c.pop-place.ensures.newest c.gather_at-done.ensures.does
+    c.seen.result.now c.seen.ensures c.gather_at.result (scratch_of c.gather_at.new.self) (scratch_of c.args.self.now)
+    (λ place t. spec.append_step (part_of t.storage place) t) c.pop-place.ensures.newest c.gather_at.ensures.does

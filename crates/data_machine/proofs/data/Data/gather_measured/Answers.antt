@@ -28,16 +28,16 @@ seen-requires-clause-shortened c =
     c.item_of-one.result.now c.item_of-one.ensures c.part_of-part.result
     (ap (λ (d : DataItem). d.item.length) c.part_of-part.ensures)
 
-pub gather_measured_at-done-requires-clause-item : goal.gather_measured_at-done-requires-clause-item
-gather_measured_at-done-requires-clause-item c =
+pub gather_measured_at-requires-clause-item : goal.gather_measured_at-requires-clause-item
+gather_measured_at-requires-clause-item c =
     seen_stands c.args.tables.now c.args.self.now.areas c.args.self.now.places.newest_first
     c.requires.operand c.pop-place.result c.pop-place.new.self.newest_first c.pop-place.ensures.newest
     c.item_of-one.result.now c.item_of-one.ensures c.part_of-part.result
     (ap (λ (d : DataItem). d.item.length) c.part_of-part.ensures)
     c.seen.result.now c.seen.ensures
 
-pub gather_measured_at-done-requires-clause-short : goal.gather_measured_at-done-requires-clause-short
-gather_measured_at-done-requires-clause-short c =
+pub gather_measured_at-requires-clause-short : goal.gather_measured_at-requires-clause-short
+gather_measured_at-requires-clause-short c =
     seen_short c.args.tables.now c.args.self.now.areas c.args.self.now.places.newest_first
     c.requires.operand c.pop-place.result c.pop-place.new.self.newest_first c.pop-place.ensures.newest
     c.item_of-one.result.now c.item_of-one.ensures c.part_of-part.result
@@ -46,9 +46,9 @@ gather_measured_at-done-requires-clause-short c =
 
 pub returns-clause-does : goal.returns-clause-does
 returns-clause-does c =
-    measured_does c.gather_measured_at-done.result c.args.tables.now (scratch_of c.args.self.now)
-    (scratch_of c.gather_measured_at-done.new.self) c.pop-place.result c.pop-place.new.self.newest_first
+    measured_does c.gather_measured_at.result c.args.tables.now (scratch_of c.args.self.now)
+    (scratch_of c.gather_measured_at.new.self) c.pop-place.result c.pop-place.new.self.newest_first
     c.item_of-one.result.now c.seen.result.now c.pop-place.ensures.newest c.item_of-one.ensures
     (c.seen.ensures
     ∙ ap (λ (d : DataItem). shortened_item c.item_of-one.result.now d.item.length) c.part_of-part.ensures)
-    c.gather_measured_at-done.ensures.does
+    c.gather_measured_at.ensures.does

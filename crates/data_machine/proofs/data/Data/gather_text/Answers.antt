@@ -36,23 +36,23 @@ seen-requires-clause-shortened c =
     c.item_of-other.result.now c.item_of-other.ensures c.part_of-part.result
     (ap (λ (d : DataItem). d.item.length) c.part_of-part.ensures)
 
-pub gather_before-done-requires-clause-item : goal.gather_before-done-requires-clause-item
-gather_before-done-requires-clause-item c =
+pub gather_before-requires-clause-item : goal.gather_before-requires-clause-item
+gather_before-requires-clause-item c =
     seen_stands c.args.tables.now c.args.self.now.areas (c.below-next.result ∷ [])
     (newest_found c.args.tables.now c.args.self.now.areas c.args.self.now.places.newest_first c.below-next.result
     c.requires.delimiter c.below-next.ensures) c.below-next.result [] refl
     c.item_of-other.result.now c.item_of-other.ensures c.part_of-part.result
     (ap (λ (d : DataItem). d.item.length) c.part_of-part.ensures) c.seen.result.now c.seen.ensures
 
-pub gather_before-done-requires-clause-room : goal.gather_before-done-requires-clause-room
-gather_before-done-requires-clause-room c = c.requires.room c.text_of-bytes.result.now c.text_of-bytes.ensures
+pub gather_before-requires-clause-room : goal.gather_before-requires-clause-room
+gather_before-requires-clause-room c = c.requires.room c.text_of-bytes.result.now c.text_of-bytes.ensures
 
 pub returns-clause-does : goal.returns-clause-does
 returns-clause-does c =
     let s = scratch_of c.args.self.now in
     let add : List ℕ → ItemPlace → _ =
     λ text next. spec.append_step (delimited_characters (part_of s.storage next) text) s in
-    subst (IsStepOf c.gather_before-done.result (scratch_of c.gather_before-done.new.self))
+    subst (IsStepOf c.gather_before.result (scratch_of c.gather_before.new.self))
     (sym (ap (λ o. step_at o (λ (text : List ℕ). step_at (spec.newest_place c.args.tables.now s.places) (add text)))
     c.text_of-bytes.ensures
     ∙ ap (λ o. step_at o (add c.text_of-bytes.result.now))
@@ -60,4 +60,4 @@ returns-clause-does c =
     c.below-next.ensures c.item_of-other.ensures
     (c.seen.ensures
     ∙ ap (λ (d : DataItem). shortened_item c.item_of-other.result.now d.item.length) c.part_of-part.ensures))))
-    c.gather_before-done.ensures.does
+    c.gather_before.ensures.does

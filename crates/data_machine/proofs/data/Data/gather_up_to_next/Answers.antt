@@ -34,8 +34,8 @@ seen-requires-clause-shortened c =
     c.item_of-other.result.now c.item_of-other.ensures c.part_of-part.result
     (ap (λ (d : DataItem). d.item.length) c.part_of-part.ensures)
 
-pub gather_between-done-requires-clause-delimiter : goal.gather_between-done-requires-clause-delimiter
-gather_between-done-requires-clause-delimiter c =
+pub gather_between-requires-clause-delimiter : goal.gather_between-requires-clause-delimiter
+gather_between-requires-clause-delimiter c =
     seen_stands c.args.tables.now c.args.self.now.areas (c.below-next.result ∷ [])
     (newest_found c.args.tables.now c.args.self.now.areas c.args.self.now.places.newest_first c.below-next.result
     c.requires.delimiter c.below-next.ensures) c.below-next.result [] refl
@@ -46,7 +46,7 @@ pub returns-clause-does : goal.returns-clause-does
 returns-clause-does c =
     let s = scratch_of c.args.self.now in
     let bytes = part_of s.storage (item_place c.args.one.now c.args.offset) in
-    step_found c.gather_between-done.result (scratch_of c.gather_between-done.new.self)
+    step_found c.gather_between.result (scratch_of c.gather_between.new.self)
     (spec.newest_place c.args.tables.now s.places)
     (λ (next : ItemPlace). spec.append_step (delimited_characters (part_of s.storage next) bytes) s)
     (item_place c.seen.result.now c.below-next.result.offset)
@@ -54,4 +54,4 @@ returns-clause-does c =
     c.below-next.ensures c.item_of-other.ensures
     (c.seen.ensures
     ∙ ap (λ (d : DataItem). shortened_item c.item_of-other.result.now d.item.length) c.part_of-part.ensures))
-    c.gather_between-done.ensures.does
+    c.gather_between.ensures.does

@@ -31,15 +31,15 @@ seen-requires-clause-shortened c =
     c.item_of-one.result.now c.item_of-one.ensures c.part_of-part.result
     (ap (λ (d : DataItem). d.item.length) c.part_of-part.ensures)
 
-pub gather_up_to_next-done-requires-clause-item : goal.gather_up_to_next-done-requires-clause-item
-gather_up_to_next-done-requires-clause-item c =
+pub gather_up_to_next-requires-clause-item : goal.gather_up_to_next-requires-clause-item
+gather_up_to_next-requires-clause-item c =
     seen_stands c.args.tables.now c.args.self.now.areas c.args.self.now.places.newest_first
     c.requires.operand c.pop-place.result c.pop-place.new.self.newest_first c.pop-place.ensures.newest
     c.item_of-one.result.now c.item_of-one.ensures c.part_of-part.result
     (ap (λ (d : DataItem). d.item.length) c.part_of-part.ensures) c.seen.result.now c.seen.ensures
 
-pub gather_up_to_next-done-requires-clause-delimiter : goal.gather_up_to_next-done-requires-clause-delimiter
-gather_up_to_next-done-requires-clause-delimiter c =
+pub gather_up_to_next-requires-clause-delimiter : goal.gather_up_to_next-requires-clause-delimiter
+gather_up_to_next-requires-clause-delimiter c =
     next_finds c.args.tables.now c.args.self.now.areas c.args.self.now.places.newest_first c.pop-place.result
     c.pop-place.new.self.newest_first c.pop-place.ensures.newest c.requires.delimiter
 
@@ -49,8 +49,8 @@ returns-clause-does c =
     c.requires.operand c.pop-place.result c.pop-place.new.self.newest_first c.pop-place.ensures.newest
     c.item_of-one.result.now c.item_of-one.ensures c.part_of-part.result
     (ap (λ (d : DataItem). d.item.length) c.part_of-part.ensures)
-    c.seen.result.now c.seen.ensures c.gather_up_to_next-done.result (scratch_of c.gather_up_to_next-done.new.self)
+    c.seen.result.now c.seen.ensures c.gather_up_to_next.result (scratch_of c.gather_up_to_next.new.self)
     (scratch_of c.args.self.now)
     (λ place t. step_at (spec.newest_place c.args.tables.now t.places)
     (λ next. spec.append_step (delimited_characters (part_of t.storage next) (part_of t.storage place)) t))
-    c.pop-place.ensures.newest c.gather_up_to_next-done.ensures.does
+    c.pop-place.ensures.newest c.gather_up_to_next.ensures.does

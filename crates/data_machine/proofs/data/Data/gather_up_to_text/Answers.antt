@@ -31,8 +31,8 @@ seen-requires-clause-shortened c =
     c.item_of-one.result.now c.item_of-one.ensures c.part_of-part.result
     (ap (λ (d : DataItem). d.item.length) c.part_of-part.ensures)
 
-pub gather_up_to_at-done-requires-clause-item : goal.gather_up_to_at-done-requires-clause-item
-gather_up_to_at-done-requires-clause-item c =
+pub gather_up_to_at-requires-clause-item : goal.gather_up_to_at-requires-clause-item
+gather_up_to_at-requires-clause-item c =
     seen_stands c.args.tables.now c.args.self.now.areas c.args.self.now.places.newest_first
     c.requires.operand c.pop-place.result c.pop-place.new.self.newest_first c.pop-place.ensures.newest
     c.item_of-one.result.now c.item_of-one.ensures c.part_of-part.result
@@ -41,7 +41,7 @@ gather_up_to_at-done-requires-clause-item c =
 
 pub returns-clause-does : goal.returns-clause-does
 returns-clause-does c =
-    subst (λ o. IsStepOf c.gather_up_to_at-done.result (scratch_of c.gather_up_to_at-done.new.self)
+    subst (λ o. IsStepOf c.gather_up_to_at.result (scratch_of c.gather_up_to_at.new.self)
     (step_at o (λ (bytes : List ℕ). spec.at_place c.args.tables.now (λ place t.
     spec.append_step (delimited_characters bytes (part_of t.storage place)) t) (scratch_of c.args.self.now))))
     (sym c.text_of-delimiter.ensures) (
@@ -49,7 +49,7 @@ returns-clause-does c =
     c.requires.operand c.pop-place.result c.pop-place.new.self.newest_first c.pop-place.ensures.newest
     c.item_of-one.result.now c.item_of-one.ensures c.part_of-part.result
     (ap (λ (d : DataItem). d.item.length) c.part_of-part.ensures)
-    c.seen.result.now c.seen.ensures c.gather_up_to_at-done.result (scratch_of c.gather_up_to_at-done.new.self)
+    c.seen.result.now c.seen.ensures c.gather_up_to_at.result (scratch_of c.gather_up_to_at.new.self)
     (scratch_of c.args.self.now) (λ place t. spec.append_step
     (delimited_characters c.text_of-delimiter.result.now (part_of t.storage place)) t)
-    c.pop-place.ensures.newest c.gather_up_to_at-done.ensures.does)
+    c.pop-place.ensures.newest c.gather_up_to_at.ensures.does)

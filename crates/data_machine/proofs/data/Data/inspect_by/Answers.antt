@@ -46,25 +46,24 @@ seen-requires-clause-shortened c =
     refl
     c.item_of-to.ensures (subject_is (goal.at.seen-requires-clause-shortened c).After-below-subject)).editing
 
-pub inspect_at-done-requires-clause-subject : goal.inspect_at-done-requires-clause-subject
-inspect_at-done-requires-clause-subject c =
-    subject_at (goal.at.inspect_at-done-requires-clause-subject c).After-below-subject
+pub inspect_at-requires-clause-subject : goal.inspect_at-requires-clause-subject
+inspect_at-requires-clause-subject c = subject_at (goal.at.inspect_at-requires-clause-subject c).After-below-subject
 
-pub inspect_at-done-requires-clause-seen : goal.inspect_at-done-requires-clause-seen
-inspect_at-done-requires-clause-seen c = seen_is (goal.at.inspect_at-done-requires-clause-seen c).After-seen
+pub inspect_at-requires-clause-seen : goal.inspect_at-requires-clause-seen
+inspect_at-requires-clause-seen c = seen_is (goal.at.inspect_at-requires-clause-seen c).After-seen
 
-pub inspect_at-done-requires-clause-item : goal.inspect_at-done-requires-clause-item
-inspect_at-done-requires-clause-item c =
+pub inspect_at-requires-clause-item : goal.inspect_at-requires-clause-item
+inspect_at-requires-clause-item c =
     subst (λ (o : DataItem). IsAtOffset o c.args.self.now.areas c.below-subject.result.offset)
-    (sym (seen_is (goal.at.inspect_at-done-requires-clause-item c).After-seen))
+    (sym (seen_is (goal.at.inspect_at-requires-clause-item c).After-seen))
     (stands_one c.args.tables.now c.args.self.now.areas c.below-subject.result c.args.tables.now.items
     c.item_of-to.result.now refl c.item_of-to.ensures
-    (subject_is (goal.at.inspect_at-done-requires-clause-item c).After-below-subject))
+    (subject_is (goal.at.inspect_at-requires-clause-item c).After-below-subject))
 
-pub inspect_at-done-requires-clause-text : goal.inspect_at-done-requires-clause-text
-inspect_at-done-requires-clause-text c =
-    let stands = subject_is (goal.at.inspect_at-done-requires-clause-text c).After-below-subject in
+pub inspect_at-requires-clause-text : goal.inspect_at-requires-clause-text
+inspect_at-requires-clause-text c =
+    let stands = subject_is (goal.at.inspect_at-requires-clause-text c).After-below-subject in
     let room = c.requires.text c.below-subject.result.item.number stands.one stands.here in
     let size : c.seen.result.now.item.length ≡ c.below-subject.result.length =
-    ap (λ (d : DataItem). d.item.length) (seen_is (goal.at.inspect_at-done-requires-clause-text c).After-seen) in
+    ap (λ (d : DataItem). d.item.length) (seen_is (goal.at.inspect_at-requires-clause-text c).After-seen) in
     omega (arith, room, stands.short, size)

@@ -28,8 +28,8 @@ seen-requires-clause-shortened c =
     c.item_of-one.result.now c.item_of-one.ensures c.part_of-part.result
     (ap (λ (d : DataItem). d.item.length) c.part_of-part.ensures)
 
-pub string_first_at-done-requires : goal.string_first_at-done-requires
-string_first_at-done-requires c =
+pub string_first_at-requires : goal.string_first_at-requires
+string_first_at-requires c =
     seen_stands c.args.tables.now c.args.self.now.areas c.args.self.now.places.newest_first
     c.requires.operand c.pop-place.result c.pop-place.new.self.newest_first c.pop-place.ensures.newest
     c.item_of-one.result.now c.item_of-one.ensures c.part_of-part.result
@@ -42,6 +42,6 @@ returns-clause-does c =
     c.requires.operand c.pop-place.result c.pop-place.new.self.newest_first c.pop-place.ensures.newest
     c.item_of-one.result.now c.item_of-one.ensures c.part_of-part.result
     (ap (λ (d : DataItem). d.item.length) c.part_of-part.ensures)
-    c.seen.result.now c.seen.ensures c.string_first_at-done.result (scratch_of c.string_first_at-done.new.self)
+    c.seen.result.now c.seen.ensures c.string_first_at.result (scratch_of c.string_first_at.new.self)
     (scratch_of c.args.self.now) (spec.strung_to None 1)
-    c.pop-place.ensures.newest c.string_first_at-done.ensures.does
+    c.pop-place.ensures.newest c.string_first_at.ensures.does

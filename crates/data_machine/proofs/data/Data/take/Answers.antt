@@ -27,8 +27,8 @@ seen-requires-clause-shortened c =
     c.item_of-one.result.now c.item_of-one.ensures c.part_of-part.result
     (ap (λ (d : DataItem). d.item.length) c.part_of-part.ensures)
 
-pub take_at-done-requires-clause-item : goal.take_at-done-requires-clause-item
-take_at-done-requires-clause-item c =
+pub take_at-requires-clause-item : goal.take_at-requires-clause-item
+take_at-requires-clause-item c =
     seen_stands c.args.tables.now c.args.self.now.areas c.args.self.now.places.newest_first
     c.requires.operand c.pop-place.result c.pop-place.new.self.newest_first c.pop-place.ensures.newest
     c.item_of-one.result.now c.item_of-one.ensures c.part_of-part.result
@@ -41,6 +41,5 @@ returns-clause-does c =
     c.requires.operand c.pop-place.result c.pop-place.new.self.newest_first c.pop-place.ensures.newest
     c.item_of-one.result.now c.item_of-one.ensures c.part_of-part.result
     (ap (λ (d : DataItem). d.item.length) c.part_of-part.ensures)
-    c.seen.result.now c.seen.ensures c.take_at-done.result (scratch_of c.take_at-done.new.self)
-    (scratch_of c.args.self.now)
-    spec.take_step c.pop-place.ensures.newest c.take_at-done.ensures.does
+    c.seen.result.now c.seen.ensures c.take_at.result (scratch_of c.take_at.new.self) (scratch_of c.args.self.now)
+    spec.take_step c.pop-place.ensures.newest c.take_at.ensures.does

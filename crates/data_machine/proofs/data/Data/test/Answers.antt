@@ -35,17 +35,11 @@ returns-in-Compare-clause-does c =
     subst (λ (one : Test). IsStepOf c.compare.result (scratch_of c.compare.new.self)
     (test_step c.args.tables.now one (scratch_of c.args.self.now))) (sym c.in-Compare.is) c.compare.ensures.does
 
-pub returns-in-Compare-clause-keeps : goal.returns-in-Compare-clause-keeps
-returns-in-Compare-clause-keeps c = c.compare.ensures.keeps
-
 pub returns-in-CompareLiteral-clause-does : goal.returns-in-CompareLiteral-clause-does
 returns-in-CompareLiteral-clause-does c =
     subst (λ (one : Test). IsStepOf c.compare_literal.result (scratch_of c.compare_literal.new.self)
     (test_step c.args.tables.now one (scratch_of c.args.self.now))) (sym c.in-CompareLiteral.is)
     c.compare_literal.ensures.does
-
-pub returns-in-CompareLiteral-clause-keeps : goal.returns-in-CompareLiteral-clause-keeps
-returns-in-CompareLiteral-clause-keeps c = c.compare_literal.ensures.keeps
 
 pub returns-in-CompareNumbers-clause-does : goal.returns-in-CompareNumbers-clause-does
 returns-in-CompareNumbers-clause-does c =
@@ -53,29 +47,17 @@ returns-in-CompareNumbers-clause-does c =
     (test_step c.args.tables.now one (scratch_of c.args.self.now))) (sym c.in-CompareNumbers.is)
     c.compare_numbers.ensures.does
 
-pub returns-in-CompareNumbers-clause-keeps : goal.returns-in-CompareNumbers-clause-keeps
-returns-in-CompareNumbers-clause-keeps c = c.compare_numbers.ensures.keeps
-
 pub returns-in-Class-clause-does : goal.returns-in-Class-clause-does
 returns-in-Class-clause-does c =
     subst (λ (one : Test). IsStepOf c.class.result (scratch_of c.class.new.self)
     (test_step c.args.tables.now one (scratch_of c.args.self.now))) (sym c.in-Class.is) c.class.ensures.does
-
-pub returns-in-Class-clause-keeps : goal.returns-in-Class-clause-keeps
-returns-in-Class-clause-keeps c = c.class.ensures.keeps
 
 pub returns-in-OrEqual-clause-does : goal.returns-in-OrEqual-clause-does
 returns-in-OrEqual-clause-does c =
     subst (λ (one : Test). IsStepOf c.or_equal.result (scratch_of c.or_equal.new.self)
     (test_step c.args.tables.now one (scratch_of c.args.self.now))) (sym c.in-OrEqual.is) c.or_equal.ensures.does
 
-pub returns-in-OrEqual-clause-keeps : goal.returns-in-OrEqual-clause-keeps
-returns-in-OrEqual-clause-keeps c = c.or_equal.ensures.keeps
-
 pub returns-in-OrWithin-clause-does : goal.returns-in-OrWithin-clause-does
 returns-in-OrWithin-clause-does c =
     subst (λ (one : Test). IsStepOf c.or_within.result (scratch_of c.or_within.new.self)
     (test_step c.args.tables.now one (scratch_of c.args.self.now))) (sym c.in-OrWithin.is) c.or_within.ensures.does
-
-pub returns-in-OrWithin-clause-keeps : goal.returns-in-OrWithin-clause-keeps
-returns-in-OrWithin-clause-keeps c = c.or_within.ensures.keeps

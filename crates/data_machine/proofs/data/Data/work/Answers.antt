@@ -158,168 +158,105 @@ returns-in-Place-clause-does c =
     subst (λ (one : DataInstruction). IsStepOf c.place.result (scratch_of c.place.new.self)
     (work c.args.tables.now one (scratch_of c.args.self.now))) (sym c.in-Place.is) c.place.ensures.does
 
-pub returns-in-Place-clause-keeps : goal.returns-in-Place-clause-keeps
-returns-in-Place-clause-keeps c = c.place.ensures.keeps
-
 pub returns-in-Index-clause-does : goal.returns-in-Index-clause-does
 returns-in-Index-clause-does c =
     subst (λ (one : DataInstruction). IsStepOf c.index.result (scratch_of c.index.new.self)
     (work c.args.tables.now one (scratch_of c.args.self.now))) (sym c.in-Index.is) c.index.ensures.does
-
-pub returns-in-Index-clause-keeps : goal.returns-in-Index-clause-keeps
-returns-in-Index-clause-keeps c = c.index.ensures.keeps
 
 pub returns-in-Push-clause-does : goal.returns-in-Push-clause-does
 returns-in-Push-clause-does c =
     subst (λ (one : DataInstruction). IsStepOf c.push.result (scratch_of c.push.new.self)
     (work c.args.tables.now one (scratch_of c.args.self.now))) (sym c.in-Push.is) c.push.ensures.does
 
-pub returns-in-Push-clause-keeps : goal.returns-in-Push-clause-keeps
-returns-in-Push-clause-keeps c = c.push.ensures.keeps
-
 pub returns-in-Literal-clause-does : goal.returns-in-Literal-clause-does
 returns-in-Literal-clause-does c =
     subst (λ (one : DataInstruction). IsStepOf c.literal.result (scratch_of c.literal.new.self)
     (work c.args.tables.now one (scratch_of c.args.self.now))) (sym c.in-Literal.is) c.literal.ensures.does
-
-pub returns-in-Literal-clause-keeps : goal.returns-in-Literal-clause-keeps
-returns-in-Literal-clause-keeps c = c.literal.ensures.keeps
 
 pub returns-in-Calculate-clause-does : goal.returns-in-Calculate-clause-does
 returns-in-Calculate-clause-does c =
     subst (λ (one : DataInstruction). IsStepOf c.calculate.result (scratch_of c.calculate.new.self)
     (work c.args.tables.now one (scratch_of c.args.self.now))) (sym c.in-Calculate.is) c.calculate.ensures.does
 
-pub returns-in-Calculate-clause-keeps : goal.returns-in-Calculate-clause-keeps
-returns-in-Calculate-clause-keeps c = c.calculate.ensures.keeps
-
 pub returns-in-Store-clause-does : goal.returns-in-Store-clause-does
 returns-in-Store-clause-does c =
     subst (λ (one : DataInstruction). IsStepOf c.store_number.result (scratch_of c.store_number.new.self)
     (work c.args.tables.now one (scratch_of c.args.self.now))) (sym c.in-Store.is) c.store_number.ensures.does
-
-pub returns-in-Store-clause-keeps : goal.returns-in-Store-clause-keeps
-returns-in-Store-clause-keeps c = c.store_number.ensures.keeps
 
 pub returns-in-Test-clause-does : goal.returns-in-Test-clause-does
 returns-in-Test-clause-does c =
     subst (λ (one : DataInstruction). IsStepOf c.test.result (scratch_of c.test.new.self)
     (work c.args.tables.now one (scratch_of c.args.self.now))) (sym c.in-Test.is) c.test.ensures.does
 
-pub returns-in-Test-clause-keeps : goal.returns-in-Test-clause-keeps
-returns-in-Test-clause-keeps c = c.test.ensures.keeps
-
 pub returns-in-ClearTruth-clause-does : goal.returns-in-ClearTruth-clause-does
 returns-in-ClearTruth-clause-does c =
     subst (λ (one : DataInstruction). IsStepOf c.clear_truth.result (scratch_of c.clear_truth.new.self)
     (work c.args.tables.now one (scratch_of c.args.self.now))) (sym c.in-ClearTruth.is) c.clear_truth.ensures.does
-
-pub returns-in-ClearTruth-clause-keeps : goal.returns-in-ClearTruth-clause-keeps
-returns-in-ClearTruth-clause-keeps c = c.clear_truth.ensures.keeps
 
 pub returns-in-VoidIfTrue-clause-does : goal.returns-in-VoidIfTrue-clause-does
 returns-in-VoidIfTrue-clause-does c =
     subst (λ (one : DataInstruction). IsStepOf c.void_if_true.result (scratch_of c.void_if_true.new.self)
     (work c.args.tables.now one (scratch_of c.args.self.now))) (sym c.in-VoidIfTrue.is) c.void_if_true.ensures.does
 
-pub returns-in-VoidIfTrue-clause-keeps : goal.returns-in-VoidIfTrue-clause-keeps
-returns-in-VoidIfTrue-clause-keeps c = c.void_if_true.ensures.keeps
-
 pub returns-in-Take-clause-does : goal.returns-in-Take-clause-does
 returns-in-Take-clause-does c =
     subst (λ (one : DataInstruction). IsStepOf c.take.result (scratch_of c.take.new.self)
     (work c.args.tables.now one (scratch_of c.args.self.now))) (sym c.in-Take.is) c.take.ensures.does
-
-pub returns-in-Take-clause-keeps : goal.returns-in-Take-clause-keeps
-returns-in-Take-clause-keeps c = c.take.ensures.keeps
 
 pub returns-in-TakeLiteral-clause-does : goal.returns-in-TakeLiteral-clause-does
 returns-in-TakeLiteral-clause-does c =
     subst (λ (one : DataInstruction). IsStepOf c.take_literal.result (scratch_of c.take_literal.new.self)
     (work c.args.tables.now one (scratch_of c.args.self.now))) (sym c.in-TakeLiteral.is) c.take_literal.ensures.does
 
-pub returns-in-TakeLiteral-clause-keeps : goal.returns-in-TakeLiteral-clause-keeps
-returns-in-TakeLiteral-clause-keeps c = c.take_literal.ensures.keeps
-
 pub returns-in-Move-clause-does : goal.returns-in-Move-clause-does
 returns-in-Move-clause-does c =
     subst (λ (one : DataInstruction). IsStepOf c.receive.result (scratch_of c.receive.new.self)
     (work c.args.tables.now one (scratch_of c.args.self.now))) (sym c.in-Move.is) c.receive.ensures.does
-
-pub returns-in-Move-clause-keeps : goal.returns-in-Move-clause-keeps
-returns-in-Move-clause-keeps c = c.receive.ensures.keeps
 
 pub returns-in-Append-clause-does : goal.returns-in-Append-clause-does
 returns-in-Append-clause-does c =
     subst (λ (one : DataInstruction). IsStepOf c.append.result (scratch_of c.append.new.self)
     (work c.args.tables.now one (scratch_of c.args.self.now))) (sym c.in-Append.is) c.append.ensures.does
 
-pub returns-in-Append-clause-keeps : goal.returns-in-Append-clause-keeps
-returns-in-Append-clause-keeps c = c.append.ensures.keeps
-
 pub returns-in-AppendLiteral-clause-does : goal.returns-in-AppendLiteral-clause-does
 returns-in-AppendLiteral-clause-does c =
     subst (λ (one : DataInstruction). IsStepOf c.append_literal.result (scratch_of c.append_literal.new.self)
     (work c.args.tables.now one (scratch_of c.args.self.now))) (sym c.in-AppendLiteral.is) c.append_literal.ensures.does
-
-pub returns-in-AppendLiteral-clause-keeps : goal.returns-in-AppendLiteral-clause-keeps
-returns-in-AppendLiteral-clause-keeps c = c.append_literal.ensures.keeps
 
 pub returns-in-Overlay-clause-does : goal.returns-in-Overlay-clause-does
 returns-in-Overlay-clause-does c =
     subst (λ (one : DataInstruction). IsStepOf c.overlay.result (scratch_of c.overlay.new.self)
     (work c.args.tables.now one (scratch_of c.args.self.now))) (sym c.in-Overlay.is) c.overlay.ensures.does
 
-pub returns-in-Overlay-clause-keeps : goal.returns-in-Overlay-clause-keeps
-returns-in-Overlay-clause-keeps c = c.overlay.ensures.keeps
-
 pub returns-in-DropPlace-clause-does : goal.returns-in-DropPlace-clause-does
 returns-in-DropPlace-clause-does c =
     subst (λ (one : DataInstruction). IsStepOf c.drop_place.result (scratch_of c.drop_place.new.self)
     (work c.args.tables.now one (scratch_of c.args.self.now))) (sym c.in-DropPlace.is) c.drop_place.ensures.does
-
-pub returns-in-DropPlace-clause-keeps : goal.returns-in-DropPlace-clause-keeps
-returns-in-DropPlace-clause-keeps c = c.drop_place.ensures.keeps
 
 pub returns-in-Gather-clause-does : goal.returns-in-Gather-clause-does
 returns-in-Gather-clause-does c =
     subst (λ (one : DataInstruction). IsStepOf c.gather.result (scratch_of c.gather.new.self)
     (work c.args.tables.now one (scratch_of c.args.self.now))) (sym c.in-Gather.is) c.gather.ensures.does
 
-pub returns-in-Gather-clause-keeps : goal.returns-in-Gather-clause-keeps
-returns-in-Gather-clause-keeps c = c.gather.ensures.keeps
-
 pub returns-in-Part-clause-does : goal.returns-in-Part-clause-does
 returns-in-Part-clause-does c =
     subst (λ (one : DataInstruction). IsStepOf c.part.result (scratch_of c.part.new.self)
     (work c.args.tables.now one (scratch_of c.args.self.now))) (sym c.in-Part.is) c.part.ensures.does
-
-pub returns-in-Part-clause-keeps : goal.returns-in-Part-clause-keeps
-returns-in-Part-clause-keeps c = c.part.ensures.keeps
 
 pub returns-in-String-clause-does : goal.returns-in-String-clause-does
 returns-in-String-clause-does c =
     subst (λ (one : DataInstruction). IsStepOf c.string.result (scratch_of c.string.new.self)
     (work c.args.tables.now one (scratch_of c.args.self.now))) (sym c.in-String.is) c.string.ensures.does
 
-pub returns-in-String-clause-keeps : goal.returns-in-String-clause-keeps
-returns-in-String-clause-keeps c = c.string.ensures.keeps
-
 pub returns-in-Inspect-clause-does : goal.returns-in-Inspect-clause-does
 returns-in-Inspect-clause-does c =
     subst (λ (one : DataInstruction). IsStepOf c.inspect.result (scratch_of c.inspect.new.self)
     (work c.args.tables.now one (scratch_of c.args.self.now))) (sym c.in-Inspect.is) c.inspect.ensures.does
 
-pub returns-in-Inspect-clause-keeps : goal.returns-in-Inspect-clause-keeps
-returns-in-Inspect-clause-keeps c = c.inspect.ensures.keeps
-
 pub returns-in-Convert-clause-does : goal.returns-in-Convert-clause-does
 returns-in-Convert-clause-does c =
     subst (λ (one : DataInstruction). IsStepOf c.convert.result (scratch_of c.convert.new.self)
     (work c.args.tables.now one (scratch_of c.args.self.now))) (sym c.in-Convert.is) c.convert.ensures.does
-
-pub returns-in-Convert-clause-keeps : goal.returns-in-Convert-clause-keeps
-returns-in-Convert-clause-keeps c = c.convert.ensures.keeps
 
 pub returns-in-InspectMeasured-clause-does : goal.returns-in-InspectMeasured-clause-does
 returns-in-InspectMeasured-clause-does c =
@@ -327,14 +264,8 @@ returns-in-InspectMeasured-clause-does c =
     (work c.args.tables.now one (scratch_of c.args.self.now))) (sym c.in-InspectMeasured.is)
     c.inspect_measured.ensures.does
 
-pub returns-in-InspectMeasured-clause-keeps : goal.returns-in-InspectMeasured-clause-keeps
-returns-in-InspectMeasured-clause-keeps c = c.inspect_measured.ensures.keeps
-
 pub returns-in-ConvertMeasured-clause-does : goal.returns-in-ConvertMeasured-clause-does
 returns-in-ConvertMeasured-clause-does c =
     subst (λ (one : DataInstruction). IsStepOf c.convert_measured.result (scratch_of c.convert_measured.new.self)
     (work c.args.tables.now one (scratch_of c.args.self.now))) (sym c.in-ConvertMeasured.is)
     c.convert_measured.ensures.does
-
-pub returns-in-ConvertMeasured-clause-keeps : goal.returns-in-ConvertMeasured-clause-keeps
-returns-in-ConvertMeasured-clause-keeps c = c.convert_measured.ensures.keeps

@@ -3,9 +3,6 @@ use Rattle.declarations.proofs.declarations.Declarations.with_items.Goals as goa
 pub of-requires : goal.of-requires
 of-requires c = c.requires
 
-pub with_tables-requires-clause-items : goal.with_tables-requires-clause-items
-with_tables-requires-clause-items c = c.requires.items
-
 pub with_tables-requires-clause-files : goal.with_tables-requires-clause-files
 with_tables-requires-clause-files c = c.requires.files
 

@@ -12,9 +12,6 @@ use Rattle.entry_rules.specs.Checks.{IsFirst, IsFirstFault, fault_of}
 use Rattle.declarations.proofs.ItemRules.{second_failed, second_made, three_held, of_ok}
 use Rattle.declarations.proofs.program_tables.ProgramTables.of.Goals as goal
 
-pub condition_names-conditions-requires : goal.condition_names-conditions-requires
-condition_names-conditions-requires c = c.requires.items.calls
-
 pub of-files-requires : goal.of-files-requires
 of-files-requires c = record {
   table = c.requires.items.table;

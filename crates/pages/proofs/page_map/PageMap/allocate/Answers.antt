@@ -107,12 +107,6 @@ returns-in_err-page-clause-spent c = passed_on c.from_residual.result c.in_err-p
     (λ r. (r ≡ Err Spent) ↔ (is_spent c.args.self.now ≡ true))
     (λ is. c.in_err-page.ensures.spent.0 (still_error is), λ was. still_error (c.in_err-page.ensures.spent.1 was))
 
-pub returns-in_err-edit-clause-filled : goal.returns-in_err-edit-clause-filled
-returns-in_err-edit-clause-filled c = c.edit.ensures.filled
-
-pub returns-in_err-edit-clause-keeps : goal.returns-in_err-edit-clause-keeps
-returns-in_err-edit-clause-keeps c = c.edit.ensures.keeps
-
 pub returns-in_err-edit-clause-full : goal.returns-in_err-edit-clause-full
 returns-in_err-edit-clause-full c = λ unspent.
     let there = c.in_ok-page.ensures in
@@ -143,9 +137,6 @@ returns-in_err-edit-clause-spent c =
 pub returns-clause-keeps : goal.returns-clause-keeps
 returns-clause-keeps c = keeps_then _ c.edit.new.self _ c.edit.ensures.keeps
     (keeps_committed _ _ (record { volume = refl; mark = refl; spent = refl }) refl (λ pages is. is))
-
-pub returns-clause-filled : goal.returns-clause-filled
-returns-clause-filled c = c.edit.ensures.filled
 
 pub returns-clause-full : goal.returns-clause-full
 returns-clause-full c = λ unspent.

@@ -80,9 +80,6 @@ returns-in_err-set_change-clause-spent c = passed c.from_residual.result Memory 
     (λ r. (r ≡ Err Spent) ↔ (is_spent c.args.self.now ≡ true))
     (λ is. memory_not_spent is, λ was. never_spent c.args.self.now.spent c.if-self.false was)
 
-pub returns-clause-changes_page : goal.returns-clause-changes_page
-returns-clause-changes_page c = c.in_ok-set_change.ensures.changes_page
-
 pub returns-clause-filled : goal.returns-clause-filled
 returns-clause-filled c = c.set_change.ensures.filled (c.args.self.now.ready c.if-self.false).once
 

@@ -263,9 +263,6 @@ returns-in_err-commit_volume-clause-settles g c =
       unspent = on_refused result c.in_err-commit_volume.field-0.0 told _;
     }
 
-pub returns-in_err-commit_volume-clause-same_sectors : goal.returns-in_err-commit_volume-clause-same_sectors
-returns-in_err-commit_volume-clause-same_sectors g c = c.commit_volume.ensures.same_sectors
-
 pub returns-in_err-commit_volume-clause-refused : goal.returns-in_err-commit_volume-clause-refused
 returns-in_err-commit_volume-clause-refused g c = on_err c.from_residual.result refl
 
@@ -294,9 +291,6 @@ returns-clause-only g c =
       failures = blames_where _ _ _ _ (λ is. never_ok is) here.failures;
       console = here.console;
     }
-
-pub returns-clause-same_sectors : goal.returns-clause-same_sectors
-returns-clause-same_sectors g c = c.commit_volume.ensures.same_sectors
 
 pub returns-clause-room : goal.returns-clause-room
 returns-clause-room g c =

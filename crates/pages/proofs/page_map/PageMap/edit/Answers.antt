@@ -38,39 +38,6 @@ returns-then-is_some-clause-spent c = (
   λ was. never_spent c.args.self.now.spent c.if-self.false was,
 )
 
-pub returns-then-is_some-clause-unchanged : goal.returns-then-is_some-clause-unchanged
-returns-then-is_some-clause-unchanged c = c.rewrite.ensures.unchanged
-
-pub returns-then-is_some-clause-filled : goal.returns-then-is_some-clause-filled
-returns-then-is_some-clause-filled c = c.rewrite.ensures.filled
-
-pub returns-then-is_some-clause-unfilled : goal.returns-then-is_some-clause-unfilled
-returns-then-is_some-clause-unfilled c = c.rewrite.ensures.unfilled
-
-pub returns-then-is_some-clause-err : goal.returns-then-is_some-clause-err
-returns-then-is_some-clause-err c = c.rewrite.ensures.err
-
-pub returns-then-is_some-clause-capacity : goal.returns-then-is_some-clause-capacity
-returns-then-is_some-clause-capacity c = c.rewrite.ensures.capacity
-
-pub returns-then-is_some-clause-cache : goal.returns-then-is_some-clause-cache
-returns-then-is_some-clause-cache c = c.rewrite.ensures.cache
-
-pub returns-then-is_some-clause-keeps : goal.returns-then-is_some-clause-keeps
-returns-then-is_some-clause-keeps c = c.rewrite.ensures.keeps
-
-pub returns-then-is_some-clause-map : goal.returns-then-is_some-clause-map
-returns-then-is_some-clause-map c = c.rewrite.ensures.map
-
-pub returns-then-is_some-clause-changes_page : goal.returns-then-is_some-clause-changes_page
-returns-then-is_some-clause-changes_page c = c.rewrite.ensures.changes_page
-
-pub returns-then-is_some-clause-fills : goal.returns-then-is_some-clause-fills
-returns-then-is_some-clause-fills c = c.rewrite.ensures.fills
-
-pub returns-then-is_some-clause-forgets : goal.returns-then-is_some-clause-forgets
-returns-then-is_some-clause-forgets c = c.rewrite.ensures.forgets
-
 pub returns-in_err-kept-clause-map : goal.returns-in_err-kept-clause-map
 returns-in_err-kept-clause-map c = on_refused c.from_residual.result Memory c.from_residual.ensures.1 _
 
@@ -115,36 +82,3 @@ pub returns-clause-keeps : goal.returns-clause-keeps
 returns-clause-keeps c = keeps_then _ _ c.change.new.self
     (keeps_committed _ _ (record { volume = refl; mark = refl; spent = refl }) refl (λ pages is. is))
     c.change.ensures.keeps
-
-pub returns-clause-unchanged : goal.returns-clause-unchanged
-returns-clause-unchanged c = c.change.ensures.unchanged
-
-pub returns-clause-filled : goal.returns-clause-filled
-returns-clause-filled c = c.change.ensures.filled
-
-pub returns-clause-unfilled : goal.returns-clause-unfilled
-returns-clause-unfilled c = c.change.ensures.unfilled
-
-pub returns-clause-err : goal.returns-clause-err
-returns-clause-err c = c.change.ensures.err
-
-pub returns-clause-capacity : goal.returns-clause-capacity
-returns-clause-capacity c = c.change.ensures.capacity
-
-pub returns-clause-cache : goal.returns-clause-cache
-returns-clause-cache c = c.change.ensures.cache
-
-pub returns-clause-cause : goal.returns-clause-cause
-returns-clause-cause c = c.change.ensures.cause
-
-pub returns-clause-spent : goal.returns-clause-spent
-returns-clause-spent c = c.change.ensures.spent
-
-pub returns-clause-changes_page : goal.returns-clause-changes_page
-returns-clause-changes_page c = c.change.ensures.changes_page
-
-pub returns-clause-fills : goal.returns-clause-fills
-returns-clause-fills c = c.change.ensures.fills
-
-pub returns-clause-forgets : goal.returns-clause-forgets
-returns-clause-forgets c = c.change.ensures.forgets

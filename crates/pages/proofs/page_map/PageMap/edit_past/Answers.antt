@@ -72,36 +72,3 @@ pub returns-clause-keeps : goal.returns-clause-keeps
 returns-clause-keeps c = keeps_then _ _ c.change.new.self
     (keeps_committed _ _ (record { volume = refl; mark = refl; spent = refl }) refl (λ pages is. is))
     c.change.ensures.keeps
-
-pub returns-clause-unchanged : goal.returns-clause-unchanged
-returns-clause-unchanged c = c.change.ensures.unchanged
-
-pub returns-clause-filled : goal.returns-clause-filled
-returns-clause-filled c = c.change.ensures.filled
-
-pub returns-clause-unfilled : goal.returns-clause-unfilled
-returns-clause-unfilled c = c.change.ensures.unfilled
-
-pub returns-clause-err : goal.returns-clause-err
-returns-clause-err c = c.change.ensures.err
-
-pub returns-clause-capacity : goal.returns-clause-capacity
-returns-clause-capacity c = c.change.ensures.capacity
-
-pub returns-clause-cache : goal.returns-clause-cache
-returns-clause-cache c = c.change.ensures.cache
-
-pub returns-clause-cause : goal.returns-clause-cause
-returns-clause-cause c = c.change.ensures.cause
-
-pub returns-clause-spent : goal.returns-clause-spent
-returns-clause-spent c = c.change.ensures.spent
-
-pub returns-clause-changes_page : goal.returns-clause-changes_page
-returns-clause-changes_page c = c.change.ensures.changes_page
-
-pub returns-clause-fills : goal.returns-clause-fills
-returns-clause-fills c = c.change.ensures.fills
-
-pub returns-clause-forgets : goal.returns-clause-forgets
-returns-clause-forgets c = c.change.ensures.forgets

@@ -97,9 +97,6 @@ pub returns-then-is_some-2-clause-spent : goal.returns-then-is_some-2-clause-spe
 returns-then-is_some-2-clause-spent g c =
     (λ is. never_ok is, λ was. never_spent c.args.self.now.spent c.if-self.false was)
 
-pub returns-clause-only : goal.returns-clause-only
-returns-clause-only g c = c.load_page.ensures.only
-
 pub returns-clause-unchanged : goal.returns-clause-unchanged
 returns-clause-unchanged g c = record {
   map = λ image. refl;
@@ -107,12 +104,6 @@ returns-clause-unchanged g c = record {
   filled = refl;
   committed = record { volume = refl; mark = refl; spent = refl };
 }
-
-pub returns-clause-err : goal.returns-clause-err
-returns-clause-err g c = c.load_page.ensures.err
-
-pub returns-clause-loads : goal.returns-clause-loads
-returns-clause-loads g c = c.load_page.ensures.loads
 
 pub returns-clause-spent : goal.returns-clause-spent
 returns-clause-spent g c = (

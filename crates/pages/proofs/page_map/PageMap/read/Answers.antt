@@ -94,9 +94,6 @@ returns-in-Some-clause-recalls g c = λ away.
 pub returns-in-Some-clause-spent : goal.returns-in-Some-clause-spent
 returns-in-Some-clause-spent g c = (λ is. never_ok is, λ was. never_spent c.args.self.now.spent c.if-self.false was)
 
-pub returns-in-None-clause-only : goal.returns-in-None-clause-only
-returns-in-None-clause-only g c = c.recall_page.ensures.only
-
 pub returns-in-None-clause-unchanged : goal.returns-in-None-clause-unchanged
 returns-in-None-clause-unchanged g c = record {
   map = λ image. refl;
@@ -105,17 +102,8 @@ returns-in-None-clause-unchanged g c = record {
   committed = record { volume = refl; mark = refl; spent = refl };
 }
 
-pub returns-in-None-clause-absent : goal.returns-in-None-clause-absent
-returns-in-None-clause-absent g c = c.recall_page.ensures.absent
-
-pub returns-in-None-clause-hit : goal.returns-in-None-clause-hit
-returns-in-None-clause-hit g c = c.recall_page.ensures.hit
-
 pub returns-in-None-clause-recalls : goal.returns-in-None-clause-recalls
 returns-in-None-clause-recalls g c = λ away. c.recall_page.ensures.recalls
-
-pub returns-in-None-clause-capacity : goal.returns-in-None-clause-capacity
-returns-in-None-clause-capacity g c = c.recall_page.ensures.capacity
 
 pub returns-in-None-clause-spent : goal.returns-in-None-clause-spent
 returns-in-None-clause-spent g c = (

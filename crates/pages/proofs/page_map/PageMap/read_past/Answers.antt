@@ -66,15 +66,6 @@ returns-in-Some-clause-spent g c = (λ is. never_ok is, λ was. never_spent c.ar
 pub returns-in-Some-clause-kept : goal.returns-in-Some-clause-kept
 returns-in-Some-clause-kept g c = λ is. never_ok is
 
-pub returns-in-None-clause-only : goal.returns-in-None-clause-only
-returns-in-None-clause-only g c = c.fetch_page.ensures.only
-
-pub returns-in-None-clause-absent : goal.returns-in-None-clause-absent
-returns-in-None-clause-absent g c = c.fetch_page.ensures.absent
-
-pub returns-in-None-clause-hit : goal.returns-in-None-clause-hit
-returns-in-None-clause-hit g c = c.fetch_page.ensures.hit
-
 pub returns-in-None-clause-spent : goal.returns-in-None-clause-spent
 returns-in-None-clause-spent g c = (
   λ is. device_alone c.fetch_page.result c.fetch_page.ensures.cause is,

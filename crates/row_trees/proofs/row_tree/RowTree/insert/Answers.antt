@@ -300,22 +300,10 @@ returns-then-self-eq0-clause-layout g c =
 pub returns-then-self-eq0-clause-form : goal.returns-then-self-eq0-clause-form
 returns-then-self-eq0-clause-form g c = ap (λ (t : ChainedTree). t.record_bytes) c.self.view_is
 
-pub returns-then-self-eq0-clause-spent : goal.returns-then-self-eq0-clause-spent
-returns-then-self-eq0-clause-spent g c = c.insert.ensures.spent.0
-
-pub returns-then-self-eq0-clause-cause : goal.returns-then-self-eq0-clause-cause
-returns-then-self-eq0-clause-cause g c = c.insert.ensures.cause
-
 -- What a refusal or another answer rules out.
 pub returns-in_err-get-clause-same : goal.returns-in_err-get-clause-same
 returns-in_err-get-clause-same g c =
     λ no. never_answered c.from_residual.result c.in_err-get.field-0.0 c.from_residual.ensures.1 no
-
-pub returns-in_err-get-clause-layout : goal.returns-in_err-get-clause-layout
-returns-in_err-get-clause-layout g c = refl
-
-pub returns-in_err-get-clause-form : goal.returns-in_err-get-clause-form
-returns-in_err-get-clause-form g c = refl
 
 pub returns-in_err-get-clause-refused : goal.returns-in_err-get-clause-refused
 returns-in_err-get-clause-refused g c =
@@ -331,12 +319,6 @@ pub returns-in_err-first-clause-same : goal.returns-in_err-first-clause-same
 returns-in_err-first-clause-same g c =
     λ no. never_answered c.from_residual-in_err-first.result c.in_err-first.field-0.0
     c.from_residual-in_err-first.ensures.1 no
-
-pub returns-in_err-first-clause-layout : goal.returns-in_err-first-clause-layout
-returns-in_err-first-clause-layout g c = refl
-
-pub returns-in_err-first-clause-form : goal.returns-in_err-first-clause-form
-returns-in_err-first-clause-form g c = refl
 
 pub returns-in_err-first-clause-refused : goal.returns-in_err-first-clause-refused
 returns-in_err-first-clause-refused g c =
@@ -362,12 +344,6 @@ returns-in_err-added-clause-cause g c =
 
 pub returns-then-is_some-clause-room : goal.returns-then-is_some-clause-room
 returns-then-is_some-clause-room g c = λ honest agrees left right entries is full. never_ok full
-
-pub returns-then-is_some-clause-layout : goal.returns-then-is_some-clause-layout
-returns-then-is_some-clause-layout g c = refl
-
-pub returns-then-is_some-clause-form : goal.returns-then-is_some-clause-form
-returns-then-is_some-clause-form g c = refl
 
 pub returns-then-is_some-clause-spent : goal.returns-then-is_some-clause-spent
 returns-then-is_some-clause-spent g c = λ is. never_ok is
@@ -417,9 +393,6 @@ new-stored-requires g c =
     rest_few c.self.inside.record_bytes c.self.inside.tree.layout (length c.args.value.now)
     (length c.split_at.result.1.now) c.if-self-eq0.false c.self.invariant
     (c.requires.value ∙ ap value_length (sym c.self.view_is)) c.split_at.ensures.back_len
-
-pub insert-requires-clause-sectors : goal.insert-requires-clause-sectors
-insert-requires-clause-sectors g c = c.requires.sectors
 
 pub insert-requires-clause-key : goal.insert-requires-clause-key
 insert-requires-clause-key g c =

@@ -248,9 +248,6 @@ returns-then-self-eq0-clause-form g c = ap (λ (t : ChainedTree). t.record_bytes
 pub returns-then-self-eq0-clause-spent : goal.returns-then-self-eq0-clause-spent
 returns-then-self-eq0-clause-spent g c = λ is. (c.remove.ensures.spent.0 is).0
 
-pub returns-then-self-eq0-clause-cause : goal.returns-then-self-eq0-clause-cause
-returns-then-self-eq0-clause-cause g c = c.remove.ensures.cause
-
 -- What a refusal or another answer rules out.
 pub returns-in_err-entry-clause-removed : goal.returns-in_err-entry-clause-removed
 returns-in_err-entry-clause-removed g c =
@@ -272,12 +269,6 @@ returns-in_err-entry-clause-changed_pages g c =
     λ honest agrees left right entries is. on_refused c.from_residual.result c.in_err-entry.field-0.0
     c.from_residual.ensures.1
     (FewChanged (42 + pages_for c.args.self.now.record_bytes) c.args.pages.now c.get.new.pages)
-
-pub returns-in_err-entry-clause-layout : goal.returns-in_err-entry-clause-layout
-returns-in_err-entry-clause-layout g c = refl
-
-pub returns-in_err-entry-clause-form : goal.returns-in_err-entry-clause-form
-returns-in_err-entry-clause-form g c = refl
 
 pub returns-in_err-entry-clause-spent : goal.returns-in_err-entry-clause-spent
 returns-in_err-entry-clause-spent g c =
@@ -365,12 +356,6 @@ returns-in-None-clause-changed_pages g c =
     λ honest agrees left right entries is.
     few_equal (changed_pages_of c.args.pages.now) (changed_pages_of c.get.new.pages) _
     c.get.ensures.unchanged.changed_pages
-
-pub returns-in-None-clause-layout : goal.returns-in-None-clause-layout
-returns-in-None-clause-layout g c = refl
-
-pub returns-in-None-clause-form : goal.returns-in-None-clause-form
-returns-in-None-clause-form g c = refl
 
 pub returns-in-None-clause-spent : goal.returns-in-None-clause-spent
 returns-in-None-clause-spent g c = λ is. never_ok is

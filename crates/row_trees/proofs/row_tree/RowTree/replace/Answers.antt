@@ -436,9 +436,6 @@ new-stored-requires g c =
     (length c.split_at.result.1.now) c.if-self-eq0.false c.self.invariant
     (c.requires.value ∙ ap value_length (sym c.self.view_is)) c.split_at.ensures.back_len
 
-pub replace-requires-clause-sectors : goal.replace-requires-clause-sectors
-replace-requires-clause-sectors g c = c.requires.sectors
-
 pub replace-requires-clause-value : goal.replace-requires-clause-value
 replace-requires-clause-value g c =
     whole_short c.self.inside.record_bytes c.self.inside.tree.layout.value_length
@@ -479,12 +476,3 @@ invariant_of-self-2 g c =
 -- Nothing was done to the tree.
 pub returns-in_err-entry-clause-tree : goal.returns-in_err-entry-clause-tree
 returns-in_err-entry-clause-tree g c = refl
-
-pub returns-in-None-clause-tree : goal.returns-in-None-clause-tree
-returns-in-None-clause-tree g c = refl
-
-pub returns-in_err-rewrite-clause-tree : goal.returns-in_err-rewrite-clause-tree
-returns-in_err-rewrite-clause-tree g c = refl
-
-pub returns-then-is_same-clause-tree : goal.returns-then-is_same-clause-tree
-returns-then-is_same-clause-tree g c = refl
