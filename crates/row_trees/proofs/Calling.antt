@@ -1,5 +1,5 @@
 -- Calls on pages, one after the other.
-use Rattle.std.proofs.Common.{◌≡◌, List, sym, ap, subst, ◌∙◌}
+use Rattle.std.proofs.Common.{◌≡◌, ℕ, List, sym, ap, subst, ◌∙◌}
 use Rattle.std.specs.Prelude.{Option, Result, Err}
 use Rattle.std.specs.Result.{IsErrAnd}
 use Rattle.station.specs.Disk.{Sector}
@@ -9,7 +9,9 @@ use Rattle.station.specs.declared.device.Device.{Ghosts as Devices}
 use Rattle.pages.specs.Image.{Map}
 use Rattle.pages.specs.Pages.{map_now, Agrees, IsUnchanged}
 use Rattle.pages.specs.declared.page_map.PageMap.{PageMap}
-use Rattle.btree.specs.Calls.{OnPages, OnChange, pages_on}
+use Rattle.btree_pages.specs.declared.row_layout.RowLayout.{RowLayout}
+use Rattle.btree.specs.Calls.{OnPages, OnChange, OnTree, pages_on}
+use Rattle.btree.specs.Tree.{TreeNode, IsTreeOrEmpty}
 pub use Rattle.btree.proofs.EditedPages.{edits_by, edits_where, edits_then, edits_last, edits_more, edits_kept}
 use Rattle.btree.proofs.EditedPages.{edits_read}
 use Rattle.volume_format.specs.Calls.{LooksAt}
@@ -32,6 +34,18 @@ module _ {D : Type 0} (d : Devices D) where
 
   pub looks_edits : (A : Type 0) (p q : PageMap) (a b : D) → LooksAt d A p a q b → EditsPages d A p a q b
   looks_edits A p q a b looks = edits_read d A p q a b looks.only looks.unchanged looks.agrees
+
+  -- Such a call changes nothing, whoever is to blame.
+  pub read_edits : {A B : Type 0} {p q : PageMap} {a b : D} → (B → A) → OnlyReads d A a b → IsUnchanged p q
+      → (d.is_honest a → Agrees p (d.state a).disk → Agrees q (d.state b).disk) → EditsPages d B p a q b
+  read_edits {A} {B} {p} {q} {a} {b} from only unchanged agrees =
+      edits_where d A B p q a b from (edits_read d A p q a b only unchanged agrees)
+
+  -- After it the last call alone is to blame.
+  pub edits_after : {A B C : Type 0} {p q r : PageMap} {a b c : D} → LooksAt d A p a q b → EditsPages d B q b r c
+      → (C → B) → EditsPages d C p a r c
+  edits_after {A} {B} {C} {p} {q} {r} {a} {b} {c} looks edits from =
+      edits_last d A B C p q r a b c from (looks_edits A p q a b looks) edits
 
   -- What a call says of the pages of a device, where another call read before it.
   pub pages_told : (A : Type 0) (p : PageMap) (a b : D) (claim : List (Option Sector) → Type 0) → d.is_honest a
@@ -58,3 +72,11 @@ module _ {D : Type 0} (d : Devices D) where
       → claim (pages_on d p a)
   told_before A p q a b claim honest agrees only unchanged still told =
       subst claim (same_on p q a unchanged) (pages_told A q a b claim honest only (still honest agrees) told)
+
+  -- and what it says of a tree
+  pub tree_before : {A : Type 0} {p q : PageMap} {a b : D} {layout : RowLayout} {root : ℕ}
+      {claim : List (List TreeNode) → Type 0} → LooksAt d A p a q b → OnTree d layout root q b claim
+      → OnTree d layout root p a claim
+  tree_before {A} {p} {q} {a} {b} {layout} {root} {claim} looks told = λ honest agrees.
+      told_before A p q a b (λ l. (levels : List (List TreeNode)) → IsTreeOrEmpty layout l root levels → claim levels)
+      honest agrees looks.only looks.unchanged looks.agrees told

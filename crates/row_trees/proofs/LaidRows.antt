@@ -23,10 +23,10 @@ use Rattle.btree.proofs.Refused.{few_left}
 use Rattle.chains.specs.Chain.{pages_for}
 use Rattle.chains.specs.Changes.{Lays}
 use Rattle.volume_format.specs.Calls.{LooksAt}
-use Rattle.row_trees.specs.Calls.{OnRowTreeAmong, InsertsRow, ChangesFewPages, LacksPages, LacksSectors}
+use Rattle.row_trees.specs.Calls.{EditsPages, OnRowTreeAmong, InsertsRow, ChangesFewPages, LacksPages, LacksSectors}
 use Rattle.row_trees.specs.RowTree.{ChainedTree}
 use Rattle.row_trees.proofs.Among.{Stands, stands_among, stored_in}
-use Rattle.row_trees.proofs.Calling.{pages_told, change_told, same_on}
+use Rattle.row_trees.proofs.Calling.{edits_last, edits_kept, looks_edits, pages_told, change_told, same_on}
 use Rattle.row_trees.proofs.Long.{laid_tree, inserted_long}
 use Rattle.row_trees.proofs.Passing.{few_added, few_first, none_or_some}
 
@@ -89,6 +89,13 @@ module _ {D : Type 0} (d : Devices D) where
     pub keeps : KeepsCommitted q r
     pub few : FewChanged (pages_for (length bytes)) q r
     pub many : length bytes ≡ rows.record_bytes
+
+  -- After it the last call alone is to blame.
+  pub laid_edits : {A B C : Type 0} {p q r s : PageMap} {a b c : D} {rows : ChainedTree} {bytes : List ℕ} {first : ℕ}
+      → LaysRecord A p q r a b rows bytes first → EditsPages d B r b s c → (C → B) → EditsPages d C p a s c
+  laid_edits {A} {B} {C} {p} {q} {r} {s} {a} {b} {c} lays edits from =
+      edits_last d A B C p r s a b c from
+      (edits_kept d A A p q r a b (λ is. is) (looks_edits d A p q a b lays.looks) lays.keeps) edits
 
   -- What a call says then of the pages: of the tree as it is stored, and so of the tree among others.
   laid_among : {A : Type 0} {p q r : PageMap} {a b : D} {view self : ChainedTree} {bytes : List ℕ} {first : ℕ}

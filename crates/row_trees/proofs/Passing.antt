@@ -10,22 +10,17 @@ use Rattle.btree_pages.specs.declared.row_layout.RowLayout.{RowLayout}
 use Rattle.btree.specs.Reading.{IsSearchRefusal}
 use Rattle.btree.specs.Refusals.{IsWriteRefusal}
 use Rattle.btree.proofs.Frames.{false_unless}
-use Rattle.btree.proofs.Passing.{never_err, same_error}
+use Rattle.btree.proofs.Passing.{refused_never, same_error}
 use Rattle.chains.specs.Chain.{pages_for}
 
 -- a refusal that is passed on is not `Ok`
-pub never_answered : {T E A : Type 0} {y : T} (r : Result T E) (x : E) → IsErrAnd r (λ e. e ≡ x) → r ≡ Ok y → A
-never_answered (Ok z) x why is = absurd why
-never_answered (Err z) x why is = never_err is
+pub never_answered : {T E A : Type 0} {y : T} {r : Result T E} (x : E) → IsErrAnd r (λ e. e ≡ x) → r ≡ Ok y → A
+never_answered {y = y} {r = r} x why is = refused_never r x y why is
 
--- memory that ran out is no failure of the device, and no damage
+-- memory that ran out is no failure of the device
 pub never_device : {T A : Type 0} (r : Result T PagesError) → IsErrAnd r (λ y. y ≡ Memory) → r ≡ Err Device → A
 never_device (Ok x) why is = absurd why
 never_device (Err y) why is = let told : y ≡ Device = same_error is in cc (why, told)
-
-pub never_damaged : {T A : Type 0} (r : Result T PagesError) → IsErrAnd r (λ y. y ≡ Memory) → r ≡ Err Damaged → A
-never_damaged (Ok x) why is = absurd why
-never_damaged (Err y) why is = let told : y ≡ Damaged = same_error is in cc (why, told)
 
 -- nor is a search refused because no page number is left, or a chain that is laid as damaged
 pub search_not_full : {T A : Type 0} (layout : RowLayout) (r : Result T PagesError) (x : PagesError)
@@ -96,9 +91,3 @@ few_released old mid one new n most same few more =
 pub err_told : {T E A : Type 0} (r : Result T E) (x : E) → r ≡ Err x → OnErr r A → A
 err_told (Ok y) x is told = let never : Ok y ≡ Err x = is in cc
 err_told (Err y) x is told = told
-
-damaged_or_full : Damaged ≡ Full → ⊥
-damaged_or_full is = cc
-
-pub damaged_not_full : {T A : Type 0} → (◌≡◌ {A = Result T PagesError} (Err Damaged) (Err Full)) → A
-damaged_not_full is = absurd (damaged_or_full (same_error is))

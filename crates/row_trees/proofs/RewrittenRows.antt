@@ -18,7 +18,7 @@ use Rattle.volume_format.specs.Calls.{LooksAt}
 use Rattle.row_trees.specs.Calls.{EditsPages, OnRowTreeAmong, ReplacesRow}
 use Rattle.row_trees.specs.RowTree.{ChainedTree, IsRowTreeAmong}
 use Rattle.row_trees.proofs.Among.{Stands, stored_in, stands_among}
-use Rattle.row_trees.proofs.Calling.{pages_told, change_told, same_on}
+use Rattle.row_trees.proofs.Calling.{edits_after, edits_last, pages_told, change_told, same_on, told_before}
 use Rattle.row_trees.proofs.Changes.{same_key, unwritten}
 use Rattle.row_trees.proofs.Forms.{pair, first_told}
 use Rattle.row_trees.proofs.Long.{IsRewritten, is_rewritten, found_chain, rewritten_tree, replaced_long}
@@ -63,19 +63,22 @@ module _ {D : Type 0} (d : Devices D) where
       (subst (λ (page : ℕ). Rewrites before bytes (pages_on d r a) page) first_is (moved own))
 
   -- the chain of the entry is there
-  pub rewrite_never : (A : Type 0) (p q : PageMap) (a b : D) (old : ChainedTree) (key : List ℕ) (was : Entry)
-      (levels : List (List TreeNode)) (size first : ℕ) (refused : Type 0) → LooksAt d A p a q b
-      → OnNoChain d (pages_for size) first q b refused → size ≡ old.record_bytes → first ≡ big_number 4 was.value
-      → old.record_bytes ≢ 0 → d.is_honest a → Agrees p (d.state a).disk → Stands (pages_on d p a) old levels
-      → entry_with (stored_in old levels) key ≡ Some was → refused → ⊥
-  rewrite_never A p q a b old key was levels size first refused looks never many first_is long honest agrees stands
-      found damaged =
-      let S : ℕ → ℕ → Type 0 = λ count page. chain.Stands (pages_on d p a) (pages_for count) page in
-      let claim : List (Option Sector) → Type 0 = λ l. refused → chain.Stands l (pages_for size) first → ⊥ in
-      subst claim (same_on d p q a looks.unchanged)
-      (pages_told d A q a b claim honest looks.only (looks.agrees honest agrees) never) damaged
-      (subst (λ (k : ℕ). S k first) (sym many) (subst (S old.record_bytes) (sym first_is)
-      (found_chain (pages_on d p a) old levels key was long stands found)))
+  pub rewrite_never : {A R S : Type 0} {p q : PageMap} {a b : D} {view self : ChainedTree} {key : List ℕ} {was : Entry}
+      {size first : ℕ} → LooksAt d A p a q b → view ≡ self
+      → OnTree d view.tree.layout view.tree.root p a (λ levels. entry_with (stored_in view levels) key ≡ Some was)
+      → OnNoChain d (pages_for size) first q b S → size ≡ view.record_bytes → first ≡ big_number 4 was.value
+      → view.record_bytes ≢ 0 → (R → S) → OnRowTreeAmong d self p a (λ left right entries. R → ⊥)
+  rewrite_never {A} {R} {S} {p} {q} {a} {b} {view} {self} {key} {was} {size} {first} looks same found never many
+      first_is long passed =
+      subst (λ (t : ChainedTree). OnRowTreeAmong d t p a (λ left right entries. R → ⊥)) same
+      (λ honest agrees left right entries is refused.
+      let stands = stands_among (pages_on d p a) left right view entries is in
+      let levels = is.planted.levels in
+      let C : ℕ → ℕ → Type 0 = λ count page. chain.Stands (pages_on d p a) (pages_for count) page in
+      let claim : List (Option Sector) → Type 0 = λ l. S → chain.Stands l (pages_for size) first → ⊥ in
+      told_before d A p q a b claim honest agrees looks.only looks.unchanged looks.agrees never (passed refused)
+      (subst (λ (k : ℕ). C k first) (sym many) (subst (C view.record_bytes) (sym first_is)
+      (found_chain (pages_on d p a) view levels key was long stands (found honest agrees levels stands.tree)))))
 
   -- A row was found, and its record was rewritten.
   pub record RewritesFound (A B : Type 0) (p q r : PageMap) (a b c : D) (rows : ChainedTree) (key bytes : List ℕ)
@@ -97,6 +100,13 @@ module _ {D : Type 0} (d : Devices D) where
   written_on {A} {B} {p} {q} {r} {a} {b} {c} {rows} {key} {bytes} {was} {first} {levels} writes honest agrees stands =
       rewritten_on A p q r a b rows key bytes was first levels writes.looks writes.rewritten writes.first_is
       writes.many writes.long honest agrees stands (writes.found honest agrees levels stands.tree)
+
+  -- whoever changes more after it, the last call alone is to blame
+  pub written_edits : {A B C E : Type 0} {p q r s : PageMap} {a b c e : D} {rows : ChainedTree} {key bytes : List ℕ}
+      {was : Entry} {first : ℕ} → RewritesFound A B p q r a b c rows key bytes was first → EditsPages d E r c s e
+      → (C → E) → EditsPages d C p a s e
+  written_edits {A} {B} {C} {E} {p} {q} {r} {s} {a} {b} {c} {e} writes edits from =
+      edits_last d B E C p r s a c e from (edits_after d writes.looks writes.edits (λ is. is)) edits
 
   -- the tree is on its pages still
   tree_written : {A B : Type 0} {p q r : PageMap} {a b c : D} {rows : ChainedTree} {key bytes : List ℕ} {was : Entry}

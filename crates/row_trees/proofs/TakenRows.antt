@@ -8,7 +8,7 @@ use Rattle.station.proofs.Calls.{reads_then}
 use Rattle.byteorder.specs.Endian.{big_number}
 use Rattle.pages.specs.Pages.{Agrees, changed_pages_of}
 use Rattle.pages.specs.declared.page_map.PageMap.{PageMap}
-use Rattle.btree.specs.Calls.{OnTree, OnTreeChange, OnChange, pages_on}
+use Rattle.btree.specs.Calls.{OnNoTree, OnTree, OnTreeChange, OnChange, pages_on}
 use Rattle.btree.specs.Entries.{Entry, entry_with}
 use Rattle.btree.specs.Removals.{Removes}
 use Rattle.btree.specs.Results.{FewChanged}
@@ -21,9 +21,10 @@ use Rattle.volume_format.specs.Calls.{LooksAt}
 use Rattle.row_trees.specs.Calls.{EditsPages, OnRowTreeAmong, RemovesRow, ChangesFewPages}
 use Rattle.row_trees.specs.RowTree.{ChainedTree}
 use Rattle.row_trees.proofs.Among.{Stands, stored_in, stands_among}
-use Rattle.row_trees.proofs.Calling.{pages_told, change_told, same_on}
+use Rattle.row_trees.proofs.Calling.{pages_told, change_told, same_on, tree_before}
 use Rattle.row_trees.proofs.Long.{left_chain, removed_long}
 use Rattle.row_trees.proofs.Passing.{few_released}
+use Rattle.row_trees.proofs.Short.{where_among}
 
 module _ {D : Type 0} (d : Devices D) where
   -- an entry left the tree after a call that only reads
@@ -65,15 +66,13 @@ module _ {D : Type 0} (d : Devices D) where
       let gone = gone_on A p q r a b old root key levels looks told honest agrees stands.tree in
       left_chain (pages_on d p a) (pages_on d r a) old levels key entry _ long stands found gone.1.became.moves
 
-  -- what a call says of the tree after one that only reads
-  pub read_tells : (A : Type 0) (p q : PageMap) (a b : D) (rows : ChainedTree) (levels : List (List TreeNode))
-      (claim : List (List TreeNode) → Type 0) → LooksAt d A p a q b → d.is_honest a → Agrees p (d.state a).disk
-      → Stands (pages_on d p a) rows levels → OnTree d rows.tree.layout rows.tree.root q b claim → claim levels
-  read_tells A p q a b rows levels claim looks honest agrees stands told =
-      let each : List (Option Sector) → Type 0 = λ l. (levels : List (List TreeNode))
-      → IsTreeOrEmpty rows.tree.layout l rows.tree.root levels → claim levels in
-      subst each (same_on d p q a looks.unchanged)
-      (pages_told d A q a b each honest looks.only (looks.agrees honest agrees) told) levels stands.tree
+  -- what a call excludes after one that only reads
+  pub then_never : {A R S : Type 0} {p q : PageMap} {a b : D} {view self : ChainedTree} → LooksAt d A p a q b
+      → view ≡ self → OnNoTree d view.tree.layout view.tree.root q b S → (R → S)
+      → OnRowTreeAmong d self p a (λ left right entries. R → ⊥)
+  then_never {A} {R} {S} {p} {q} {a} {b} {view} {self} looks same never passed =
+      where_among d {C = S → ⊥} same (tree_before d looks (λ honest agrees levels tree told.
+      never honest agrees told levels tree)) (λ no refused. no (passed refused))
 
   -- A row was found, and its entry was taken out of the tree.
   pub record TakesEntry (A B : Type 0) (p q r : PageMap) (a b c : D) (rows : ChainedTree) (root : ℕ) (key : List ℕ)
@@ -149,5 +148,5 @@ module _ {D : Type 0} (d : Devices D) where
       (λ honest agrees left right entries is.
       few_released (changed_pages_of p) (changed_pages_of q) (changed_pages_of r) (changed_pages_of s)
       view.record_bytes most looks.unchanged.changed_pages
-      (read_tells A p q a b view is.planted.levels (λ levels. FewChanged most q r) looks honest agrees
-      (stands_among (pages_on d p a) left right view entries is) told) few)
+      (tree_before d looks told honest agrees is.planted.levels
+      (stands_among (pages_on d p a) left right view entries is).tree) few)

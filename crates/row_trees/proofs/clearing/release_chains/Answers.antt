@@ -1,21 +1,18 @@
-use Rattle.std.proofs.Common.{◌≡◌, inr, Err, List, [], ℕ, length, sym, ap, subst, ◌∙◌, arith}
+use Rattle.std.proofs.Common.{List, [], ℕ, length, sym, ap, subst, ◌∙◌, arith}
 use Rattle.std.specs.Prelude.{Option, None, IfErr, IfSome}
 use Rattle.byteorder.specs.Endian.{big_number}
-use Rattle.pages.specs.declared.error.PagesError.TheVariants.{Device}
 use Rattle.btree.specs.Changes.{pages_of_map}
 use Rattle.btree.specs.Entries.{Entry, HasLengths, first_entry_after}
 use Rattle.btree.specs.Moves.{Moves}
 use Rattle.btree.specs.Refusals.{IsChangeRefusal}
-use Rattle.btree.proofs.Passing.{passed, never_ok, still_error, search_is_change, sectors_on, damaged_not_device}
-use Rattle.volume_format.proofs.Looks.{looks_then}
+use Rattle.btree.proofs.Passing.{passed, never_ok, search_is_change, sectors_on, damaged_not_device}
 use Rattle.row_trees.specs.Calls.{EditsPages}
 use Rattle.row_trees.proofs.Among.{chained, chains_alone, stands_alone, stored_in}
-use Rattle.row_trees.proofs.Calling.{looks_by, looks_edits, edits_by, edits_where, edits_last, edits_more}
-use Rattle.row_trees.proofs.Calling.{refused_by_call}
+use Rattle.row_trees.proofs.Calling.{looks_by, looks_edits, read_edits, edits_by, edits_where, edits_last, edits_more}
+use Rattle.row_trees.proofs.Calling.{edits_after, refused_by_call, tree_before}
 use Rattle.row_trees.proofs.Forms.{fits_long}
 use Rattle.row_trees.proofs.Releasing.{Releasing, releases_some, releases_end}
 use Rattle.row_trees.proofs.ReleasedRows.{NextRow, releases_begin, next_never, gone_never, released_next}
-use Rattle.row_trees.proofs.TakenRows.{read_tells}
 use Rattle.row_trees.proofs.clearing.release_chains.Given.{Over}
 use Rattle.row_trees.proofs.clearing.release_chains.Goals as goal
 use Rattle.row_trees.proofs.clearing.release_chains.Goals.{After-release}
@@ -27,8 +24,7 @@ loop-place-init g c =
     let counted = looks_by g.D.Device _ _ _ _ _ one.only one.unchanged one.agrees in
     let looked = looks_by g.D.Device _ _ _ _ _ two.only two.unchanged two.agrees in
     record {
-      edits = looks_edits g.D.Device ⊥ _ _ _ _
-          (looks_then g.D.Device _ _ ⊥ _ _ _ _ _ _ (λ never. absurd never) counted looked);
+      edits = edits_after g.D.Device counted (looks_edits g.D.Device _ _ _ _ _ looked) (λ never. absurd never);
       filled = omega (arith, one.unchanged.filled, two.unchanged.filled);
       lengths = c.in_ok-next.ensures.lengths;
       rest = releases_begin g.D.Device counted looked c.in_ok-next.ensures.entry;
@@ -62,8 +58,8 @@ loop-place-preserved g c =
     let at = (goal.at.loop-place-preserved g c).After-release in
     let nxt = c.next.ensures in
     record {
-      edits = edits_more g.D.Device _ _ _ _ _ _ _ (released g at) (looks_edits g.D.Device _ _ _ _ _
-          (looks_by g.D.Device _ _ _ _ _ nxt.only nxt.unchanged nxt.agrees));
+      edits = edits_more g.D.Device _ _ _ _ _ _ _ (released g at)
+          (read_edits g.D.Device (λ is. is) nxt.only nxt.unchanged nxt.agrees);
       filled = omega (arith, c.loop-place.invariant.filled, c.release.ensures.filled, nxt.unchanged.filled);
       lengths = c.in_ok-next-2.ensures.lengths;
       rest = released_next g.D.Device (next_row g at) c.in_ok-release.ensures.released (released g at)
@@ -101,12 +97,9 @@ next-requires g c =
 -- The entries are not counted, or the first one is not found.
 pub returns-in_err-count-clause-edits : goal.returns-in_err-count-clause-edits
 returns-in_err-count-clause-edits g c =
-    let one = c.in_err-count.ensures in
-    passed c.from_residual.result c.in_err-count.field-0.0 c.from_residual.ensures.1
-    (λ r. EditsPages g.D.Device (r ≡ Err Device) c.args.pages.now c.args.device.now c.count.new.pages
-    c.count.new.device)
-    (edits_where g.D.Device _ _ _ _ _ _ (λ is. still_error is)
-    (looks_edits g.D.Device _ _ _ _ _ (looks_by g.D.Device _ _ _ _ _ one.only one.unchanged one.agrees)))
+    let one = c.count.ensures in
+    let passed = refused_by_call c.in_err-count.was c.from_residual.ensures.1 in
+    read_edits g.D.Device passed one.only one.unchanged one.agrees
 
 pub returns-in_err-count-clause-damaged : goal.returns-in_err-count-clause-damaged
 returns-in_err-count-clause-damaged g c = λ honest agrees planted is told.
@@ -124,26 +117,21 @@ returns-in_err-count-clause-filled g c =
 pub returns-in_err-next-clause-edits : goal.returns-in_err-next-clause-edits
 returns-in_err-next-clause-edits g c =
     let one = c.count.ensures in
-    let two = c.in_err-next.ensures in
-    let counted = looks_by g.D.Device _ _ _ _ _ one.only one.unchanged one.agrees in
-    passed c.from_residual-in_err-next.result c.in_err-next.field-0.0 c.from_residual-in_err-next.ensures.1
-    (λ r. EditsPages g.D.Device (r ≡ Err Device) c.args.pages.now c.args.device.now c.first.new.pages
-    c.first.new.device)
-    (looks_edits g.D.Device _ _ _ _ _ (looks_then g.D.Device _ _ _ _ _ _ _ _ _ (λ is. inr (still_error is)) counted
-    (looks_by g.D.Device _ _ _ _ _ two.only two.unchanged two.agrees)))
+    let two = c.first.ensures in
+    edits_after g.D.Device (looks_by g.D.Device _ _ _ _ _ one.only one.unchanged one.agrees)
+    (read_edits g.D.Device (λ is. is) two.only two.unchanged two.agrees)
+    (refused_by_call c.in_err-next.was c.from_residual-in_err-next.ensures.1)
 
 pub returns-in_err-next-clause-damaged : goal.returns-in_err-next-clause-damaged
 returns-in_err-next-clause-damaged g c = λ honest agrees planted is told.
     let image = (g.D.Device.state c.args.device.now).disk.present in
     let before = pages_of_map c.args.pages.now image in
     let rows = chained c.args.tree.now c.args.record_bytes in
-    let levels = planted.levels in
     let one = c.count.ensures in
-    let counted = looks_by g.D.Device _ _ _ _ _ one.only one.unchanged one.agrees in
     let damaged = refused_by_call c.in_err-next.was c.from_residual-in_err-next.ensures.1 told in
-    read_tells g.D.Device _ c.args.pages.now c.count.new.pages c.args.device.now c.count.new.device rows levels
-    (λ levels. ⊥) counted honest agrees (stands_alone before rows planted is)
-    (λ h a levels tree. c.first.ensures.damaged h a damaged levels tree)
+    tree_before g.D.Device (looks_by g.D.Device _ _ _ _ _ one.only one.unchanged one.agrees)
+    (λ h a levels tree. c.first.ensures.damaged h a damaged levels tree) honest agrees planted.levels
+    (stands_alone before rows planted is).tree
 
 pub returns-in_err-next-clause-filled : goal.returns-in_err-next-clause-filled
 returns-in_err-next-clause-filled g c =
@@ -158,8 +146,7 @@ returns-in_err-next-clause-spent g c = λ is.
 
 pub returns-in_err-next-clause-cause : goal.returns-in_err-next-clause-cause
 returns-in_err-next-clause-cause g c =
-    passed c.from_residual-in_err-next.result c.in_err-next.field-0.0
-    c.from_residual-in_err-next.ensures.1 (λ r. IfErr r IsChangeRefusal)
+    passed _ _ c.from_residual-in_err-next.ensures.1 (λ r. IfErr r IsChangeRefusal)
     (search_is_change c.args.tree.now.layout c.in_err-next.field-0.0 c.in_err-next.ensures.cause)
 
 -- There is no next entry.
@@ -189,12 +176,10 @@ returns-in-None-clause-filled g c =
 -- A chain is not released.
 pub returns-in_err-release-clause-edits : goal.returns-in_err-release-clause-edits
 returns-in_err-release-clause-edits g c =
-    let rel = c.in_err-release.ensures in
-    passed c.from_residual-in_err-release.result c.in_err-release.field-0.0 c.from_residual-in_err-release.ensures.1
-    (λ r. EditsPages g.D.Device (r ≡ Err Device) c.args.pages.now c.args.device.now c.release.new.pages
-    c.release.new.device)
-    (edits_last g.D.Device ⊥ _ _ _ _ _ _ _ _ (λ is. still_error is) c.loop-place.invariant.edits
-    (edits_by g.D.Device _ _ _ _ _ rel.only rel.committed rel.catalog rel.agrees))
+    let rel = c.release.ensures in
+    edits_last g.D.Device ⊥ _ _ _ _ _ _ _ _
+    (refused_by_call c.in_err-release.was c.from_residual-in_err-release.ensures.1) c.loop-place.invariant.edits
+    (edits_by g.D.Device _ _ _ _ _ rel.only rel.committed rel.catalog rel.agrees)
 
 pub returns-in_err-release-clause-damaged : goal.returns-in_err-release-clause-damaged
 returns-in_err-release-clause-damaged g c =
@@ -215,12 +200,11 @@ returns-in_err-release-clause-spent g c = λ is.
 -- The next entry is not found.
 pub returns-in_err-next-2-clause-edits : goal.returns-in_err-next-2-clause-edits
 returns-in_err-next-2-clause-edits g c =
-    let nxt = c.in_err-next-2.ensures in
-    passed c.from_residual-in_err-next-2.result c.in_err-next-2.field-0.0 c.from_residual-in_err-next-2.ensures.1
-    (λ r. EditsPages g.D.Device (r ≡ Err Device) c.args.pages.now c.args.device.now c.next.new.pages c.next.new.device)
-    (edits_last g.D.Device _ _ _ _ _ _ _ _ _ (λ is. still_error is)
+    let nxt = c.next.ensures in
+    edits_last g.D.Device _ _ _ _ _ _ _ _ _
+    (refused_by_call c.in_err-next-2.was c.from_residual-in_err-next-2.ensures.1)
     (released g (goal.at.returns-in_err-next-2-clause-edits g c).After-release)
-    (looks_edits g.D.Device _ _ _ _ _ (looks_by g.D.Device _ _ _ _ _ nxt.only nxt.unchanged nxt.agrees)))
+    (read_edits g.D.Device (λ is. is) nxt.only nxt.unchanged nxt.agrees)
 
 pub returns-in_err-next-2-clause-damaged : goal.returns-in_err-next-2-clause-damaged
 returns-in_err-next-2-clause-damaged g c =
@@ -242,8 +226,7 @@ returns-in_err-next-2-clause-spent g c = λ is.
 
 pub returns-in_err-next-2-clause-cause : goal.returns-in_err-next-2-clause-cause
 returns-in_err-next-2-clause-cause g c =
-    passed c.from_residual-in_err-next-2.result c.in_err-next-2.field-0.0
-    c.from_residual-in_err-next-2.ensures.1 (λ r. IfErr r IsChangeRefusal)
+    passed _ _ c.from_residual-in_err-next-2.ensures.1 (λ r. IfErr r IsChangeRefusal)
     (search_is_change c.args.tree.now.layout c.in_err-next-2.field-0.0 c.in_err-next-2.ensures.cause)
 
 -- The end.

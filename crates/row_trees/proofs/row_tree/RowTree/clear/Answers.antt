@@ -1,16 +1,14 @@
-use Rattle.std.proofs.Common.{◌≡◌, Err, List, ℕ, [], sym, subst, ◌∙◌, arith}
-use Rattle.pages.specs.declared.error.PagesError.TheVariants.{Device}
+use Rattle.std.proofs.Common.{List, ℕ, [], sym, subst, ◌∙◌, arith}
 use Rattle.btree.specs.Changes.{pages_of_map}
 use Rattle.btree.specs.Moves.{Moves}
 use Rattle.btree.proofs.Clearing.{moves_none}
-use Rattle.btree.proofs.Passing.{passed, still_error}
-use Rattle.row_trees.specs.Calls.{EditsPages}
 use Rattle.row_trees.proofs.Among.{alone, chained, viewed, same_chained, stands_among, stored_in}
 use Rattle.row_trees.proofs.Calling.{edits_where, edits_last, refused_by_call}
 use Rattle.row_trees.proofs.Forms.{no_chains}
 use Rattle.row_trees.proofs.Passing.{on_ok, on_err}
 use Rattle.row_trees.proofs.ReleasedRows.{clears_tree, cleared_never}
 use Rattle.row_trees.proofs.Releasing.{all_gone}
+use Rattle.row_trees.proofs.Short.{never_among}
 use Rattle.row_trees.proofs.row_tree.RowTree.clear.Goals as goal
 
 -- The tree has its records itself.
@@ -27,13 +25,8 @@ returns-then-self-eq0-clause-cleared g c = λ honest agrees left right entries i
     (moves_none before))) (c.clear.ensures.cleared honest agrees own.planted.levels stands.tree)
 
 pub returns-then-self-eq0-clause-damaged : goal.returns-then-self-eq0-clause-damaged
-returns-then-self-eq0-clause-damaged g c = λ honest agrees left right entries is told.
-    let image = (g.D.Device.state c.args.device.now).disk.present in
-    let before = pages_of_map c.args.pages.now image in
-    let view = chained c.self.inside.tree c.self.inside.record_bytes in
-    let own = viewed before left right view _ entries c.self.view_is is in
-    let stands = stands_among before left right view entries own in
-    c.clear.ensures.damaged honest agrees told own.planted.levels stands.tree
+returns-then-self-eq0-clause-damaged g c =
+    never_among g.D.Device c.self.view_is c.clear.ensures.damaged (λ told. told)
 
 pub returns-then-self-eq0-clause-same : goal.returns-then-self-eq0-clause-same
 returns-then-self-eq0-clause-same g c =
@@ -43,10 +36,8 @@ returns-then-self-eq0-clause-same g c =
 -- A chain was not released.
 pub returns-in_err-release_chains-clause-edits : goal.returns-in_err-release_chains-clause-edits
 returns-in_err-release_chains-clause-edits g c =
-    passed c.from_residual.result c.in_err-release_chains.field-0.0 c.from_residual.ensures.1
-    (λ r. EditsPages g.D.Device (r ≡ Err Device) c.args.pages.now c.args.device.now c.release_chains.new.pages
-    c.release_chains.new.device)
-    (edits_where g.D.Device _ _ _ _ _ _ (λ is. still_error is) c.in_err-release_chains.ensures.edits)
+    edits_where g.D.Device _ _ _ _ _ _ (refused_by_call c.in_err-release_chains.was c.from_residual.ensures.1)
+    c.release_chains.ensures.edits
 
 pub returns-in_err-release_chains-clause-damaged : goal.returns-in_err-release_chains-clause-damaged
 returns-in_err-release_chains-clause-damaged g c = λ honest agrees left right entries is told.
@@ -54,17 +45,13 @@ returns-in_err-release_chains-clause-damaged g c = λ honest agrees left right e
     let before = pages_of_map c.args.pages.now image in
     let view = chained c.self.inside.tree c.self.inside.record_bytes in
     let own = viewed before left right view _ entries c.self.view_is is in
-    let stands = stands_among before left right view entries own in
     c.release_chains.ensures.damaged honest agrees own.planted (alone before left right view entries own)
     (refused_by_call c.in_err-release_chains.was c.from_residual.ensures.1 told)
 
 -- All chains were.
 pub returns-clause-edits : goal.returns-clause-edits
 returns-clause-edits g c =
-    let one = c.release_chains.ensures.edits in
-    let two = c.clear-2.ensures in
-    edits_last g.D.Device _ _ _ _ _ _ _ _ _ (λ is. is) one
-    two.edits
+    edits_last g.D.Device _ _ _ _ _ _ _ _ _ (λ is. is) c.release_chains.ensures.edits c.clear-2.ensures.edits
 
 pub returns-clause-cleared : goal.returns-clause-cleared
 returns-clause-cleared g c =

@@ -1,10 +1,8 @@
-use Rattle.std.proofs.Common.{◌≡◌, inr, Err, List, refl, sym, ap, subst, ◌∙◌}
+use Rattle.std.proofs.Common.{inr, List, refl, sym, ap, subst, ◌∙◌}
 use Rattle.std.specs.Prelude.{Option}
 use Rattle.station.specs.Disk.{Sector}
 use Rattle.pages.specs.Pages.{map_now}
-use Rattle.pages.specs.declared.error.PagesError.TheVariants.{Device}
-use Rattle.btree.proofs.Passing.{passed, never_ok, still_error}
-use Rattle.volume_format.specs.Calls.{LooksAt}
+use Rattle.btree.proofs.Passing.{never_ok}
 use Rattle.volume_format.proofs.Looks.{looks_then, looks_past}
 use Rattle.row_trees.specs.RowTree.{ChainedTree, IsRowTree}
 use Rattle.row_trees.proofs.Calling.{looks_by, refused_by_call}
@@ -35,14 +33,10 @@ returns-then-self-eq0-clause-row g c = λ honest agrees planted is.
 pub returns-in_err-value-clause-looks : goal.returns-in_err-value-clause-looks
 returns-in_err-value-clause-looks g c =
     let got = c.get.ensures in
-    let read = c.in_err-value.ensures in
-    passed c.from_residual-in_err-value.result c.in_err-value.field-0.0
-    c.from_residual-in_err-value.ensures.1
-    (λ r. LooksAt g.D.Device (r ≡ Err Device) c.args.pages.now c.args.device.now c.get.new.pages
-    c.read_record.new.device)
-    (looks_then g.D.Device _ _ _ _ _ _ _ _ _ (λ is. inr (still_error is))
+    looks_then g.D.Device _ _ _ _ _ _ _ _ _
+    (λ is. inr (refused_by_call c.in_err-value.was c.from_residual-in_err-value.ensures.1 is))
     (looks_by g.D.Device _ _ _ _ _ got.only got.unchanged got.agrees)
-    (looks_past g.D.Device _ _ _ _ read.only))
+    (looks_past g.D.Device _ _ _ _ c.read_record.ensures.only)
 
 pub returns-in_err-value-clause-damaged : goal.returns-in_err-value-clause-damaged
 returns-in_err-value-clause-damaged g c = λ honest agrees planted is told.

@@ -1,22 +1,20 @@
 use Rattle.std.proofs.Common.{◌≡◌, Ok, Err, length, refl, sym, ap, subst, ◌∙◌, arith}
 use Rattle.std.specs.Prelude.{IsSome, OnErr, IfErr}
-use Rattle.pages.specs.Pages.{changed_pages_of}
 use Rattle.pages.specs.declared.error.PagesError.TheVariants.{Device}
-use Rattle.btree.specs.Changes.{pages_of_map}
 use Rattle.btree.specs.Refusals.{IsInsertRefusal}
-use Rattle.btree.proofs.Passing.{passed, never_ok, never_err, still_error, few_weaker, few_equal, write_not_device}
+use Rattle.btree.proofs.Passing.{passed, never_ok, never_err, few_weaker, few_equal, write_not_device}
 use Rattle.btree.proofs.Passing.{false_not_true, true_not_false, committed_on, search_is_insert, write_is_insert}
-use Rattle.btree.proofs.Passing.{damaged_not_device, damaged_not_spent, sectors_on}
+use Rattle.btree.proofs.Passing.{damaged_not_device, damaged_not_spent, damaged_not_full, sectors_on}
 use Rattle.row_trees.specs.Calls.{EditsPages}
 use Rattle.row_trees.specs.RowTree.{ChainedTree, value_length}
-use Rattle.row_trees.proofs.Among.{chained, viewed, same_chained, stands_among}
-use Rattle.row_trees.proofs.Calling.{looks_by, looks_edits, edits_where, edits_last, edits_kept}
-use Rattle.row_trees.proofs.Calling.{refused_by_call}
+use Rattle.row_trees.proofs.Among.{chained, same_chained}
+use Rattle.row_trees.proofs.Calling.{looks_by, read_edits, edits_kept, refused_by_call}
 use Rattle.row_trees.proofs.Forms.{whole_short, record_within, rest_few, fits_still}
-use Rattle.row_trees.proofs.LaidRows.{LaysRecord, laid_few, laid_room, laid_never, laid_missing, inserted_on, room_laid}
+use Rattle.row_trees.proofs.LaidRows.{LaysRecord, laid_edits, laid_few, laid_room, laid_never, laid_missing}
+use Rattle.row_trees.proofs.LaidRows.{inserted_on, room_laid}
 use Rattle.row_trees.proofs.Passing.{search_not_full, write_not_damaged, on_err, full_unspent, few_laid, few_first}
-use Rattle.row_trees.proofs.Passing.{never_answered, room_weaker, damaged_not_full}
-use Rattle.row_trees.proofs.Short.{short_insertion, some_seen}
+use Rattle.row_trees.proofs.Passing.{never_answered, room_weaker}
+use Rattle.row_trees.proofs.Short.{short_insertion, where_among, never_among, present_among}
 use Rattle.row_trees.proofs.row_tree.RowTree.insert.Given.{Over}
 use Rattle.row_trees.proofs.row_tree.RowTree.insert.Goals as goal
 use Rattle.row_trees.proofs.row_tree.RowTree.insert.Goals.{After-insert-2}
@@ -24,27 +22,16 @@ use Rattle.row_trees.proofs.row_tree.RowTree.insert.Goals.{After-insert-2}
 -- The tree has its records itself.
 pub returns-then-self-eq0-clause-answers : goal.returns-then-self-eq0-clause-answers
 returns-then-self-eq0-clause-answers g c =
-    short_insertion g.D.Device c.args.pages.now c.insert.new.pages c.args.device.now
-    (chained c.self.inside.tree c.self.inside.record_bytes) c.args.self.now
-    (chained c.insert.new.self c.self.inside.record_bytes) c.args.key.now c.args.value.now c.insert.result
-    c.self.view_is c.if-self-eq0.true c.insert.ensures.layout refl c.insert.ensures.inserted c.insert.ensures.there
-    c.insert.ensures.damaged
+    short_insertion g.D.Device c.self.view_is c.if-self-eq0.true c.insert.ensures.layout refl c.insert.ensures.inserted
+    c.insert.ensures.there c.insert.ensures.damaged
 
 pub returns-then-self-eq0-clause-changed_pages : goal.returns-then-self-eq0-clause-changed_pages
-returns-then-self-eq0-clause-changed_pages g c = λ honest agrees left right entries is.
-    let before = pages_of_map c.args.pages.now (g.D.Device.state c.args.device.now).disk.present in
-    let view = chained c.self.inside.tree c.self.inside.record_bytes in
-    let own = viewed before left right view _ entries c.self.view_is is in
-    few_weaker _ _ 42 _ (c.insert.ensures.few.changed_pages honest agrees own.planted.levels
-    (stands_among before left right view entries own).tree)
+returns-then-self-eq0-clause-changed_pages g c =
+    where_among g.D.Device c.self.view_is c.insert.ensures.few.changed_pages (few_weaker _ _ 42 _)
 
 pub returns-then-self-eq0-clause-room : goal.returns-then-self-eq0-clause-room
-returns-then-self-eq0-clause-room g c = λ honest agrees left right entries is full.
-    let before = pages_of_map c.args.pages.now (g.D.Device.state c.args.device.now).disk.present in
-    let view = chained c.self.inside.tree c.self.inside.record_bytes in
-    let own = viewed before left right view _ entries c.self.view_is is in
-    room_weaker _ _ 42 _ (c.insert.ensures.few.room honest agrees own.planted.levels
-    (stands_among before left right view entries own).tree full)
+returns-then-self-eq0-clause-room g c =
+    where_among g.D.Device c.self.view_is c.insert.ensures.few.room (λ room full. room_weaker _ _ 42 _ (room full))
 
 pub returns-then-self-eq0-clause-same : goal.returns-then-self-eq0-clause-same
 returns-then-self-eq0-clause-same g c = λ no. (
@@ -60,63 +47,48 @@ returns-then-self-eq0-clause-refused g c =
 -- No search succeeded.
 pub returns-in_err-get-clause-edits : goal.returns-in_err-get-clause-edits
 returns-in_err-get-clause-edits g c =
-    let got = c.in_err-get.ensures in
-    passed c.from_residual.result c.in_err-get.field-0.0 c.from_residual.ensures.1
-    (λ r. EditsPages g.D.Device (r ≡ Err Device) c.args.pages.now c.args.device.now c.get.new.pages c.get.new.device)
-    (edits_where g.D.Device _ _ _ _ _ _ (λ is. still_error is)
-    (looks_edits g.D.Device _ _ _ _ _ (looks_by g.D.Device _ _ _ _ _ got.only got.unchanged got.agrees)))
+    let got = c.get.ensures in
+    let passed = refused_by_call c.in_err-get.was c.from_residual.ensures.1 in
+    read_edits g.D.Device passed got.only got.unchanged got.agrees
 
 pub returns-in_err-get-clause-answers : goal.returns-in_err-get-clause-answers
-returns-in_err-get-clause-answers g c = let residual = c.from_residual in
+returns-in_err-get-clause-answers g c = let why = c.from_residual.ensures.1 in
     record {
-      inserted = λ honest agrees left right entries is ok. never_answered residual.result _ residual.ensures.1 ok;
-      there = λ honest agrees left right entries is no. never_answered residual.result _ residual.ensures.1 no;
-      damaged = λ honest agrees left right entries is told.
-          let before = pages_of_map c.args.pages.now (g.D.Device.state c.args.device.now).disk.present in
-          let view = chained c.self.inside.tree c.self.inside.record_bytes in
-          let own = viewed before left right view _ entries c.self.view_is is in
-          c.get.ensures.damaged honest agrees (refused_by_call c.in_err-get.was residual.ensures.1 told)
-          own.planted.levels (stands_among before left right view entries own).tree;
+      inserted = λ honest agrees left right entries is ok. never_answered _ why ok;
+      there = λ honest agrees left right entries is no. never_answered _ why no;
+      damaged = never_among g.D.Device c.self.view_is c.get.ensures.damaged (refused_by_call c.in_err-get.was why);
     }
 
 pub returns-in_err-get-clause-changed_pages : goal.returns-in_err-get-clause-changed_pages
-returns-in_err-get-clause-changed_pages g c = λ honest agrees left right entries is.
-    few_equal (changed_pages_of c.args.pages.now) (changed_pages_of c.get.new.pages) _
-    c.get.ensures.unchanged.changed_pages
+returns-in_err-get-clause-changed_pages g c =
+    λ honest agrees left right entries is. few_equal _ _ _ c.get.ensures.unchanged.changed_pages
 
 pub returns-in_err-get-clause-room : goal.returns-in_err-get-clause-room
 returns-in_err-get-clause-room g c = λ honest agrees left right entries is full.
     search_not_full c.self.inside.tree.layout _ _ c.from_residual.ensures.1 c.in_err-get.ensures.cause full
 
 pub returns-in_err-get-clause-cause : goal.returns-in_err-get-clause-cause
-returns-in_err-get-clause-cause g c = passed c.from_residual.result c.in_err-get.field-0.0 c.from_residual.ensures.1
-    (λ r. IfErr r IsInsertRefusal)
+returns-in_err-get-clause-cause g c =
+    passed _ _ c.from_residual.ensures.1 (λ r. IfErr r IsInsertRefusal)
     (search_is_insert c.self.inside.tree.layout c.in_err-get.field-0.0 c.in_err-get.ensures.cause)
 
 -- The key is there.
 pub returns-then-is_some-clause-edits : goal.returns-then-is_some-clause-edits
 returns-then-is_some-clause-edits g c =
     let got = c.get.ensures in
-    edits_where g.D.Device _ _ _ _ _ _ (λ is. never_ok is)
-    (looks_edits g.D.Device _ _ _ _ _ (looks_by g.D.Device _ _ _ _ _ got.only got.unchanged got.agrees))
+    read_edits g.D.Device (λ is. never_ok is) got.only got.unchanged got.agrees
 
 pub returns-then-is_some-clause-answers : goal.returns-then-is_some-clause-answers
 returns-then-is_some-clause-answers g c = record {
   inserted = λ honest agrees left right entries is ok. false_not_true ok;
-  there = λ honest agrees left right entries is no.
-      let before = pages_of_map c.args.pages.now (g.D.Device.state c.args.device.now).disk.present in
-      let view = chained c.self.inside.tree c.self.inside.record_bytes in
-      let own = viewed before left right view _ entries c.self.view_is is in
-      some_seen before left right view entries own c.args.key.now (subst IsSome (c.in_ok-get.ensures.entry honest
-      agrees own.planted.levels (stands_among before left right view entries own).tree)
-      (sym c.is_some.ensures ∙ c.if-is_some.true));
+  there = present_among g.D.Device c.self.view_is (λ honest agrees levels tree no. subst IsSome
+      (c.in_ok-get.ensures.entry honest agrees levels tree) (sym c.is_some.ensures ∙ c.if-is_some.true));
   damaged = λ honest agrees left right entries is told. never_ok told;
 }
 
 pub returns-then-is_some-clause-changed_pages : goal.returns-then-is_some-clause-changed_pages
-returns-then-is_some-clause-changed_pages g c = λ honest agrees left right entries is.
-    few_equal (changed_pages_of c.args.pages.now) (changed_pages_of c.get.new.pages) _
-    c.get.ensures.unchanged.changed_pages
+returns-then-is_some-clause-changed_pages g c =
+    λ honest agrees left right entries is. few_equal _ _ _ c.get.ensures.unchanged.changed_pages
 
 pub returns-then-is_some-clause-same : goal.returns-then-is_some-clause-same
 returns-then-is_some-clause-same g c = λ no. (c.get.ensures.unchanged, refl)
@@ -126,25 +98,23 @@ pub returns-in_err-first-clause-edits : goal.returns-in_err-first-clause-edits
 returns-in_err-first-clause-edits g c =
     let got = c.get.ensures in
     let x = c.in_err-first.field-0.0 in
-    passed c.from_residual-in_err-first.result x c.from_residual-in_err-first.ensures.1
+    passed _ x c.from_residual-in_err-first.ensures.1
     (λ r. EditsPages g.D.Device (r ≡ Err Device) c.args.pages.now c.args.device.now c.lay.new.pages c.get.new.device)
-    (edits_kept g.D.Device _ _ _ _ _ _ _ (λ is. write_not_device x c.in_err-first.ensures.cause is)
-    (looks_edits g.D.Device _ _ _ _ _ (looks_by g.D.Device _ _ _ _ _ got.only got.unchanged got.agrees))
-    c.lay.ensures.keeps)
+    (edits_kept g.D.Device _ _ _ _ _ _ _ (λ is. is) (read_edits g.D.Device
+    (λ is. write_not_device x c.in_err-first.ensures.cause is) got.only got.unchanged got.agrees) c.lay.ensures.keeps)
 
 pub returns-in_err-first-clause-answers : goal.returns-in_err-first-clause-answers
-returns-in_err-first-clause-answers g c = let residual = c.from_residual-in_err-first in
+returns-in_err-first-clause-answers g c = let why = c.from_residual-in_err-first.ensures.1 in
     record {
-      inserted = λ honest agrees left right entries is ok. never_answered residual.result _ residual.ensures.1 ok;
-      there = λ honest agrees left right entries is no. never_answered residual.result _ residual.ensures.1 no;
+      inserted = λ honest agrees left right entries is ok. never_answered _ why ok;
+      there = λ honest agrees left right entries is no. never_answered _ why no;
       damaged = λ honest agrees left right entries is told.
-          write_not_damaged _ _ residual.ensures.1 c.in_err-first.ensures.cause told;
+          write_not_damaged _ _ why c.in_err-first.ensures.cause told;
     }
 
 pub returns-in_err-first-clause-changed_pages : goal.returns-in_err-first-clause-changed_pages
 returns-in_err-first-clause-changed_pages g c = λ honest agrees left right entries is.
-    few_laid (changed_pages_of c.args.pages.now) (changed_pages_of c.get.new.pages) (changed_pages_of c.lay.new.pages)
-    _ _ 42 c.get.ensures.unchanged.changed_pages c.lay.ensures.changed_pages
+    few_laid _ _ _ _ _ 42 c.get.ensures.unchanged.changed_pages c.lay.ensures.changed_pages
     (c.split_at.ensures.front_len ∙ ap (λ (t : ChainedTree). t.record_bytes) c.self.view_is)
 
 pub returns-in_err-first-clause-room : goal.returns-in_err-first-clause-room
@@ -157,8 +127,7 @@ returns-in_err-first-clause-room g c = λ honest agrees left right entries is fu
     (full_unspent c.lay.result (length c.split_at.result.0.now) c.args.pages.now c.get.new.pages
     got.unchanged.committed c.lay.ensures.spent (λ none. c.if-self-eq0.false (sym c.split_at.ensures.front_len ∙ none))
     told) (c.lay.ensures.full told)
-    (few_first (changed_pages_of c.args.pages.now) (changed_pages_of c.get.new.pages)
-    (changed_pages_of c.lay.new.pages) _ _ got.unchanged.changed_pages c.lay.ensures.changed_pages size)
+    (few_first _ _ _ _ _ got.unchanged.changed_pages c.lay.ensures.changed_pages size)
 
 pub returns-in_err-first-clause-spent : goal.returns-in_err-first-clause-spent
 returns-in_err-first-clause-spent g c = λ is.
@@ -166,8 +135,8 @@ returns-in_err-first-clause-spent g c = λ is.
     ∙ (c.lay.ensures.spent.0 (refused_by_call c.in_err-first.was c.from_residual-in_err-first.ensures.1 is)).0
 
 pub returns-in_err-first-clause-cause : goal.returns-in_err-first-clause-cause
-returns-in_err-first-clause-cause g c = passed c.from_residual-in_err-first.result c.in_err-first.field-0.0
-    c.from_residual-in_err-first.ensures.1 (λ r. IfErr r IsInsertRefusal)
+returns-in_err-first-clause-cause g c =
+    passed _ _ c.from_residual-in_err-first.ensures.1 (λ r. IfErr r IsInsertRefusal)
     (write_is_insert c.in_err-first.field-0.0 c.in_err-first.ensures.cause)
 
 -- A chain was laid, and its entry was not added to the tree.
@@ -186,24 +155,16 @@ lays g c = let got = c.get.ensures in
 
 pub returns-in_err-added-clause-edits : goal.returns-in_err-added-clause-edits
 returns-in_err-added-clause-edits g c =
-    let got = c.get.ensures in
-    let ins = c.in_err-added.ensures in
-    passed c.from_residual-in_err-added.result c.in_err-added.field-0.0 c.from_residual-in_err-added.ensures.1
-    (λ r. EditsPages g.D.Device (r ≡ Err Device) c.args.pages.now c.args.device.now c.insert-2.new.pages
-    c.insert-2.new.device)
-    (edits_last g.D.Device _ _ _ _ _ _ _ _ _ (λ is. still_error is)
-    (edits_kept g.D.Device _ ⊥ _ _ _ _ _ (λ never. absurd never)
-    (looks_edits g.D.Device _ _ _ _ _ (looks_by g.D.Device _ _ _ _ _ got.only got.unchanged got.agrees))
-    c.lay.ensures.keeps)
-    ins.edits)
+    laid_edits g.D.Device (lays g (goal.at.returns-in_err-added-clause-edits g c).After-insert-2)
+    c.insert-2.ensures.edits (refused_by_call c.in_err-added.was c.from_residual-in_err-added.ensures.1)
 
 pub returns-in_err-added-clause-answers : goal.returns-in_err-added-clause-answers
-returns-in_err-added-clause-answers g c = let residual = c.from_residual-in_err-added in
+returns-in_err-added-clause-answers g c = let why = c.from_residual-in_err-added.ensures.1 in
     record {
-      inserted = λ honest agrees left right entries is ok. never_answered residual.result _ residual.ensures.1 ok;
-      there = λ honest agrees left right entries is no. never_answered residual.result _ residual.ensures.1 no;
+      inserted = λ honest agrees left right entries is ok. never_answered _ why ok;
+      there = λ honest agrees left right entries is no. never_answered _ why no;
       damaged = laid_never g.D.Device (lays g (goal.at.returns-in_err-added-clause-answers g c).After-insert-2)
-          c.self.view_is c.insert-2.ensures.damaged (refused_by_call c.in_err-added.was residual.ensures.1);
+          c.self.view_is c.insert-2.ensures.damaged (refused_by_call c.in_err-added.was why);
     }
 
 pub returns-in_err-added-clause-changed_pages : goal.returns-in_err-added-clause-changed_pages
@@ -220,7 +181,7 @@ returns-in_err-added-clause-room g c =
 
 pub returns-in_err-added-clause-refused : goal.returns-in_err-added-clause-refused
 returns-in_err-added-clause-refused g c =
-    passed c.from_residual-in_err-added.result c.in_err-added.field-0.0 c.from_residual-in_err-added.ensures.1
+    passed _ _ c.from_residual-in_err-added.ensures.1
     (λ r. OnErr r (chained c.insert-2.new.self c.self.inside.record_bytes ≡ c.args.self.now))
     (same_chained _ _ c.self.inside.record_bytes _ c.in_err-added.ensures.refused c.self.view_is)
 
@@ -231,13 +192,8 @@ returns-in_err-added-clause-spent g c = λ is.
 
 pub returns-then-not-added-clause-edits : goal.returns-then-not-added-clause-edits
 returns-then-not-added-clause-edits g c =
-    let got = c.get.ensures in
-    let ins = c.insert-2.ensures in
-    edits_last g.D.Device _ _ _ _ _ _ _ _ _ (λ is. damaged_not_device is)
-    (edits_kept g.D.Device _ ⊥ _ _ _ _ _ (λ never. absurd never)
-    (looks_edits g.D.Device _ _ _ _ _ (looks_by g.D.Device _ _ _ _ _ got.only got.unchanged got.agrees))
-    c.lay.ensures.keeps)
-    ins.edits
+    laid_edits g.D.Device (lays g (goal.at.returns-then-not-added-clause-edits g c).After-insert-2)
+    c.insert-2.ensures.edits (λ is. damaged_not_device is)
 
 pub returns-then-not-added-clause-answers : goal.returns-then-not-added-clause-answers
 returns-then-not-added-clause-answers g c = record {
@@ -261,16 +217,10 @@ returns-then-not-added-clause-refused g c = same_chained _ _ c.self.inside.recor
     (c.insert-2.ensures.same (c.in_ok-added.was ∙ ap Ok c.if-not-added.true)).1 c.self.view_is
 
 -- It was.
-
 pub returns-clause-edits : goal.returns-clause-edits
 returns-clause-edits g c =
-    let got = c.get.ensures in
-    let ins = c.insert-2.ensures in
-    edits_last g.D.Device _ _ _ _ _ _ _ _ _ (λ is. never_ok is)
-    (edits_kept g.D.Device _ ⊥ _ _ _ _ _ (λ never. absurd never)
-    (looks_edits g.D.Device _ _ _ _ _ (looks_by g.D.Device _ _ _ _ _ got.only got.unchanged got.agrees))
-    c.lay.ensures.keeps)
-    ins.edits
+    laid_edits g.D.Device (lays g (goal.at.returns-clause-edits g c).After-insert-2) c.insert-2.ensures.edits
+    (λ is. never_ok is)
 
 pub returns-clause-answers : goal.returns-clause-answers
 returns-clause-answers g c = record {
@@ -302,33 +252,25 @@ returns-then-self-eq0-clause-form g c = ap (λ (t : ChainedTree). t.record_bytes
 
 -- What a refusal or another answer rules out.
 pub returns-in_err-get-clause-same : goal.returns-in_err-get-clause-same
-returns-in_err-get-clause-same g c =
-    λ no. never_answered c.from_residual.result c.in_err-get.field-0.0 c.from_residual.ensures.1 no
+returns-in_err-get-clause-same g c = λ no. never_answered _ c.from_residual.ensures.1 no
 
 pub returns-in_err-get-clause-refused : goal.returns-in_err-get-clause-refused
 returns-in_err-get-clause-refused g c =
-    passed c.from_residual.result c.in_err-get.field-0.0 c.from_residual.ensures.1
-    (λ r. OnErr r (c.args.self.now ≡ c.args.self.now)) refl
+    passed _ _ c.from_residual.ensures.1 (λ r. OnErr r (c.args.self.now ≡ c.args.self.now)) refl
 
 pub returns-in_err-get-clause-spent : goal.returns-in_err-get-clause-spent
 returns-in_err-get-clause-spent g c =
-    λ is.
-    (c.get.ensures.spent.0 (refused_by_call c.in_err-get.was c.from_residual.ensures.1 is)).0
+    λ is. (c.get.ensures.spent.0 (refused_by_call c.in_err-get.was c.from_residual.ensures.1 is)).0
 
 pub returns-in_err-first-clause-same : goal.returns-in_err-first-clause-same
-returns-in_err-first-clause-same g c =
-    λ no. never_answered c.from_residual-in_err-first.result c.in_err-first.field-0.0
-    c.from_residual-in_err-first.ensures.1 no
+returns-in_err-first-clause-same g c = λ no. never_answered _ c.from_residual-in_err-first.ensures.1 no
 
 pub returns-in_err-first-clause-refused : goal.returns-in_err-first-clause-refused
 returns-in_err-first-clause-refused g c =
-    passed c.from_residual-in_err-first.result c.in_err-first.field-0.0 c.from_residual-in_err-first.ensures.1
-    (λ r. OnErr r (c.args.self.now ≡ c.args.self.now)) refl
+    passed _ _ c.from_residual-in_err-first.ensures.1 (λ r. OnErr r (c.args.self.now ≡ c.args.self.now)) refl
 
 pub returns-in_err-added-clause-same : goal.returns-in_err-added-clause-same
-returns-in_err-added-clause-same g c =
-    λ no. never_answered c.from_residual-in_err-added.result c.in_err-added.field-0.0
-    c.from_residual-in_err-added.ensures.1 no
+returns-in_err-added-clause-same g c = λ no. never_answered _ c.from_residual-in_err-added.ensures.1 no
 
 pub returns-in_err-added-clause-layout : goal.returns-in_err-added-clause-layout
 returns-in_err-added-clause-layout g c =
@@ -339,8 +281,7 @@ returns-in_err-added-clause-form g c = ap (λ (t : ChainedTree). t.record_bytes)
 
 pub returns-in_err-added-clause-cause : goal.returns-in_err-added-clause-cause
 returns-in_err-added-clause-cause g c =
-    passed c.from_residual-in_err-added.result c.in_err-added.field-0.0 c.from_residual-in_err-added.ensures.1
-    (λ r. IfErr r IsInsertRefusal) c.in_err-added.ensures.cause
+    passed _ _ c.from_residual-in_err-added.ensures.1 (λ r. IfErr r IsInsertRefusal) c.in_err-added.ensures.cause
 
 pub returns-then-is_some-clause-room : goal.returns-then-is_some-clause-room
 returns-then-is_some-clause-room g c = λ honest agrees left right entries is full. never_ok full

@@ -1,67 +1,39 @@
-use Rattle.std.proofs.Common.{◌≡◌, ◌+◌, Ok, Err, refl, sym, ap, ◌∙◌}
-use Rattle.std.specs.Prelude.{None, IfErr}
+use Rattle.std.proofs.Common.{◌≡◌, Ok, Err, refl, sym, ap, ◌∙◌}
+use Rattle.std.specs.Prelude.{IfErr}
 use Rattle.byteorder.specs.Endian.{big_number}
-use Rattle.pages.specs.Pages.{changed_pages_of}
 use Rattle.pages.specs.declared.error.PagesError.TheVariants.{Device}
-use Rattle.btree.specs.Changes.{pages_of_map}
-use Rattle.btree.specs.Entries.{entry_with}
 use Rattle.btree.specs.Refusals.{IsChangeRefusal}
-use Rattle.btree.specs.Results.{FewChanged}
-use Rattle.btree.proofs.Passing.{passed, never_ok, never_err, still_error, on_refused, few_weaker, few_equal}
+use Rattle.btree.proofs.Passing.{passed, never_ok, never_err, on_refused, few_weaker, few_equal}
 use Rattle.btree.proofs.Passing.{search_is_change, damaged_not_device, damaged_not_spent, true_not_false, sectors_on}
-use Rattle.chains.specs.Chain.{pages_for}
-use Rattle.row_trees.specs.Calls.{EditsPages}
 use Rattle.row_trees.specs.RowTree.{ChainedTree}
-use Rattle.row_trees.proofs.Among.{chained, viewed, same_chained, stands_among, stored_in}
-use Rattle.row_trees.proofs.Calling.{looks_by, looks_edits, edits_by, edits_where, edits_last, refused_by_call}
+use Rattle.row_trees.proofs.Among.{chained, same_chained}
+use Rattle.row_trees.proofs.Calling.{looks_by, read_edits, edits_by, edits_last, edits_after, tree_before}
+use Rattle.row_trees.proofs.Calling.{refused_by_call}
 use Rattle.row_trees.proofs.Forms.{fits_still}
 use Rattle.row_trees.proofs.Passing.{on_ok, none_not_some, never_answered}
-use Rattle.row_trees.proofs.Short.{removed_short, none_seen}
-use Rattle.row_trees.proofs.TakenRows.{TakesEntry, read_tells, taken_never, taken_few, removed_on}
+use Rattle.row_trees.proofs.Short.{where_among, never_among, missing_among, removed_among}
+use Rattle.row_trees.proofs.TakenRows.{TakesEntry, then_never, taken_never, taken_few, removed_on}
 use Rattle.row_trees.proofs.row_tree.RowTree.remove.Given.{Over}
 use Rattle.row_trees.proofs.row_tree.RowTree.remove.Goals as goal
 use Rattle.row_trees.proofs.row_tree.RowTree.remove.Goals.{After-release}
 
 -- The tree has its records itself.
 pub returns-then-self-eq0-clause-removed : goal.returns-then-self-eq0-clause-removed
-returns-then-self-eq0-clause-removed g c = λ honest agrees left right entries is ok.
-    let image = (g.D.Device.state c.args.device.now).disk.present in
-    let before = pages_of_map c.args.pages.now image in
-    let view = chained c.self.inside.tree c.self.inside.record_bytes in
-    let own = viewed before left right view _ entries c.self.view_is is in
-    let stands = stands_among before left right view entries own in
-    removed_short before (pages_of_map c.remove.new.pages image) left right view _ entries own c.args.key.now
-    c.if-self-eq0.true c.remove.ensures.layout refl
-    (c.remove.ensures.removed honest agrees own.planted.levels stands.tree ok)
+returns-then-self-eq0-clause-removed g c =
+    removed_among g.D.Device c.remove.new.pages c.self.view_is c.if-self-eq0.true c.remove.ensures.layout refl
+    c.remove.ensures.removed
 
 pub returns-then-self-eq0-clause-missing : goal.returns-then-self-eq0-clause-missing
-returns-then-self-eq0-clause-missing g c = λ honest agrees left right entries is no.
-    let image = (g.D.Device.state c.args.device.now).disk.present in
-    let before = pages_of_map c.args.pages.now image in
-    let view = chained c.self.inside.tree c.self.inside.record_bytes in
-    let own = viewed before left right view _ entries c.self.view_is is in
-    let stands = stands_among before left right view entries own in
-    none_seen before left right view entries own c.args.key.now
-    (c.remove.ensures.missing honest agrees own.planted.levels stands.tree no)
+returns-then-self-eq0-clause-missing g c = missing_among g.D.Device c.self.view_is c.remove.ensures.missing
 
 pub returns-then-self-eq0-clause-damaged : goal.returns-then-self-eq0-clause-damaged
-returns-then-self-eq0-clause-damaged g c = λ honest agrees left right entries is told.
-    let image = (g.D.Device.state c.args.device.now).disk.present in
-    let before = pages_of_map c.args.pages.now image in
-    let view = chained c.self.inside.tree c.self.inside.record_bytes in
-    let own = viewed before left right view _ entries c.self.view_is is in
-    let stands = stands_among before left right view entries own in
-    c.remove.ensures.damaged honest agrees told own.planted.levels stands.tree
+returns-then-self-eq0-clause-damaged g c =
+    never_among g.D.Device c.self.view_is c.remove.ensures.damaged (λ told. told)
 
 pub returns-then-self-eq0-clause-changed_pages : goal.returns-then-self-eq0-clause-changed_pages
-returns-then-self-eq0-clause-changed_pages g c = λ honest agrees left right entries is.
-    let image = (g.D.Device.state c.args.device.now).disk.present in
-    let before = pages_of_map c.args.pages.now image in
-    let view = chained c.self.inside.tree c.self.inside.record_bytes in
-    let own = viewed before left right view _ entries c.self.view_is is in
-    let stands = stands_among before left right view entries own in
-    on_ok c.remove.result _ _ (few_weaker _ _ 42 _)
-    (c.remove.ensures.few.changed_pages honest agrees own.planted.levels stands.tree)
+returns-then-self-eq0-clause-changed_pages g c =
+    where_among g.D.Device c.self.view_is c.remove.ensures.few.changed_pages
+    (on_ok c.remove.result _ _ (few_weaker _ _ 42 _))
 
 pub returns-then-self-eq0-clause-same : goal.returns-then-self-eq0-clause-same
 returns-then-self-eq0-clause-same g c = λ no. (
@@ -72,43 +44,30 @@ returns-then-self-eq0-clause-same g c = λ no. (
 -- No search succeeded.
 pub returns-in_err-entry-clause-edits : goal.returns-in_err-entry-clause-edits
 returns-in_err-entry-clause-edits g c =
-    let got = c.in_err-entry.ensures in
-    passed c.from_residual.result c.in_err-entry.field-0.0 c.from_residual.ensures.1
-    (λ r. EditsPages g.D.Device (r ≡ Err Device) c.args.pages.now c.args.device.now c.get.new.pages c.get.new.device)
-    (edits_where g.D.Device _ _ _ _ _ _ (λ is. still_error is)
-    (looks_edits g.D.Device _ _ _ _ _ (looks_by g.D.Device _ _ _ _ _ got.only got.unchanged got.agrees)))
+    let got = c.get.ensures in
+    let passed = refused_by_call c.in_err-entry.was c.from_residual.ensures.1 in
+    read_edits g.D.Device passed got.only got.unchanged got.agrees
 
 pub returns-in_err-entry-clause-damaged : goal.returns-in_err-entry-clause-damaged
-returns-in_err-entry-clause-damaged g c = λ honest agrees left right entries is told.
-    let image = (g.D.Device.state c.args.device.now).disk.present in
-    let before = pages_of_map c.args.pages.now image in
-    let view = chained c.self.inside.tree c.self.inside.record_bytes in
-    let own = viewed before left right view _ entries c.self.view_is is in
-    let stands = stands_among before left right view entries own in
-    c.get.ensures.damaged honest agrees (refused_by_call c.in_err-entry.was c.from_residual.ensures.1 told)
-    own.planted.levels stands.tree
+returns-in_err-entry-clause-damaged g c =
+    never_among g.D.Device c.self.view_is c.get.ensures.damaged
+    (refused_by_call c.in_err-entry.was c.from_residual.ensures.1)
 
 pub returns-in_err-entry-clause-cause : goal.returns-in_err-entry-clause-cause
 returns-in_err-entry-clause-cause g c =
-    passed c.from_residual.result c.in_err-entry.field-0.0 c.from_residual.ensures.1 (λ r. IfErr r IsChangeRefusal)
+    passed _ _ c.from_residual.ensures.1 (λ r. IfErr r IsChangeRefusal)
     (search_is_change c.self.inside.tree.layout c.in_err-entry.field-0.0 c.in_err-entry.ensures.cause)
 
 -- There is no such row.
 pub returns-in-None-clause-edits : goal.returns-in-None-clause-edits
 returns-in-None-clause-edits g c =
     let got = c.get.ensures in
-    edits_where g.D.Device _ _ _ _ _ _ (λ is. never_ok is)
-    (looks_edits g.D.Device _ _ _ _ _ (looks_by g.D.Device _ _ _ _ _ got.only got.unchanged got.agrees))
+    read_edits g.D.Device (λ is. never_ok is) got.only got.unchanged got.agrees
 
 pub returns-in-None-clause-missing : goal.returns-in-None-clause-missing
-returns-in-None-clause-missing g c = λ honest agrees left right entries is no.
-    let image = (g.D.Device.state c.args.device.now).disk.present in
-    let before = pages_of_map c.args.pages.now image in
-    let view = chained c.self.inside.tree c.self.inside.record_bytes in
-    let own = viewed before left right view _ entries c.self.view_is is in
-    let stands = stands_among before left right view entries own in
-    none_seen before left right view entries own c.args.key.now
-    (sym (c.in_ok-entry.ensures.entry honest agrees own.planted.levels stands.tree) ∙ c.in-None.is)
+returns-in-None-clause-missing g c =
+    missing_among g.D.Device c.self.view_is
+    (λ honest agrees levels tree no. sym (c.in_ok-entry.ensures.entry honest agrees levels tree) ∙ c.in-None.is)
 
 pub returns-in-None-clause-same : goal.returns-in-None-clause-same
 returns-in-None-clause-same g c = λ no. (c.get.ensures.unchanged, refl)
@@ -117,27 +76,14 @@ returns-in-None-clause-same g c = λ no. (c.get.ensures.unchanged, refl)
 pub returns-in_err-removed-clause-edits : goal.returns-in_err-removed-clause-edits
 returns-in_err-removed-clause-edits g c =
     let got = c.get.ensures in
-    let cut = c.in_err-removed.ensures in
-    passed c.from_residual-in_err-removed.result c.in_err-removed.field-0.0 c.from_residual-in_err-removed.ensures.1
-    (λ r. EditsPages g.D.Device (r ≡ Err Device) c.args.pages.now c.args.device.now c.remove-2.new.pages
-    c.remove-2.new.device)
-    (edits_last g.D.Device _ _ _ _ _ _ _ _ _ (λ is. still_error is)
-    (looks_edits g.D.Device _ _ _ _ _ (looks_by g.D.Device _ _ _ _ _ got.only got.unchanged got.agrees))
-    cut.edits)
+    edits_after g.D.Device (looks_by g.D.Device _ _ _ _ _ got.only got.unchanged got.agrees) c.remove-2.ensures.edits
+    (refused_by_call c.in_err-removed.was c.from_residual-in_err-removed.ensures.1)
 
 pub returns-in_err-removed-clause-damaged : goal.returns-in_err-removed-clause-damaged
-returns-in_err-removed-clause-damaged g c = λ honest agrees left right entries is told.
-    let image = (g.D.Device.state c.args.device.now).disk.present in
-    let before = pages_of_map c.args.pages.now image in
-    let view = chained c.self.inside.tree c.self.inside.record_bytes in
-    let own = viewed before left right view _ entries c.self.view_is is in
-    let stands = stands_among before left right view entries own in
+returns-in_err-removed-clause-damaged g c =
     let got = c.get.ensures in
-    let looks = looks_by g.D.Device _ _ _ _ _ got.only got.unchanged got.agrees in
-    let damaged = refused_by_call c.in_err-removed.was c.from_residual-in_err-removed.ensures.1 told in
-    read_tells g.D.Device _ c.args.pages.now c.get.new.pages c.args.device.now c.get.new.device view
-    own.planted.levels (λ levels. ⊥) looks honest agrees stands
-    (λ h a levels tree. c.remove-2.ensures.damaged h a damaged levels tree)
+    then_never g.D.Device (looks_by g.D.Device _ _ _ _ _ got.only got.unchanged got.agrees) c.self.view_is
+    c.remove-2.ensures.damaged (refused_by_call c.in_err-removed.was c.from_residual-in_err-removed.ensures.1)
 
 pub returns-in_err-removed-clause-spent : goal.returns-in_err-removed-clause-spent
 returns-in_err-removed-clause-spent g c = λ is.
@@ -147,26 +93,18 @@ returns-in_err-removed-clause-spent g c = λ is.
 pub returns-then-not-removed-clause-edits : goal.returns-then-not-removed-clause-edits
 returns-then-not-removed-clause-edits g c =
     let got = c.get.ensures in
-    let cut = c.remove-2.ensures in
-    edits_last g.D.Device _ _ _ _ _ _ _ _ _ (λ is. damaged_not_device is)
-    (looks_edits g.D.Device _ _ _ _ _ (looks_by g.D.Device _ _ _ _ _ got.only got.unchanged got.agrees))
-    cut.edits
+    edits_after g.D.Device (looks_by g.D.Device _ _ _ _ _ got.only got.unchanged got.agrees) c.remove-2.ensures.edits
+    (λ is. damaged_not_device is)
 
 pub returns-then-not-removed-clause-damaged : goal.returns-then-not-removed-clause-damaged
-returns-then-not-removed-clause-damaged g c = λ honest agrees left right entries is told.
-    let image = (g.D.Device.state c.args.device.now).disk.present in
-    let before = pages_of_map c.args.pages.now image in
-    let view = chained c.self.inside.tree c.self.inside.record_bytes in
-    let own = viewed before left right view _ entries c.self.view_is is in
-    let stands = stands_among before left right view entries own in
+returns-then-not-removed-clause-damaged g c =
     let got = c.get.ensures in
-    let looks = looks_by g.D.Device _ _ _ _ _ got.only got.unchanged got.agrees in
-    let none = read_tells g.D.Device _ c.args.pages.now c.get.new.pages c.args.device.now c.get.new.device view
-    own.planted.levels (λ levels. entry_with (stored_in view levels) c.args.key.now ≡ None) looks honest agrees stands
-    (λ h a levels tree. c.remove-2.ensures.missing h a levels tree (c.in_ok-removed.was ∙ ap Ok c.if-not-removed.true))
-    in
-    none_not_some (sym none ∙ sym (c.in_ok-entry.ensures.entry honest agrees own.planted.levels stands.tree)
-    ∙ c.in-Some.is)
+    let no = c.in_ok-removed.was ∙ ap Ok c.if-not-removed.true in
+    let gone = tree_before g.D.Device (looks_by g.D.Device _ _ _ _ _ got.only got.unchanged got.agrees)
+    (λ honest agrees levels tree. c.remove-2.ensures.missing honest agrees levels tree no) in
+    where_among g.D.Device {C = ⊥} c.self.view_is (λ honest agrees levels tree. none_not_some
+    (sym (gone honest agrees levels tree) ∙ sym (c.in_ok-entry.ensures.entry honest agrees levels tree) ∙ c.in-Some.is))
+    (λ never told. never)
 
 -- Its entry was taken out of the tree, and its chain was not released.
 takes : (g : Over) (c : After-release g) → TakesEntry g.D.Device (c.get.result ≡ Err Device)
@@ -187,17 +125,12 @@ takes g c = let got = c.get.ensures in
 
 pub returns-in_err-release-clause-edits : goal.returns-in_err-release-clause-edits
 returns-in_err-release-clause-edits g c =
-    let got = c.get.ensures in
-    let cut = c.remove-2.ensures in
-    let end = c.in_err-release.ensures in
-    passed c.from_residual-in_err-release.result c.in_err-release.field-0.0 c.from_residual-in_err-release.ensures.1
-    (λ r. EditsPages g.D.Device (r ≡ Err Device) c.args.pages.now c.args.device.now c.release.new.pages
-    c.release.new.device)
-    (edits_last g.D.Device _ _ _ _ _ _ _ _ _ (λ is. still_error is)
-    (edits_last g.D.Device _ _ ⊥ _ _ _ _ _ _ (λ never. absurd never)
-    (looks_edits g.D.Device _ _ _ _ _ (looks_by g.D.Device _ _ _ _ _ got.only got.unchanged got.agrees))
-    cut.edits)
-    (edits_by g.D.Device _ _ _ _ _ end.only end.committed end.catalog end.agrees))
+    let take = takes g (goal.at.returns-in_err-release-clause-edits g c).After-release in
+    let end = c.release.ensures in
+    edits_last g.D.Device _ _ _ _ _ _ _ _ _
+    (refused_by_call c.in_err-release.was c.from_residual-in_err-release.ensures.1)
+    (edits_after g.D.Device take.looks take.edits (λ is. is))
+    (edits_by g.D.Device _ _ _ _ _ end.only end.committed end.catalog end.agrees)
 
 pub returns-in_err-release-clause-damaged : goal.returns-in_err-release-clause-damaged
 returns-in_err-release-clause-damaged g c =
@@ -212,13 +145,10 @@ returns-in_err-release-clause-spent g c = λ is.
 -- It was.
 pub returns-clause-edits : goal.returns-clause-edits
 returns-clause-edits g c =
-    let got = c.get.ensures in
-    let cut = c.remove-2.ensures in
+    let take = takes g (goal.at.returns-clause-edits g c).After-release in
     let end = c.release.ensures in
     edits_last g.D.Device _ _ _ _ _ _ _ _ _ (λ is. never_ok is)
-    (edits_last g.D.Device _ _ ⊥ _ _ _ _ _ _ (λ never. absurd never)
-    (looks_edits g.D.Device _ _ _ _ _ (looks_by g.D.Device _ _ _ _ _ got.only got.unchanged got.agrees))
-    cut.edits)
+    (edits_after g.D.Device take.looks take.edits (λ is. is))
     (edits_by g.D.Device _ _ _ _ _ end.only end.committed end.catalog end.agrees)
 
 pub returns-clause-removed : goal.returns-clause-removed
@@ -251,52 +181,37 @@ returns-then-self-eq0-clause-spent g c = λ is. (c.remove.ensures.spent.0 is).0
 -- What a refusal or another answer rules out.
 pub returns-in_err-entry-clause-removed : goal.returns-in_err-entry-clause-removed
 returns-in_err-entry-clause-removed g c =
-    λ honest agrees left right entries is ok. never_answered c.from_residual.result c.in_err-entry.field-0.0
-    c.from_residual.ensures.1 ok
+    λ honest agrees left right entries is ok. never_answered _ c.from_residual.ensures.1 ok
 
 pub returns-in_err-entry-clause-missing : goal.returns-in_err-entry-clause-missing
 returns-in_err-entry-clause-missing g c =
-    λ honest agrees left right entries is no. never_answered c.from_residual.result c.in_err-entry.field-0.0
-    c.from_residual.ensures.1 no
+    λ honest agrees left right entries is no. never_answered _ c.from_residual.ensures.1 no
 
 pub returns-in_err-entry-clause-same : goal.returns-in_err-entry-clause-same
-returns-in_err-entry-clause-same g c =
-    λ no. never_answered c.from_residual.result c.in_err-entry.field-0.0
-    c.from_residual.ensures.1 no
+returns-in_err-entry-clause-same g c = λ no. never_answered _ c.from_residual.ensures.1 no
 
 pub returns-in_err-entry-clause-changed_pages : goal.returns-in_err-entry-clause-changed_pages
 returns-in_err-entry-clause-changed_pages g c =
-    λ honest agrees left right entries is. on_refused c.from_residual.result c.in_err-entry.field-0.0
-    c.from_residual.ensures.1
-    (FewChanged (42 + pages_for c.args.self.now.record_bytes) c.args.pages.now c.get.new.pages)
+    λ honest agrees left right entries is. on_refused _ _ c.from_residual.ensures.1 _
 
 pub returns-in_err-entry-clause-spent : goal.returns-in_err-entry-clause-spent
 returns-in_err-entry-clause-spent g c =
-    λ is. (c.get.ensures.spent.0
-    (refused_by_call c.in_err-entry.was c.from_residual.ensures.1 is)).0
+    λ is. (c.get.ensures.spent.0 (refused_by_call c.in_err-entry.was c.from_residual.ensures.1 is)).0
 
 pub returns-in_err-removed-clause-removed : goal.returns-in_err-removed-clause-removed
 returns-in_err-removed-clause-removed g c =
-    λ honest agrees left right entries is ok.
-    never_answered c.from_residual-in_err-removed.result c.in_err-removed.field-0.0
-    c.from_residual-in_err-removed.ensures.1 ok
+    λ honest agrees left right entries is ok. never_answered _ c.from_residual-in_err-removed.ensures.1 ok
 
 pub returns-in_err-removed-clause-missing : goal.returns-in_err-removed-clause-missing
 returns-in_err-removed-clause-missing g c =
-    λ honest agrees left right entries is no.
-    never_answered c.from_residual-in_err-removed.result c.in_err-removed.field-0.0
-    c.from_residual-in_err-removed.ensures.1 no
+    λ honest agrees left right entries is no. never_answered _ c.from_residual-in_err-removed.ensures.1 no
 
 pub returns-in_err-removed-clause-same : goal.returns-in_err-removed-clause-same
-returns-in_err-removed-clause-same g c =
-    λ no. never_answered c.from_residual-in_err-removed.result c.in_err-removed.field-0.0
-    c.from_residual-in_err-removed.ensures.1 no
+returns-in_err-removed-clause-same g c = λ no. never_answered _ c.from_residual-in_err-removed.ensures.1 no
 
 pub returns-in_err-removed-clause-changed_pages : goal.returns-in_err-removed-clause-changed_pages
 returns-in_err-removed-clause-changed_pages g c =
-    λ honest agrees left right entries is. on_refused c.from_residual-in_err-removed.result c.in_err-removed.field-0.0
-    c.from_residual-in_err-removed.ensures.1
-    (FewChanged (42 + pages_for c.args.self.now.record_bytes) c.args.pages.now c.remove-2.new.pages)
+    λ honest agrees left right entries is. on_refused _ _ c.from_residual-in_err-removed.ensures.1 _
 
 pub returns-in_err-removed-clause-layout : goal.returns-in_err-removed-clause-layout
 returns-in_err-removed-clause-layout g c =
@@ -307,31 +222,22 @@ returns-in_err-removed-clause-form g c = ap (λ (t : ChainedTree). t.record_byte
 
 pub returns-in_err-removed-clause-cause : goal.returns-in_err-removed-clause-cause
 returns-in_err-removed-clause-cause g c =
-    passed c.from_residual-in_err-removed.result c.in_err-removed.field-0.0 c.from_residual-in_err-removed.ensures.1
-    (λ r. IfErr r IsChangeRefusal) c.in_err-removed.ensures.cause
+    passed _ _ c.from_residual-in_err-removed.ensures.1 (λ r. IfErr r IsChangeRefusal) c.in_err-removed.ensures.cause
 
 pub returns-in_err-release-clause-removed : goal.returns-in_err-release-clause-removed
 returns-in_err-release-clause-removed g c =
-    λ honest agrees left right entries is ok.
-    never_answered c.from_residual-in_err-release.result c.in_err-release.field-0.0
-    c.from_residual-in_err-release.ensures.1 ok
+    λ honest agrees left right entries is ok. never_answered _ c.from_residual-in_err-release.ensures.1 ok
 
 pub returns-in_err-release-clause-missing : goal.returns-in_err-release-clause-missing
 returns-in_err-release-clause-missing g c =
-    λ honest agrees left right entries is no.
-    never_answered c.from_residual-in_err-release.result c.in_err-release.field-0.0
-    c.from_residual-in_err-release.ensures.1 no
+    λ honest agrees left right entries is no. never_answered _ c.from_residual-in_err-release.ensures.1 no
 
 pub returns-in_err-release-clause-same : goal.returns-in_err-release-clause-same
-returns-in_err-release-clause-same g c =
-    λ no. never_answered c.from_residual-in_err-release.result c.in_err-release.field-0.0
-    c.from_residual-in_err-release.ensures.1 no
+returns-in_err-release-clause-same g c = λ no. never_answered _ c.from_residual-in_err-release.ensures.1 no
 
 pub returns-in_err-release-clause-changed_pages : goal.returns-in_err-release-clause-changed_pages
 returns-in_err-release-clause-changed_pages g c =
-    λ honest agrees left right entries is. on_refused c.from_residual-in_err-release.result c.in_err-release.field-0.0
-    c.from_residual-in_err-release.ensures.1
-    (FewChanged (42 + pages_for c.args.self.now.record_bytes) c.args.pages.now c.release.new.pages)
+    λ honest agrees left right entries is. on_refused _ _ c.from_residual-in_err-release.ensures.1 _
 
 pub returns-in_err-release-clause-layout : goal.returns-in_err-release-clause-layout
 returns-in_err-release-clause-layout g c =
@@ -342,8 +248,7 @@ returns-in_err-release-clause-form g c = ap (λ (t : ChainedTree). t.record_byte
 
 pub returns-in_err-release-clause-cause : goal.returns-in_err-release-clause-cause
 returns-in_err-release-clause-cause g c =
-    passed c.from_residual-in_err-release.result c.in_err-release.field-0.0 c.from_residual-in_err-release.ensures.1
-    (λ r. IfErr r IsChangeRefusal) c.in_err-release.ensures.cause
+    passed _ _ c.from_residual-in_err-release.ensures.1 (λ r. IfErr r IsChangeRefusal) c.in_err-release.ensures.cause
 
 pub returns-in-None-clause-removed : goal.returns-in-None-clause-removed
 returns-in-None-clause-removed g c = λ honest agrees left right entries is ok. true_not_false (sym ok)
@@ -353,9 +258,7 @@ returns-in-None-clause-damaged g c = λ honest agrees left right entries is told
 
 pub returns-in-None-clause-changed_pages : goal.returns-in-None-clause-changed_pages
 returns-in-None-clause-changed_pages g c =
-    λ honest agrees left right entries is.
-    few_equal (changed_pages_of c.args.pages.now) (changed_pages_of c.get.new.pages) _
-    c.get.ensures.unchanged.changed_pages
+    λ honest agrees left right entries is. few_equal _ _ _ c.get.ensures.unchanged.changed_pages
 
 pub returns-in-None-clause-spent : goal.returns-in-None-clause-spent
 returns-in-None-clause-spent g c = λ is. never_ok is

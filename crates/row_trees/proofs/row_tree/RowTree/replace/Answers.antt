@@ -1,101 +1,62 @@
-use Rattle.std.proofs.Common.{◌≡◌, ◌++◌, Ok, Err, List, ℕ, length, refl, sym, ap, subst, ◌∙◌, arith}
-use Rattle.std.specs.Prelude.{IsSome, IfErr}
+use Rattle.std.proofs.Common.{◌≡◌, ◌++◌, Ok, Err, List, ℕ, length, refl, sym, ap, ◌∙◌, arith}
+use Rattle.std.specs.Prelude.{IfErr}
 use Rattle.std.proofs.lemmas.Bool.Decides.{Decides-eqb}
 use Rattle.std.proofs.lemmas.Slice.Eq.{slice_eq-Decides}
 use Rattle.byteorder.specs.Endian.{big_number}
-use Rattle.pages.specs.Pages.{changed_pages_of}
 use Rattle.pages.specs.declared.error.PagesError.TheVariants.{Device}
-use Rattle.btree.specs.Changes.{pages_of_map}
-use Rattle.btree.specs.Entries.{entry_with, with_value}
 use Rattle.btree.specs.Refusals.{IsChangeRefusal}
 use Rattle.btree.specs.Rooted.{RootedTree}
-use Rattle.btree.proofs.Passing.{passed, never_ok, still_error, few_weaker, few_equal, search_is_change}
+use Rattle.btree.proofs.Passing.{passed, never_ok, few_weaker, few_equal, search_is_change}
 use Rattle.btree.proofs.Passing.{damaged_not_device, damaged_not_spent, never_err, true_not_false, sectors_on}
-use Rattle.row_trees.specs.Calls.{EditsPages}
-use Rattle.row_trees.specs.RowTree.{ChainedTree, IsRowTreeAmong, value_length}
-use Rattle.row_trees.proofs.Among.{chained, viewed, same_chained, stands_among}
-use Rattle.row_trees.proofs.Calling.{looks_by, looks_edits, edits_by, edits_where, edits_last, refused_by_call}
-use Rattle.row_trees.proofs.Forms.{pair, rest_is, whole_short, record_within, rest_few, fits_still}
+use Rattle.row_trees.specs.RowTree.{ChainedTree, value_length}
+use Rattle.row_trees.proofs.Among.{chained, same_chained}
+use Rattle.row_trees.proofs.Calling.{looks_by, read_edits, edits_by, edits_after, refused_by_call}
+use Rattle.row_trees.proofs.Forms.{rest_is, whole_short, record_within, rest_few, fits_still}
 use Rattle.row_trees.proofs.Passing.{few_laid, few_added, never_answered}
-use Rattle.row_trees.proofs.RewrittenRows.{RewritesFound, rewrite_never, written_never, written_there}
+use Rattle.row_trees.proofs.RewrittenRows.{RewritesFound, rewrite_never, written_edits, written_never, written_there}
 use Rattle.row_trees.proofs.RewrittenRows.{unwritten_on, replaced_on}
-use Rattle.row_trees.proofs.Short.{replaced_short, none_seen}
+use Rattle.row_trees.proofs.Short.{never_among, missing_among, replaced_among}
 use Rattle.row_trees.proofs.row_tree.RowTree.replace.Given.{Over}
 use Rattle.row_trees.proofs.row_tree.RowTree.replace.Goals as goal
 use Rattle.row_trees.proofs.row_tree.RowTree.replace.Goals.{In_ok-rewrite}
 
 -- The tree has its records itself, or no search succeeded, or there is no such row.
 pub returns-then-self-eq0-clause-missing : goal.returns-then-self-eq0-clause-missing
-returns-then-self-eq0-clause-missing g c = λ honest agrees left right entries is no.
-    let image = (g.D.Device.state c.args.device.now).disk.present in
-    let before = pages_of_map c.args.pages.now image in
-    let view = chained c.self.inside.tree c.self.inside.record_bytes in
-    let own = viewed before left right view _ entries c.self.view_is is in
-    let stands = stands_among before left right view entries own in
-    none_seen before left right view entries own c.args.key.now
-    (c.replace.ensures.missing honest agrees own.planted.levels stands.tree no)
+returns-then-self-eq0-clause-missing g c = missing_among g.D.Device c.self.view_is c.replace.ensures.missing
 
 pub returns-then-self-eq0-clause-damaged : goal.returns-then-self-eq0-clause-damaged
-returns-then-self-eq0-clause-damaged g c = λ honest agrees left right entries is told.
-    let image = (g.D.Device.state c.args.device.now).disk.present in
-    let before = pages_of_map c.args.pages.now image in
-    let view = chained c.self.inside.tree c.self.inside.record_bytes in
-    let own = viewed before left right view _ entries c.self.view_is is in
-    let stands = stands_among before left right view entries own in
-    c.replace.ensures.damaged honest agrees told own.planted.levels stands.tree
+returns-then-self-eq0-clause-damaged g c =
+    never_among g.D.Device c.self.view_is c.replace.ensures.damaged (λ told. told)
 
 pub returns-in_err-entry-clause-edits : goal.returns-in_err-entry-clause-edits
 returns-in_err-entry-clause-edits g c =
-    let got = c.in_err-entry.ensures in
-    passed c.from_residual.result c.in_err-entry.field-0.0 c.from_residual.ensures.1
-    (λ r. EditsPages g.D.Device (r ≡ Err Device) c.args.pages.now c.args.device.now c.get.new.pages c.get.new.device)
-    (edits_where g.D.Device _ _ _ _ _ _ (λ is. still_error is)
-    (looks_edits g.D.Device _ _ _ _ _ (looks_by g.D.Device _ _ _ _ _ got.only got.unchanged got.agrees)))
+    let got = c.get.ensures in
+    let passed = refused_by_call c.in_err-entry.was c.from_residual.ensures.1 in
+    read_edits g.D.Device passed got.only got.unchanged got.agrees
 
 pub returns-in_err-entry-clause-damaged : goal.returns-in_err-entry-clause-damaged
-returns-in_err-entry-clause-damaged g c = λ honest agrees left right entries is told.
-    let image = (g.D.Device.state c.args.device.now).disk.present in
-    let before = pages_of_map c.args.pages.now image in
-    let view = chained c.self.inside.tree c.self.inside.record_bytes in
-    let own = viewed before left right view _ entries c.self.view_is is in
-    let stands = stands_among before left right view entries own in
-    c.get.ensures.damaged honest agrees (refused_by_call c.in_err-entry.was c.from_residual.ensures.1 told)
-    own.planted.levels stands.tree
+returns-in_err-entry-clause-damaged g c =
+    never_among g.D.Device c.self.view_is c.get.ensures.damaged
+    (refused_by_call c.in_err-entry.was c.from_residual.ensures.1)
 
 pub returns-in_err-entry-clause-cause : goal.returns-in_err-entry-clause-cause
 returns-in_err-entry-clause-cause g c =
-    passed c.from_residual.result c.in_err-entry.field-0.0 c.from_residual.ensures.1 (λ r. IfErr r IsChangeRefusal)
+    passed _ _ c.from_residual.ensures.1 (λ r. IfErr r IsChangeRefusal)
     (search_is_change c.self.inside.tree.layout c.in_err-entry.field-0.0 c.in_err-entry.ensures.cause)
 
 pub returns-in-None-clause-edits : goal.returns-in-None-clause-edits
 returns-in-None-clause-edits g c =
     let got = c.get.ensures in
-    edits_where g.D.Device _ _ _ _ _ _ (λ is. never_ok is)
-    (looks_edits g.D.Device _ _ _ _ _ (looks_by g.D.Device _ _ _ _ _ got.only got.unchanged got.agrees))
+    read_edits g.D.Device (λ is. never_ok is) got.only got.unchanged got.agrees
 
 pub returns-in-None-clause-missing : goal.returns-in-None-clause-missing
-returns-in-None-clause-missing g c = λ honest agrees left right entries is no.
-    let image = (g.D.Device.state c.args.device.now).disk.present in
-    let before = pages_of_map c.args.pages.now image in
-    let view = chained c.self.inside.tree c.self.inside.record_bytes in
-    let own = viewed before left right view _ entries c.self.view_is is in
-    let stands = stands_among before left right view entries own in
-    none_seen before left right view entries own c.args.key.now
-    (sym (c.in_ok-entry.ensures.entry honest agrees own.planted.levels stands.tree) ∙ c.in-None.is)
+returns-in-None-clause-missing g c =
+    missing_among g.D.Device c.self.view_is
+    (λ honest agrees levels tree no. sym (c.in_ok-entry.ensures.entry honest agrees levels tree) ∙ c.in-None.is)
 
 pub returns-then-self-eq0-clause-replaced : goal.returns-then-self-eq0-clause-replaced
-returns-then-self-eq0-clause-replaced g c = λ honest agrees left right entries is ok.
-    let image = (g.D.Device.state c.args.device.now).disk.present in
-    let before = pages_of_map c.args.pages.now image in
-    let view = chained c.self.inside.tree c.self.inside.record_bytes in
-    let own = viewed before left right view _ entries c.self.view_is is in
-    let stands = stands_among before left right view entries own in
-    let after = pages_of_map c.replace.new.pages image in
-    let told = c.replace.ensures.replaced honest agrees own.planted.levels stands.tree ok in
-    subst (λ (t : ChainedTree). IsSome (entry_with entries c.args.key.now)
-    × IsRowTreeAmong after left right t (with_value entries (pair c.args.key.now c.args.value.now))) c.self.view_is
-    (replaced_short before after left right view entries own c.args.key.now c.args.value.now c.if-self-eq0.true told.0
-    told.1)
+returns-then-self-eq0-clause-replaced g c =
+    replaced_among g.D.Device c.replace.new.pages c.self.view_is c.if-self-eq0.true c.replace.ensures.replaced
 
 pub returns-then-self-eq0-clause-changed_pages : goal.returns-then-self-eq0-clause-changed_pages
 returns-then-self-eq0-clause-changed_pages g c =
@@ -106,47 +67,32 @@ returns-then-self-eq0-clause-tree g c =
     same_chained _ _ c.self.inside.record_bytes _ c.replace.ensures.tree c.self.view_is
 
 pub returns-in_err-entry-clause-changed_pages : goal.returns-in_err-entry-clause-changed_pages
-returns-in_err-entry-clause-changed_pages g c =
-    few_equal (changed_pages_of c.args.pages.now) (changed_pages_of c.get.new.pages) _
-    c.get.ensures.unchanged.changed_pages
+returns-in_err-entry-clause-changed_pages g c = few_equal _ _ _ c.get.ensures.unchanged.changed_pages
 
 pub returns-in-None-clause-changed_pages : goal.returns-in-None-clause-changed_pages
-returns-in-None-clause-changed_pages g c =
-    few_equal (changed_pages_of c.args.pages.now) (changed_pages_of c.get.new.pages) _
-    c.get.ensures.unchanged.changed_pages
+returns-in-None-clause-changed_pages g c = few_equal _ _ _ c.get.ensures.unchanged.changed_pages
 
 -- The chain was not rewritten.
 pub returns-in_err-rewrite-clause-edits : goal.returns-in_err-rewrite-clause-edits
 returns-in_err-rewrite-clause-edits g c =
     let got = c.get.ensures in
-    let put = c.in_err-rewrite.ensures in
-    passed c.from_residual-in_err-rewrite.result c.in_err-rewrite.field-0.0 c.from_residual-in_err-rewrite.ensures.1
-    (λ r. EditsPages g.D.Device (r ≡ Err Device) c.args.pages.now c.args.device.now c.rewrite.new.pages
-    c.rewrite.new.device)
-    (edits_last g.D.Device _ _ _ _ _ _ _ _ _ (λ is. still_error is)
-    (looks_edits g.D.Device _ _ _ _ _ (looks_by g.D.Device _ _ _ _ _ got.only got.unchanged got.agrees))
-    (edits_by g.D.Device _ _ _ _ _ put.only put.committed put.catalog put.agrees))
+    let put = c.rewrite.ensures in
+    edits_after g.D.Device (looks_by g.D.Device _ _ _ _ _ got.only got.unchanged got.agrees)
+    (edits_by g.D.Device _ _ _ _ _ put.only put.committed put.catalog put.agrees)
+    (refused_by_call c.in_err-rewrite.was c.from_residual-in_err-rewrite.ensures.1)
 
 pub returns-in_err-rewrite-clause-damaged : goal.returns-in_err-rewrite-clause-damaged
-returns-in_err-rewrite-clause-damaged g c = λ honest agrees left right entries is told.
-    let image = (g.D.Device.state c.args.device.now).disk.present in
-    let before = pages_of_map c.args.pages.now image in
-    let view = chained c.self.inside.tree c.self.inside.record_bytes in
-    let own = viewed before left right view _ entries c.self.view_is is in
-    let stands = stands_among before left right view entries own in
+returns-in_err-rewrite-clause-damaged g c =
     let got = c.get.ensures in
-    let looks = looks_by g.D.Device _ _ _ _ _ got.only got.unchanged got.agrees in
-    let found = sym (c.in_ok-entry.ensures.entry honest agrees own.planted.levels stands.tree) ∙ c.in-Some.is in
-    let first_is = c.first_page-first.ensures ∙ ap (big_number 4) c.value.ensures in
-    rewrite_never g.D.Device _ c.args.pages.now c.get.new.pages c.args.device.now c.get.new.device view
-    c.args.key.now c.in-Some.entry own.planted.levels (length c.split_at.result.0.now) c.first_page-first.result _ looks
-    c.rewrite.ensures.damaged c.split_at.ensures.front_len first_is c.if-self-eq0.false honest agrees stands found
-    (refused_by_call c.in_err-rewrite.was c.from_residual-in_err-rewrite.ensures.1 told)
+    rewrite_never g.D.Device (looks_by g.D.Device _ _ _ _ _ got.only got.unchanged got.agrees) c.self.view_is
+    (λ honest agrees levels tree. sym (c.in_ok-entry.ensures.entry honest agrees levels tree) ∙ c.in-Some.is)
+    c.rewrite.ensures.damaged c.split_at.ensures.front_len
+    (c.first_page-first.ensures ∙ ap (big_number 4) c.value.ensures) c.if-self-eq0.false
+    (refused_by_call c.in_err-rewrite.was c.from_residual-in_err-rewrite.ensures.1)
 
 pub returns-in_err-rewrite-clause-changed_pages : goal.returns-in_err-rewrite-clause-changed_pages
 returns-in_err-rewrite-clause-changed_pages g c =
-    few_laid (changed_pages_of c.args.pages.now) (changed_pages_of c.get.new.pages)
-    (changed_pages_of c.rewrite.new.pages) _ _ 1 c.get.ensures.unchanged.changed_pages c.rewrite.ensures.changed_pages
+    few_laid _ _ _ _ _ 1 c.get.ensures.unchanged.changed_pages c.rewrite.ensures.changed_pages
     (c.split_at.ensures.front_len ∙ ap (λ (t : ChainedTree). t.record_bytes) c.self.view_is)
 
 pub returns-in_err-rewrite-clause-spent : goal.returns-in_err-rewrite-clause-spent
@@ -173,11 +119,8 @@ writes g c = let got = c.get.ensures in
 
 pub returns-then-is_same-clause-edits : goal.returns-then-is_same-clause-edits
 returns-then-is_same-clause-edits g c =
-    let got = c.get.ensures in
-    let put = c.rewrite.ensures in
-    edits_last g.D.Device _ _ _ _ _ _ _ _ _ (λ is. never_ok is)
-    (looks_edits g.D.Device _ _ _ _ _ (looks_by g.D.Device _ _ _ _ _ got.only got.unchanged got.agrees))
-    (edits_by g.D.Device _ _ _ _ _ put.only put.committed put.catalog put.agrees)
+    let write = writes g (goal.at.returns-then-is_same-clause-edits g c).In_ok-rewrite in
+    edits_after g.D.Device write.looks write.edits (λ is. never_ok is)
 
 pub returns-then-is_same-clause-replaced : goal.returns-then-is_same-clause-replaced
 returns-then-is_same-clause-replaced g c =
@@ -189,24 +132,14 @@ returns-then-is_same-clause-replaced g c =
 
 pub returns-then-is_same-clause-changed_pages : goal.returns-then-is_same-clause-changed_pages
 returns-then-is_same-clause-changed_pages g c =
-    few_laid (changed_pages_of c.args.pages.now) (changed_pages_of c.get.new.pages)
-    (changed_pages_of c.rewrite.new.pages) _ _ 1 c.get.ensures.unchanged.changed_pages c.rewrite.ensures.changed_pages
+    few_laid _ _ _ _ _ 1 c.get.ensures.unchanged.changed_pages c.rewrite.ensures.changed_pages
     (c.split_at.ensures.front_len ∙ ap (λ (t : ChainedTree). t.record_bytes) c.self.view_is)
 
 -- The entry was not written.
 pub returns-in_err-replaced-clause-edits : goal.returns-in_err-replaced-clause-edits
 returns-in_err-replaced-clause-edits g c =
-    let got = c.get.ensures in
-    let put = c.rewrite.ensures in
-    let end = c.in_err-replaced.ensures in
-    passed c.from_residual-in_err-replaced.result c.in_err-replaced.field-0.0 c.from_residual-in_err-replaced.ensures.1
-    (λ r. EditsPages g.D.Device (r ≡ Err Device) c.args.pages.now c.args.device.now c.replace-2.new.pages
-    c.replace-2.new.device)
-    (edits_last g.D.Device _ _ _ _ _ _ _ _ _ (λ is. still_error is)
-    (edits_last g.D.Device _ _ ⊥ _ _ _ _ _ _ (λ never. absurd never)
-    (looks_edits g.D.Device _ _ _ _ _ (looks_by g.D.Device _ _ _ _ _ got.only got.unchanged got.agrees))
-    (edits_by g.D.Device _ _ _ _ _ put.only put.committed put.catalog put.agrees))
-    end.edits)
+    written_edits g.D.Device (writes g (goal.at.returns-in_err-replaced-clause-edits g c).In_ok-rewrite)
+    c.replace-2.ensures.edits (refused_by_call c.in_err-replaced.was c.from_residual-in_err-replaced.ensures.1)
 
 pub returns-in_err-replaced-clause-damaged : goal.returns-in_err-replaced-clause-damaged
 returns-in_err-replaced-clause-damaged g c =
@@ -216,9 +149,7 @@ returns-in_err-replaced-clause-damaged g c =
 
 pub returns-in_err-replaced-clause-changed_pages : goal.returns-in_err-replaced-clause-changed_pages
 returns-in_err-replaced-clause-changed_pages g c =
-    few_added (changed_pages_of c.args.pages.now) (changed_pages_of c.get.new.pages)
-    (changed_pages_of c.rewrite.new.pages) (changed_pages_of c.replace-2.new.pages) _ _ 1
-    c.get.ensures.unchanged.changed_pages c.rewrite.ensures.changed_pages
+    few_added _ _ _ _ _ _ 1 c.get.ensures.unchanged.changed_pages c.rewrite.ensures.changed_pages
     (c.split_at.ensures.front_len ∙ ap (λ (t : ChainedTree). t.record_bytes) c.self.view_is)
     c.replace-2.ensures.changed_pages
 
@@ -233,14 +164,8 @@ returns-in_err-replaced-clause-tree g c =
 
 pub returns-then-not-replaced-clause-edits : goal.returns-then-not-replaced-clause-edits
 returns-then-not-replaced-clause-edits g c =
-    let got = c.get.ensures in
-    let put = c.rewrite.ensures in
-    let end = c.replace-2.ensures in
-    edits_last g.D.Device _ _ _ _ _ _ _ _ _ (λ is. damaged_not_device is)
-    (edits_last g.D.Device _ _ ⊥ _ _ _ _ _ _ (λ never. absurd never)
-    (looks_edits g.D.Device _ _ _ _ _ (looks_by g.D.Device _ _ _ _ _ got.only got.unchanged got.agrees))
-    (edits_by g.D.Device _ _ _ _ _ put.only put.committed put.catalog put.agrees))
-    end.edits
+    written_edits g.D.Device (writes g (goal.at.returns-then-not-replaced-clause-edits g c).In_ok-rewrite)
+    c.replace-2.ensures.edits (λ is. damaged_not_device is)
 
 pub returns-then-not-replaced-clause-damaged : goal.returns-then-not-replaced-clause-damaged
 returns-then-not-replaced-clause-damaged g c = λ honest agrees left right entries is told.
@@ -252,9 +177,7 @@ returns-then-not-replaced-clause-damaged g c = λ honest agrees left right entri
 
 pub returns-then-not-replaced-clause-changed_pages : goal.returns-then-not-replaced-clause-changed_pages
 returns-then-not-replaced-clause-changed_pages g c =
-    few_added (changed_pages_of c.args.pages.now) (changed_pages_of c.get.new.pages)
-    (changed_pages_of c.rewrite.new.pages) (changed_pages_of c.replace-2.new.pages) _ _ 1
-    c.get.ensures.unchanged.changed_pages c.rewrite.ensures.changed_pages
+    few_added _ _ _ _ _ _ 1 c.get.ensures.unchanged.changed_pages c.rewrite.ensures.changed_pages
     (c.split_at.ensures.front_len ∙ ap (λ (t : ChainedTree). t.record_bytes) c.self.view_is)
     c.replace-2.ensures.changed_pages
 
@@ -265,14 +188,8 @@ returns-then-not-replaced-clause-tree g c =
 -- It was.
 pub returns-clause-edits : goal.returns-clause-edits
 returns-clause-edits g c =
-    let got = c.get.ensures in
-    let put = c.rewrite.ensures in
-    let end = c.replace-2.ensures in
-    edits_last g.D.Device _ _ _ _ _ _ _ _ _ (λ is. never_ok is)
-    (edits_last g.D.Device _ _ ⊥ _ _ _ _ _ _ (λ never. absurd never)
-    (looks_edits g.D.Device _ _ _ _ _ (looks_by g.D.Device _ _ _ _ _ got.only got.unchanged got.agrees))
-    (edits_by g.D.Device _ _ _ _ _ put.only put.committed put.catalog put.agrees))
-    end.edits
+    written_edits g.D.Device (writes g (goal.at.returns-clause-edits g c).In_ok-rewrite) c.replace-2.ensures.edits
+    (λ is. never_ok is)
 
 pub returns-clause-replaced : goal.returns-clause-replaced
 returns-clause-replaced g c =
@@ -284,9 +201,7 @@ returns-clause-replaced g c =
 
 pub returns-clause-changed_pages : goal.returns-clause-changed_pages
 returns-clause-changed_pages g c =
-    few_added (changed_pages_of c.args.pages.now) (changed_pages_of c.get.new.pages)
-    (changed_pages_of c.rewrite.new.pages) (changed_pages_of c.replace-2.new.pages) _ _ 1
-    c.get.ensures.unchanged.changed_pages c.rewrite.ensures.changed_pages
+    few_added _ _ _ _ _ _ 1 c.get.ensures.unchanged.changed_pages c.rewrite.ensures.changed_pages
     (c.split_at.ensures.front_len ∙ ap (λ (t : ChainedTree). t.record_bytes) c.self.view_is)
     c.replace-2.ensures.changed_pages
 
@@ -297,69 +212,48 @@ returns-clause-tree g c =
 -- What a refusal or another answer rules out.
 pub returns-in_err-entry-clause-replaced : goal.returns-in_err-entry-clause-replaced
 returns-in_err-entry-clause-replaced g c =
-    λ honest agrees left right entries is ok.
-    never_answered c.from_residual.result c.in_err-entry.field-0.0 c.from_residual.ensures.1 ok
+    λ honest agrees left right entries is ok. never_answered _ c.from_residual.ensures.1 ok
 
 pub returns-in_err-entry-clause-missing : goal.returns-in_err-entry-clause-missing
 returns-in_err-entry-clause-missing g c =
-    λ honest agrees left right entries is ok.
-    never_answered c.from_residual.result c.in_err-entry.field-0.0 c.from_residual.ensures.1 ok
+    λ honest agrees left right entries is ok. never_answered _ c.from_residual.ensures.1 ok
 
 pub returns-in_err-entry-clause-same : goal.returns-in_err-entry-clause-same
-returns-in_err-entry-clause-same g c =
-    λ ok.
-    never_answered c.from_residual.result c.in_err-entry.field-0.0 c.from_residual.ensures.1 ok
+returns-in_err-entry-clause-same g c = λ ok. never_answered _ c.from_residual.ensures.1 ok
 
 pub returns-in_err-rewrite-clause-replaced : goal.returns-in_err-rewrite-clause-replaced
 returns-in_err-rewrite-clause-replaced g c =
-    λ honest agrees left right entries is ok.
-    never_answered c.from_residual-in_err-rewrite.result c.in_err-rewrite.field-0.0
-    c.from_residual-in_err-rewrite.ensures.1 ok
+    λ honest agrees left right entries is ok. never_answered _ c.from_residual-in_err-rewrite.ensures.1 ok
 
 pub returns-in_err-rewrite-clause-missing : goal.returns-in_err-rewrite-clause-missing
 returns-in_err-rewrite-clause-missing g c =
-    λ honest agrees left right entries is ok.
-    never_answered c.from_residual-in_err-rewrite.result c.in_err-rewrite.field-0.0
-    c.from_residual-in_err-rewrite.ensures.1 ok
+    λ honest agrees left right entries is ok. never_answered _ c.from_residual-in_err-rewrite.ensures.1 ok
 
 pub returns-in_err-rewrite-clause-same : goal.returns-in_err-rewrite-clause-same
-returns-in_err-rewrite-clause-same g c =
-    λ ok.
-    never_answered c.from_residual-in_err-rewrite.result c.in_err-rewrite.field-0.0
-    c.from_residual-in_err-rewrite.ensures.1 ok
+returns-in_err-rewrite-clause-same g c = λ ok. never_answered _ c.from_residual-in_err-rewrite.ensures.1 ok
 
 pub returns-in_err-replaced-clause-replaced : goal.returns-in_err-replaced-clause-replaced
 returns-in_err-replaced-clause-replaced g c =
-    λ honest agrees left right entries is ok.
-    never_answered c.from_residual-in_err-replaced.result c.in_err-replaced.field-0.0
-    c.from_residual-in_err-replaced.ensures.1 ok
+    λ honest agrees left right entries is ok. never_answered _ c.from_residual-in_err-replaced.ensures.1 ok
 
 pub returns-in_err-replaced-clause-missing : goal.returns-in_err-replaced-clause-missing
 returns-in_err-replaced-clause-missing g c =
-    λ honest agrees left right entries is ok.
-    never_answered c.from_residual-in_err-replaced.result c.in_err-replaced.field-0.0
-    c.from_residual-in_err-replaced.ensures.1 ok
+    λ honest agrees left right entries is ok. never_answered _ c.from_residual-in_err-replaced.ensures.1 ok
 
 pub returns-in_err-replaced-clause-same : goal.returns-in_err-replaced-clause-same
-returns-in_err-replaced-clause-same g c =
-    λ ok.
-    never_answered c.from_residual-in_err-replaced.result c.in_err-replaced.field-0.0
-    c.from_residual-in_err-replaced.ensures.1 ok
+returns-in_err-replaced-clause-same g c = λ ok. never_answered _ c.from_residual-in_err-replaced.ensures.1 ok
 
 pub returns-in_err-entry-clause-spent : goal.returns-in_err-entry-clause-spent
 returns-in_err-entry-clause-spent g c =
-    λ is.
-    (c.get.ensures.spent.0 (refused_by_call c.in_err-entry.was c.from_residual.ensures.1 is)).0
+    λ is. (c.get.ensures.spent.0 (refused_by_call c.in_err-entry.was c.from_residual.ensures.1 is)).0
 
 pub returns-in_err-rewrite-clause-cause : goal.returns-in_err-rewrite-clause-cause
 returns-in_err-rewrite-clause-cause g c =
-    passed c.from_residual-in_err-rewrite.result c.in_err-rewrite.field-0.0 c.from_residual-in_err-rewrite.ensures.1
-    (λ r. IfErr r IsChangeRefusal) c.in_err-rewrite.ensures.cause
+    passed _ _ c.from_residual-in_err-rewrite.ensures.1 (λ r. IfErr r IsChangeRefusal) c.in_err-rewrite.ensures.cause
 
 pub returns-in_err-replaced-clause-cause : goal.returns-in_err-replaced-clause-cause
 returns-in_err-replaced-clause-cause g c =
-    passed c.from_residual-in_err-replaced.result c.in_err-replaced.field-0.0 c.from_residual-in_err-replaced.ensures.1
-    (λ r. IfErr r IsChangeRefusal) c.in_err-replaced.ensures.cause
+    passed _ _ c.from_residual-in_err-replaced.ensures.1 (λ r. IfErr r IsChangeRefusal) c.in_err-replaced.ensures.cause
 
 pub returns-in-None-clause-replaced : goal.returns-in-None-clause-replaced
 returns-in-None-clause-replaced g c = λ honest agrees left right entries is ok. true_not_false (sym ok)
