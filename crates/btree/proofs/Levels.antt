@@ -24,7 +24,7 @@ pub record HasRows (layout : RowLayout) (node : TreeNode) : Type 0 where
   pub some : 1 ≤ length node.rows
   pub lengths : All (λ row. layout.key_length ≤ length row) node.rows
 
-least_is_enough : (kind : Kind) → 1 ≤ fewest kind
+pub least_is_enough : (kind : Kind) → 1 ≤ fewest kind
 least_is_enough Leaf = omega arith
 least_is_enough Inner = omega arith
 

@@ -139,7 +139,7 @@ impl Tree {
                 found: true,
             });
         }
-        self.find_right(pages, device, way.right, entry)
+        self.find_right(pages, device, &way.right, entry)
     }
 
     /// The same of the first entry to the right of a leaf: that of the first key there, if there is one.
@@ -149,7 +149,7 @@ impl Tree {
         &self,
         pages: &mut PageMap,
         device: &mut D,
-        right: Option<Key>,
+        right: &Option<Key>,
         entry: &mut Entry,
     ) -> Result<SearchEnd, PagesError>
         requires sectors { FitsDevice D.Device pages.old device.old }
@@ -159,7 +159,7 @@ impl Tree {
         ensures entry { OnPages D.Device pages.old device.old
             (λ before. (levels : List (List TreeNode)) → IsTree self.now.layout before self.now.root
             levels → (passed after : List (List ℕ)) → rows_in_order levels ≡ passed ++ after
-            → right ≡ first_key self.now.layout after → IfOk result
+            → right.now ≡ first_key self.now.layout after → IfOk result
             (λ end. if_found end.found entry.new
             ≡ first_entry (entries_of_rows self.now.layout after))) }
         ensures leaf { OnPages D.Device pages.old device.old
@@ -169,7 +169,7 @@ impl Tree {
             (λ before. result ≡ Err PagesError.Damaged → (levels : List (List TreeNode))
             → IsTree self.now.layout before self.now.root levels
             → (passed after : List (List ℕ)) → rows_in_order levels ≡ passed ++ after
-            → right ≡ first_key self.now.layout after → ⊥) }
+            → right.now ≡ first_key self.now.layout after → ⊥) }
         ensures spent { OnlyIfSpent pages.old result }
         ensures lengths { IfOk result
             (λ end. end.found ≡ true → HasLengths self.now.layout entry.new) }

@@ -51,7 +51,9 @@ impl Tree {
             return Ok(false);
         }
         let way = follow(alloc, pages, device, layout, top, key)?;
-        if set_value_in(pages, layout, way.page, key, value)? {
+        let page = way.page;
+        drop(way);
+        if set_value_in(pages, layout, page, key, value)? {
             return Ok(true);
         }
         self.replace_slowly(pages, device, key, value)

@@ -1,6 +1,9 @@
-use Rattle.std.proofs.Common.{◌≡◌, ◌++◌, subst, arith, rules}
+use Rattle.std.proofs.Common.{◌≡◌, ◌++◌, length, sym, ap, subst, ◌∙◌, arith, rules}
 use Rattle.std.specs.Prelude.{Some}
+use Rattle.btree_pages.specs.declared.row_layout.Kind.{Kind}
+use Rattle.btree_pages.specs.declared.row_layout.Kind.TheVariants.{Leaf}
 use Rattle.btree_pages.specs.declared.row_layout.RowLayout.{RowLayout}
+use Rattle.btree_pages.specs.RowLayouts.{rest_length}
 use Rattle.btree_pages.specs.Node.{node_in}
 use Rattle.btree_pages.specs.Edits.{node_with_row}
 use Rattle.btree.proofs.enter_leaf.spell_entered.Goals as goal
@@ -19,3 +22,10 @@ returns c = λ _. record {
       ≡ Some (node_with_row c.in-Ok.node c.in-Err-find.place (c.args.key.now ++ c.args.value.now)))
       c.in-Ok.ensures.shape.0 c.spell_inserted.ensures.reads;
 }
+
+pub spell_inserted-requires-clause-rest : goal.spell_inserted-requires-clause-rest
+spell_inserted-requires-clause-rest c =
+    let node = c.in-Ok.node in
+    let kind_is : node.kind ≡ Leaf = search rules in
+    subst (λ (kind : Kind). length c.args.value.now ≡ rest_length node.layout kind) (sym kind_is)
+    (c.requires.value ∙ ap (λ (layout : RowLayout). layout.value_length) (sym c.in-Ok.ensures.shape.0))

@@ -1,4 +1,5 @@
 use Rattle.std.proofs.Common.{arith}
+use Rattle.std.proofs.lemmas.Grind.{common_steps}
 use Rattle.btree.proofs.JoinedPairs.{even_cut, joined_cut}
 use Rattle.btree.proofs.Sharing.{cut_joined}
 use Rattle.btree.proofs.rebalance.share_rows.Goals as goal
@@ -40,3 +41,9 @@ returns-then-count-clause-right_even c = (even_cut c.count-then-count-2.result c
       c.count-then-count-2.ensures.rows,
     ))
     c.split_off-rest.ensures.left c.split_off-rest.ensures.right c.append.ensures).1
+
+pub returns-clause-left_even : goal.returns-clause-left_even
+returns-clause-left_even c = grind (arith, common_steps)
+
+pub returns-clause-right_even : goal.returns-clause-right_even
+returns-clause-right_even c = grind (arith, common_steps)

@@ -2,9 +2,10 @@ use Rattle.std.proofs.Common.{◌≡◌, ◌≤◌, ◌<◌, ◌∙◌, ap, sym,
 use Rattle.std.specs.Prelude.{Some, Err, OnErr}
 use Rattle.pages.specs.declared.error.PagesError.TheVariants.{Damaged}
 use Rattle.btree_pages.specs.declared.row_layout.RowLayout.{RowLayout}
-use Rattle.btree_pages.specs.declared.row_layout.Kind.TheVariants.{Leaf}
+use Rattle.btree_pages.specs.declared.row_layout.Kind.TheVariants.{Inner, Leaf}
 use Rattle.btree.specs.Entries.{Entry, HasLengths}
 use Rattle.btree.proofs.Answering.{below_not_here, entry_there, first_at_end, missing_not_here}
+use Rattle.btree.proofs.Levels.{least_is_enough}
 use Rattle.btree.proofs.Passing.{passed, still_error, never_ok, if_refused}
 use Rattle.btree.proofs.sought.look_in.Goals as goal
 
@@ -25,6 +26,23 @@ returns-in_err-node-clause-look c =
 pub returns-in_err-node-clause-lengths : goal.returns-in_err-node-clause-lengths
 returns-in_err-node-clause-lengths c =
     if_refused c.from_residual.result c.in_err-node.field-0.0 c.from_residual.ensures.1 _
+
+pub returns-then-eq-clause-look : goal.returns-then-eq-clause-look
+returns-then-eq-clause-look c =
+    let inner : c.in_ok-node.node.kind ≡ Inner = search rules in
+    record {
+      node = c.in_ok-node.node;
+      read = c.in_ok-node.ensures.node;
+      layout_is = c.in_ok-node.ensures.shape.0;
+      inner = inner;
+      place = c.child_place-place.result;
+      chosen = c.child_place-place.ensures.chosen;
+      child_is = c.child-page.ensures;
+    }
+
+pub child_place-place-requires : goal.child_place-place-requires
+child_place-place-requires c =
+    omega (arith, least_is_enough c.in_ok-node.node.kind, c.in_ok-node.ensures.shape.1)
 
 pub returns-then-eq-clause-lengths : goal.returns-then-eq-clause-lengths
 returns-then-eq-clause-lengths c = λ is. below_not_here is

@@ -25,8 +25,8 @@ pub returns-clause-damaged : goal.returns-clause-damaged
 returns-clause-damaged g c = λ honest agrees told levels tree passed after around beside.
     let inside = tree_inside c.args.self.now _ _ (pages_on g.D.Device c.args.pages.now c.args.device.now) levels
     c.self.view_is tree in
-    right_there c.args.self.now.layout levels passed after c.args.right c.in-Some.right c.in-Some.is tree.ascend around
-    beside
+    right_there c.args.self.now.layout levels passed after c.args.right.now c.in-Some.right c.in-Some.is tree.ascend
+    around beside
     (sym (ap (λ (b : Bool). if_found b c.search.new.entry) c.if-end.false) ∙ found_with c.args.self.now
     _ _ levels c.bytes-key.result.now c.in-Some.right c.search.new.entry c.in_ok-end.end.found c.self.view_is
     c.bytes-key.ensures (c.in_ok-end.ensures.finds honest agrees levels inside))
@@ -35,7 +35,7 @@ pub returns-then-end-clause-entry : goal.returns-then-end-clause-entry
 returns-then-end-clause-entry g c = λ honest agrees levels tree passed after around beside.
     let inside = tree_inside c.args.self.now _ _ (pages_on g.D.Device c.args.pages.now c.args.device.now) levels
     c.self.view_is tree in
-    right_is c.args.self.now.layout levels passed after c.args.right c.in-Some.right
+    right_is c.args.self.now.layout levels passed after c.args.right.now c.in-Some.right
     (if_found c.in_ok-end.end.found c.search.new.entry) c.in-Some.is tree.ascend around beside
     (found_with c.args.self.now _ _ levels c.bytes-key.result.now c.in-Some.right c.search.new.entry
     c.in_ok-end.end.found c.self.view_is c.bytes-key.ensures (c.in_ok-end.ensures.finds honest agrees levels inside))

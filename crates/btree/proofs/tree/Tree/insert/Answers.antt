@@ -6,11 +6,11 @@ use Rattle.btree_pages.specs.declared.row_layout.RowLayout.{RowLayout}
 use Rattle.btree.specs.Changes.{pages_of_map, Inserts}
 use Rattle.btree.proofs.Frames.{false_unless}
 use Rattle.btree.proofs.NamedTrees.{same_holds}
-use Rattle.std.specs.Prelude.{IfErr, Ok}
+use Rattle.std.specs.Prelude.{IfErr}
 use Rattle.std.proofs.Common.{◌↔◌, true, ◌∙◌}
 use Rattle.pages.specs.declared.error.PagesError.TheVariants.{Device}
 use Rattle.btree.specs.Refusals.{IsInsertRefusal}
-use Rattle.btree.proofs.Passing.{passed, never_ok, never_err, still_error}
+use Rattle.btree.proofs.Passing.{passed, never_ok, refused_never, still_error}
 use Rattle.btree.proofs.Passing.{false_not_true}
 use Rattle.btree.specs.Calls.{EditsPages}
 use Rattle.btree.proofs.EditedPages.{edits_where, takes_few, takes_few_ok}
@@ -64,22 +64,15 @@ returns-in_err-added-clause-cause g c = passed c.from_residual.result c.in_err-a
     (c.in_err-added.ensures.cause)
 
 pub returns-in_err-added-clause-inserted : goal.returns-in_err-added-clause-inserted
-returns-in_err-added-clause-inserted g c = λ honest agrees levels holds is.
-    absurd (passed c.from_residual.result c.in_err-added.field-0.0 c.from_residual.ensures.1
-    (λ r. r ≡ Ok true → ⊥)
-    (λ e. never_err e) is)
+returns-in_err-added-clause-inserted g c =
+    λ honest agrees levels holds is. refused_never _ _ _ c.from_residual.ensures.1 is
 
 pub returns-in_err-added-clause-there : goal.returns-in_err-added-clause-there
-returns-in_err-added-clause-there g c = λ honest agrees levels holds is.
-    absurd (passed c.from_residual.result c.in_err-added.field-0.0 c.from_residual.ensures.1
-    (λ r. r ≡ Ok false → ⊥)
-    (λ e. never_err e) is)
+returns-in_err-added-clause-there g c =
+    λ honest agrees levels holds is. refused_never _ _ _ c.from_residual.ensures.1 is
 
 pub returns-in_err-added-clause-same : goal.returns-in_err-added-clause-same
-returns-in_err-added-clause-same g c =
-    λ is. absurd (passed c.from_residual.result c.in_err-added.field-0.0 c.from_residual.ensures.1
-    (λ r. r ≡ Ok false → ⊥)
-    (λ e. never_err e) is)
+returns-in_err-added-clause-same g c = λ is. refused_never _ _ _ c.from_residual.ensures.1 is
 
 pub returns-in-None-clause-inserted : goal.returns-in-None-clause-inserted
 returns-in-None-clause-inserted g c = λ honest agrees levels holds is. false_not_true is

@@ -4,12 +4,12 @@ use Rattle.btree_pages.specs.declared.row_layout.RowLayout.{RowLayout}
 use Rattle.btree.specs.Tree.{IsTreeOrEmpty}
 use Rattle.btree.specs.Changes.{pages_of_map}
 use Rattle.btree.specs.Removals.{Removes}
-use Rattle.std.specs.Prelude.{IfErr, Err, Ok}
+use Rattle.std.specs.Prelude.{IfErr, Err}
 use Rattle.std.proofs.Common.{◌≡◌, ◌≢◌, ◌↔◌, true, ◌∙◌}
 use Rattle.pages.specs.Pages.{is_spent}
 use Rattle.pages.specs.declared.error.PagesError.TheVariants.{Device, Spent}
 use Rattle.btree.specs.Refusals.{IsChangeRefusal}
-use Rattle.btree.proofs.Passing.{passed, never_ok, never_err, still_error}
+use Rattle.btree.proofs.Passing.{passed, never_ok, refused_never, still_error}
 use Rattle.btree.proofs.Passing.{false_not_true}
 use Rattle.btree.specs.Calls.{EditsPages}
 use Rattle.btree.specs.TreeEdits.{OkOnlyIfEditsFew}
@@ -77,22 +77,15 @@ returns-in_err-removed-clause-cause g c =
     (c.in_err-removed.ensures.cause)
 
 pub returns-in_err-removed-clause-removed : goal.returns-in_err-removed-clause-removed
-returns-in_err-removed-clause-removed g c = λ honest agrees levels holds is.
-    absurd (passed c.from_residual.result c.in_err-removed.field-0.0 c.from_residual.ensures.1
-    (λ r. r ≡ Ok true → ⊥)
-    (λ e. never_err e) is)
+returns-in_err-removed-clause-removed g c =
+    λ honest agrees levels holds is. refused_never _ _ _ c.from_residual.ensures.1 is
 
 pub returns-in_err-removed-clause-missing : goal.returns-in_err-removed-clause-missing
-returns-in_err-removed-clause-missing g c = λ honest agrees levels holds is.
-    absurd (passed c.from_residual.result c.in_err-removed.field-0.0 c.from_residual.ensures.1
-    (λ r. r ≡ Ok false → ⊥)
-    (λ e. never_err e) is)
+returns-in_err-removed-clause-missing g c =
+    λ honest agrees levels holds is. refused_never _ _ _ c.from_residual.ensures.1 is
 
 pub returns-in_err-removed-clause-same : goal.returns-in_err-removed-clause-same
-returns-in_err-removed-clause-same g c =
-    λ is. absurd (passed c.from_residual.result c.in_err-removed.field-0.0 c.from_residual.ensures.1
-    (λ r. r ≡ Ok false → ⊥)
-    (λ e. never_err e) is)
+returns-in_err-removed-clause-same g c = λ is. refused_never _ _ _ c.from_residual.ensures.1 is
 
 pub returns-in-None-clause-removed : goal.returns-in-None-clause-removed
 returns-in-None-clause-removed g c = λ honest agrees levels holds is. false_not_true is

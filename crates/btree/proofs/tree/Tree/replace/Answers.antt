@@ -1,4 +1,4 @@
-use Rattle.std.proofs.Common.{false, ◌≡◌, ℕ, List, length, sym, ap, subst, ◌∙◌, arith, true}
+use Rattle.std.proofs.Common.{◌≡◌, ℕ, List, length, sym, ap, subst, ◌∙◌, arith, true}
 use Rattle.std.specs.Prelude.{Option, Ok}
 use Rattle.station.specs.Disk.{Sector}
 use Rattle.pages.specs.declared.page_map.PageMap.{PageMap}
@@ -10,7 +10,7 @@ use Rattle.std.proofs.Common.{◌≢◌, ◌↔◌, ◌≤◌, ◌+◌}
 use Rattle.pages.specs.Pages.{is_spent}
 use Rattle.pages.specs.declared.error.PagesError.TheVariants.{Damaged, Device, Spent}
 use Rattle.btree.specs.Refusals.{IsChangeRefusal}
-use Rattle.btree.proofs.Passing.{passed, never_ok, never_err, still_error}
+use Rattle.btree.proofs.Passing.{passed, never_ok, refused_never, still_error}
 use Rattle.btree.proofs.Passing.{put_is_rest, rest_is_change, search_is_change, put_not_device}
 use Rattle.btree.proofs.Passing.{put_not_damaged}
 use Rattle.btree.proofs.Passing.{sectors_on}
@@ -166,42 +166,26 @@ returns-in_err-set_value_in-clause-damaged g c =
     (λ e. put_not_damaged c.in_err-set_value_in.field-0.0 c.in_err-set_value_in.ensures.cause e) is
 
 pub returns-in_err-way-clause-replaced : goal.returns-in_err-way-clause-replaced
-returns-in_err-way-clause-replaced g c = λ honest agrees levels holds is.
-    absurd (passed c.from_residual.result c.in_err-way.field-0.0 c.from_residual.ensures.1
-    (λ r. r ≡ Ok true → ⊥)
-    (λ e. never_err e) is)
+returns-in_err-way-clause-replaced g c =
+    λ honest agrees levels holds is. refused_never _ _ _ c.from_residual.ensures.1 is
 
 pub returns-in_err-way-clause-missing : goal.returns-in_err-way-clause-missing
-returns-in_err-way-clause-missing g c = λ honest agrees levels holds is.
-    absurd (passed c.from_residual.result c.in_err-way.field-0.0 c.from_residual.ensures.1
-    (λ r. r ≡ Ok false → ⊥)
-    (λ e. never_err e) is)
+returns-in_err-way-clause-missing g c =
+    λ honest agrees levels holds is. refused_never _ _ _ c.from_residual.ensures.1 is
 
 pub returns-in_err-way-clause-same : goal.returns-in_err-way-clause-same
-returns-in_err-way-clause-same g c =
-    λ is. absurd (passed c.from_residual.result c.in_err-way.field-0.0 c.from_residual.ensures.1
-    (λ r. r ≡ Ok false → ⊥)
-    (λ e. never_err e) is)
+returns-in_err-way-clause-same g c = λ is. refused_never _ _ _ c.from_residual.ensures.1 is
 
 pub returns-in_err-set_value_in-clause-replaced : goal.returns-in_err-set_value_in-clause-replaced
 returns-in_err-set_value_in-clause-replaced g c =
-    λ honest agrees levels holds is. absurd (passed c.from_residual-in_err-set_value_in.result
-    c.in_err-set_value_in.field-0.0 c.from_residual-in_err-set_value_in.ensures.1
-    (λ r. r ≡ Ok true → ⊥)
-    (λ e. never_err e) is)
+    λ honest agrees levels holds is. refused_never _ _ _ c.from_residual-in_err-set_value_in.ensures.1 is
 
 pub returns-in_err-set_value_in-clause-missing : goal.returns-in_err-set_value_in-clause-missing
 returns-in_err-set_value_in-clause-missing g c =
-    λ honest agrees levels holds is. absurd (passed c.from_residual-in_err-set_value_in.result
-    c.in_err-set_value_in.field-0.0 c.from_residual-in_err-set_value_in.ensures.1
-    (λ r. r ≡ Ok false → ⊥)
-    (λ e. never_err e) is)
+    λ honest agrees levels holds is. refused_never _ _ _ c.from_residual-in_err-set_value_in.ensures.1 is
 
 pub returns-in_err-set_value_in-clause-same : goal.returns-in_err-set_value_in-clause-same
-returns-in_err-set_value_in-clause-same g c = λ is. absurd (passed c.from_residual-in_err-set_value_in.result
-    c.in_err-set_value_in.field-0.0 c.from_residual-in_err-set_value_in.ensures.1
-    (λ r. r ≡ Ok false → ⊥)
-    (λ e. never_err e) is)
+returns-in_err-set_value_in-clause-same g c = λ is. refused_never _ _ _ c.from_residual-in_err-set_value_in.ensures.1 is
 
 pub returns-then-top-eq0-clause-replaced : goal.returns-then-top-eq0-clause-replaced
 returns-then-top-eq0-clause-replaced g c = λ honest agrees levels holds is. false_not_true is

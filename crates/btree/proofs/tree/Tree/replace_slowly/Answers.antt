@@ -1,10 +1,10 @@
-use Rattle.std.proofs.Common.{false, ◌≡◌, List, ℕ, sym, subst, ◌∙◌}
-use Rattle.std.specs.Prelude.{IfErr, Err, Ok}
+use Rattle.std.proofs.Common.{◌≡◌, List, ℕ, sym, subst, ◌∙◌}
+use Rattle.std.specs.Prelude.{IfErr, Err}
 use Rattle.std.proofs.Common.{◌≢◌, ◌↔◌, ◌≤◌, ◌+◌, true, length}
 use Rattle.pages.specs.Pages.{is_spent, changed_pages_of, filled_of}
 use Rattle.pages.specs.declared.error.PagesError.TheVariants.{Device, Spent}
 use Rattle.btree.specs.Refusals.{IsChangeRefusal}
-use Rattle.btree.proofs.Passing.{passed, never_ok, never_err, still_error}
+use Rattle.btree.proofs.Passing.{passed, never_ok, refused_never, still_error}
 use Rattle.btree.proofs.Passing.{rest_is_change, search_is_change, rest_not_device}
 use Rattle.btree.proofs.Passing.{few_equal, few_same, false_not_true, search_is_change}
 use Rattle.btree.proofs.Frames.{unchanged_still}
@@ -145,40 +145,26 @@ pub returns-clause-same : goal.returns-clause-same
 returns-clause-same g c = λ is. false_not_true (sym is)
 
 pub returns-in_err-way-clause-replaced : goal.returns-in_err-way-clause-replaced
-returns-in_err-way-clause-replaced g c = λ honest agrees levels holds is.
-    absurd (passed c.from_residual.result c.in_err-way.field-0.0 c.from_residual.ensures.1
-    (λ r. r ≡ Ok true → ⊥)
-    (λ e. never_err e) is)
+returns-in_err-way-clause-replaced g c =
+    λ honest agrees levels holds is. refused_never _ _ _ c.from_residual.ensures.1 is
 
 pub returns-in_err-way-clause-missing : goal.returns-in_err-way-clause-missing
-returns-in_err-way-clause-missing g c = λ honest agrees levels holds is.
-    absurd (passed c.from_residual.result c.in_err-way.field-0.0 c.from_residual.ensures.1
-    (λ r. r ≡ Ok false → ⊥)
-    (λ e. never_err e) is)
+returns-in_err-way-clause-missing g c =
+    λ honest agrees levels holds is. refused_never _ _ _ c.from_residual.ensures.1 is
 
 pub returns-in_err-way-clause-same : goal.returns-in_err-way-clause-same
-returns-in_err-way-clause-same g c =
-    λ is. absurd (passed c.from_residual.result c.in_err-way.field-0.0 c.from_residual.ensures.1
-    (λ r. r ≡ Ok false → ⊥)
-    (λ e. never_err e) is)
+returns-in_err-way-clause-same g c = λ is. refused_never _ _ _ c.from_residual.ensures.1 is
 
 pub returns-in_err-put_rest-clause-replaced : goal.returns-in_err-put_rest-clause-replaced
-returns-in_err-put_rest-clause-replaced g c = λ honest agrees levels holds is. absurd
-    (passed c.from_residual-in_err-put_rest.result c.in_err-put_rest.field-0.0 c.from_residual-in_err-put_rest.ensures.1
-    (λ r. r ≡ Ok true → ⊥)
-    (λ e. never_err e) is)
+returns-in_err-put_rest-clause-replaced g c =
+    λ honest agrees levels holds is. refused_never _ _ _ c.from_residual-in_err-put_rest.ensures.1 is
 
 pub returns-in_err-put_rest-clause-missing : goal.returns-in_err-put_rest-clause-missing
-returns-in_err-put_rest-clause-missing g c = λ honest agrees levels holds is. absurd
-    (passed c.from_residual-in_err-put_rest.result c.in_err-put_rest.field-0.0 c.from_residual-in_err-put_rest.ensures.1
-    (λ r. r ≡ Ok false → ⊥)
-    (λ e. never_err e) is)
+returns-in_err-put_rest-clause-missing g c =
+    λ honest agrees levels holds is. refused_never _ _ _ c.from_residual-in_err-put_rest.ensures.1 is
 
 pub returns-in_err-put_rest-clause-same : goal.returns-in_err-put_rest-clause-same
-returns-in_err-put_rest-clause-same g c = λ is. absurd
-    (passed c.from_residual-in_err-put_rest.result c.in_err-put_rest.field-0.0 c.from_residual-in_err-put_rest.ensures.1
-    (λ r. r ≡ Ok false → ⊥)
-    (λ e. never_err e) is)
+returns-in_err-put_rest-clause-same g c = λ is. refused_never _ _ _ c.from_residual-in_err-put_rest.ensures.1 is
 
 pub returns-then-top-eq0-clause-edits : goal.returns-then-top-eq0-clause-edits
 returns-then-top-eq0-clause-edits g c =
