@@ -1,9 +1,9 @@
-pub mod Standing
-pub mod Except
-pub mod StatementLists
-pub mod Objects
-pub mod ReceiverLists
-pub mod FilePhrases
-pub mod Verbs
-pub mod Lines
+mod Standing
+mod Except
+mod StatementLists
+mod Objects
+mod ReceiverLists
+mod FilePhrases
+mod Verbs
+mod Lines
 pub mod Depth

@@ -59,7 +59,7 @@ operation_reader depth v.Multiply = multiply_reader
 operation_reader depth v.Divide = divide_reader
 operation_reader depth v.Compute = compute_reader depth
 
-unfoldable pub arithmetic_reader : ℕ → Parser (List Statement) → ArithmeticVerb → Parser (Verb Statement)
+unfoldable pub arithmetic_reader : {S : Type 0} → ℕ → Parser (List S) → ArithmeticVerb → Parser (Verb S)
 arithmetic_reader depth statements one = do
   what ← operation_reader depth one
   both ← two_sided_reader statements SizeError

@@ -19,10 +19,10 @@ conditional_statement depth statements (If asked done otherwise) =
     then phrase statements (word w.Else) otherwise then optional (word w.EndIf)
 conditional_statement depth statements (Evaluate one) = evaluate_statement depth statements one
 
-unfoldable pub otherwise_reader : Parser (List Statement) → Parser (Option (List Statement))
+unfoldable pub otherwise_reader : {S : Type 0} → Parser (List S) → Parser (Option (List S))
 otherwise_reader statements = phrase_reader statements (after_word w.Else)
 
-unfoldable pub conditional_reader : ℕ → Parser (List Statement) → Parser (Verb Statement)
+unfoldable pub conditional_reader : {S : Type 0} → ℕ → Parser (List S) → Parser (Verb S)
 conditional_reader depth statements = do
   expect w.If
   asked ← condition_reader depth

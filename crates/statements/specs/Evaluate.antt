@@ -73,16 +73,16 @@ when_reader depth = do
   objects ← listed_reader (object_reader depth)
   pure (record { place = place; objects = objects })
 
-unfoldable pub selected_reader : ℕ → Parser (List Statement) → Parser (Selected Statement)
+unfoldable pub selected_reader : {S : Type 0} → ℕ → Parser (List S) → Parser (Selected S)
 selected_reader depth statements = do
   whens ← r.several (when_reader depth) begins_when
   done ← statements
   pure (record { whens = whens; statements = done })
 
-unfoldable pub other_reader : Parser (List Statement) → Parser (Option (List Statement))
+unfoldable pub other_reader : {S : Type 0} → Parser (List S) → Parser (Option (List S))
 other_reader statements = phrase_reader statements after_when_other
 
-unfoldable pub evaluate_reader : ℕ → Parser (List Statement) → Parser (Verb Statement)
+unfoldable pub evaluate_reader : {S : Type 0} → ℕ → Parser (List S) → Parser (Verb S)
 evaluate_reader depth statements = do
   expect w.Evaluate
   subjects ← listed_reader (subject_reader depth)

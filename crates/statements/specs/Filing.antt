@@ -99,8 +99,8 @@ unfoldable pub start_key_reader : Parser (Option StartKey)
 start_key_reader i = start_key_at (after_word w.Key i) i
 
 -- `statements` reads the statements of the phrases.
-module _ (statements : Parser (List Statement)) where
-  unfoldable pub read_reader : Parser (FileStatement Statement)
+module _ {S : Type 0} (statements : Parser (List S)) where
+  unfoldable pub read_reader : Parser (FileStatement S)
   read_reader = do
     expect w.Read
     file ← r.name
@@ -113,28 +113,28 @@ module _ (statements : Parser (List Statement)) where
     pure (filing_as.Read file next into key phrases)
 
   -- a record, what it is stored from, and the phrases
-  unfoldable pub stored_reader : Parser (Reference × (Option Reference × FilePhrases Statement))
+  unfoldable pub stored_reader : Parser (Reference × (Option Reference × FilePhrases S))
   stored_reader = do
     row ← reference_reader
     from ← item_after_reader (after_word w.From)
     phrases ← key_phrases_reader statements
     pure (row, (from, phrases))
 
-  unfoldable pub write_reader : Parser (FileStatement Statement)
+  unfoldable pub write_reader : Parser (FileStatement S)
   write_reader = do
     expect w.Write
     stored ← stored_reader
     skip w.EndWrite
     pure (filing_as.Write stored.0 stored.1.0 stored.1.1)
 
-  unfoldable pub rewrite_reader : Parser (FileStatement Statement)
+  unfoldable pub rewrite_reader : Parser (FileStatement S)
   rewrite_reader = do
     expect w.Rewrite
     stored ← stored_reader
     skip w.EndRewrite
     pure (filing_as.Rewrite stored.0 stored.1.0 stored.1.1)
 
-  unfoldable pub delete_reader : Parser (FileStatement Statement)
+  unfoldable pub delete_reader : Parser (FileStatement S)
   delete_reader = do
     expect w.Delete
     file ← r.name
@@ -143,7 +143,7 @@ module _ (statements : Parser (List Statement)) where
     skip w.EndDelete
     pure (filing_as.Delete file phrases)
 
-  unfoldable pub start_reader : Parser (FileStatement Statement)
+  unfoldable pub start_reader : Parser (FileStatement S)
   start_reader = do
     expect w.Start
     file ← r.name
@@ -153,7 +153,7 @@ module _ (statements : Parser (List Statement)) where
     pure (filing_as.Start file key phrases)
 
   -- the verb decides
-  abbrev pub by_file_verb : FileVerb → Parser (FileStatement Statement)
+  abbrev pub by_file_verb : FileVerb → Parser (FileStatement S)
   by_file_verb v.Open = openings_reader
   by_file_verb v.Close = close_reader
   by_file_verb v.Read = read_reader
@@ -162,7 +162,7 @@ module _ (statements : Parser (List Statement)) where
   by_file_verb v.Delete = delete_reader
   by_file_verb v.Start = start_reader
 
-  unfoldable pub file_reader : FileVerb → Parser (Verb Statement)
+  unfoldable pub file_reader : FileVerb → Parser (Verb S)
   file_reader one = do
     found ← by_file_verb one
     pure (verb.FileStatement found)

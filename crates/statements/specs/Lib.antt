@@ -1,3 +1,4 @@
+pub mod Followed
 pub mod Verbs
 pub mod Accepting
 pub mod Receivers

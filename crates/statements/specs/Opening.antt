@@ -11,7 +11,6 @@ use Rattle.source_tree.specs.declared.name.Name.{Name}
 use Rattle.source_tree.specs.declared.file_statement.Opening.{Opening}
 use Rattle.source_tree.specs.declared.file_statement.FileStatement.{FileStatement}
 use Rattle.source_tree.specs.declared.file_statement.FileStatement.TheVariants.{Open, Close}
-use Rattle.source_tree.specs.declared.statement.Statement.{Statement}
 use Rattle.grammar.specs.Parts.{Part, ◌then◌, several, lookahead, token_with, begins_telling, word, name, begins_name}
 use Rattle.grammar.specs.Reading as r
 use Rattle.grammar.specs.Reading.{Parser, ◌>>=◌, ◌>>◌, pure, refuse, expect, one_token}
@@ -72,7 +71,7 @@ opened_turns (suc turns) found =
 unfoldable pub all_opened_reader : Parser (List Opening)
 all_opened_reader i = opened_turns (length i) [] i
 
-unfoldable pub openings_reader : Parser (FileStatement Statement)
+unfoldable pub openings_reader : {S : Type 0} → Parser (FileStatement S)
 openings_reader = do
   expect w.Open
   files ← all_opened_reader
@@ -84,7 +83,7 @@ openings_reader = do
 abbrev pub close_statement : List Name → Part
 close_statement files = word w.Close then several name (lookahead begins_name) files
 
-unfoldable pub close_reader : Parser (FileStatement Statement)
+unfoldable pub close_reader : {S : Type 0} → Parser (FileStatement S)
 close_reader = do
   expect w.Close
   files ← r.several r.name begins_name

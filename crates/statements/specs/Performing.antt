@@ -63,14 +63,14 @@ through_reader i = if begins_word w.Thru i then through_by w.Thru i else through
 unfoldable pub through_name_reader : Parser (Option Name)
 through_name_reader i = if begins_thru i then through_reader i else Ok (None, i)
 
-unfoldable pub procedures_reader : ℕ → Parser (Verb Statement)
+unfoldable pub procedures_reader : {S : Type 0} → ℕ → Parser (Verb S)
 procedures_reader depth = do
   first ← read.name
   last ← through_name_reader
   often ← turns_reader depth
   pure (verb.PerformStatement (record { performed = Procedures first last; turns = often }))
 
-unfoldable pub in_line_reader : ℕ → Parser (List Statement) → Parser (Verb Statement)
+unfoldable pub in_line_reader : {S : Type 0} → ℕ → Parser (List S) → Parser (Verb S)
 in_line_reader depth statements = do
   often ← turns_reader depth
   inside ← statements
@@ -81,10 +81,10 @@ in_line_reader depth statements = do
 abbrev pub begins_procedures : List Token → Bool
 begins_procedures i = begins_name i && not (is_some (after_reference_before w.Times i))
 
-abbrev pub performed_reader : ℕ → Parser (List Statement) → Parser (Verb Statement)
+abbrev pub performed_reader : {S : Type 0} → ℕ → Parser (List S) → Parser (Verb S)
 performed_reader depth statements i = if begins_procedures i then procedures_reader depth i else in_line_reader depth statements i
 
-unfoldable pub perform_reader : ℕ → Parser (List Statement) → Parser (Verb Statement)
+unfoldable pub perform_reader : {S : Type 0} → ℕ → Parser (List S) → Parser (Verb S)
 perform_reader depth statements = do
   expect w.Perform
   performed_reader depth statements

@@ -24,7 +24,7 @@ use Rattle.statements.specs.Setting.{set_reader}
 use Rattle.statements.specs.StopRun.{stop_run_reader}
 use Rattle.statements.specs.Stringing.{string_reader}
 
-unfoldable pub statements : Parser Statement → Parser (List Statement)
+unfoldable pub statements : {S : Type 0} → Parser S → Parser (List S)
 statements statement = several statement begins_statement
 
 -- `depth` is how deep what stands in a statement may still nest, and `statement` reads the statements that stand in it.

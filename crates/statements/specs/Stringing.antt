@@ -84,7 +84,7 @@ strung_reader = do
   receiver ← reference_reader
   pure (sendings, receiver)
 
-unfoldable pub string_reader : Parser (List Statement) → Parser (Verb Statement)
+unfoldable pub string_reader : {S : Type 0} → Parser (List S) → Parser (Verb S)
 string_reader statements = do
   expect w.String
   strung ← strung_reader

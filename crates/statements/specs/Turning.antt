@@ -7,6 +7,7 @@ use Rattle.tokens.specs.declared.token.Kind.TheVariants as k
 use Rattle.tokens.specs.declared.token.Token.{Token}
 use Rattle.source_tree.specs.declared.perform_statement.Repetition.{Repetition}
 use Rattle.source_tree.specs.declared.perform_statement.Repetition.TheVariants as turns_as
+use Rattle.source_tree.specs.declared.reference.Reference.{Reference}
 use Rattle.source_tree.specs.declared.until.TestTime.{TestTime}
 use Rattle.source_tree.specs.declared.until.TestTime.TheVariants.{Before, After}
 use Rattle.source_tree.specs.declared.until.Varying.{Varying}
@@ -89,6 +90,14 @@ varied_reader = do
   expect w.Varying
   item ← reference_reader
   expect w.From
+  from ← number_operand_reader
+  expect w.By
+  by ← number_operand_reader
+  pure (record { item = item; from = from; by = by })
+
+-- after FROM
+abbrev pub varied_from : Reference → Parser Varying
+varied_from item = do
   from ← number_operand_reader
   expect w.By
   by ← number_operand_reader

@@ -1,41 +1,39 @@
 //! Arithmetic statements.
 
 ghost use Rattle.std.specs.Prelude.{◌≡◌};
+ghost use Rattle.grammar.specs.Reading as read;
 ghost use Rattle.grammar.specs.Reading.{Reads};
 ghost use Rattle.statements.specs.Arithmetic as rule;
-ghost use Rattle.statements.specs.Nests.{Nests};
-ghost use Rattle.statements.specs.Reading as spec;
 
 use crate::add_statement::read_add;
 use crate::compute_statement::read_compute;
 use crate::divide_statement::read_divide;
 use crate::multiply_statement::read_multiply;
-use crate::nesting::Nesting;
 use crate::subtract_statement::read_subtract;
 use crate::verb::ArithmeticVerb;
-use grammar::{Phrase, ReadFault, Tokens, beside, two_sided};
-use source_tree::{Arithmetic, Operation, Statement, Verb};
+use grammar::{Part, Phrase, ReadFault, Tokens, beside, two_sided};
+use source_tree::{Arithmetic, Operation, Verb};
 use std::alloc::Global;
 use tokens::Reserved;
 
-impl<F: Fn(Global, &mut Tokens<'_>, usize) -> Result<Statement, ReadFault>> Nesting<F> {
-    /// From the verb on: what is computed, the SIZE ERROR phrases and the END word.
-    #[tactic(auto, unfolding(crate::specs::Arithmetic::arithmetic_reader, crate::specs::Reading::statements))]
-    pub fn arithmetic(
-        &self,
-        verb: ArithmeticVerb,
-        tokens: &mut Tokens<'_>,
-    ) -> Result<Verb<Statement>, ReadFault>
-        requires { Nests self.now.depth (F.pre self.now.statement) (F.post self.now.statement) }
-        ensures { Reads (rule.arithmetic_reader self.now.depth
-            (spec.statements (spec.statement self.now.depth)) verb tokens.old) result tokens.new }
-    {
-        let operation = operation(self.alloc, self.depth, verb, tokens)?;
-        let phrases = two_sided(Phrase::SizeError, self, self.alloc, tokens);
-        let (operation, phrases) = beside(operation, phrases)?;
-        tokens.skip(end_word(&operation));
-        Ok(Verb::Arithmetic(Arithmetic { operation, phrases }))
-    }
+/// From the verb on: what is computed, the SIZE ERROR phrases and the END word; `depth` is how deep an expression may nest.
+#[tactic(auto, unfolding(crate::specs::Arithmetic::arithmetic_reader))]
+pub fn arithmetic<S: Drop, P: Part<S>>(
+    statement: &P,
+    alloc: Global,
+    depth: usize,
+    verb: ArithmeticVerb,
+    tokens: &mut Tokens<'_>,
+) -> Result<Verb<S>, ReadFault>
+    requires { P.ready statement.now }
+    ensures { Reads (rule.arithmetic_reader depth (read.several (P.reading statement.now)
+        (P.beginning statement.now)) verb tokens.old) result tokens.new }
+{
+    let operation = operation(alloc, depth, verb, tokens)?;
+    let phrases = two_sided(Phrase::SizeError, statement, alloc, tokens);
+    let (operation, phrases) = beside(operation, phrases)?;
+    tokens.skip(end_word(&operation));
+    Ok(Verb::Arithmetic(Arithmetic { operation, phrases }))
 }
 
 /// What is computed, from the verb on; `depth` is how deep an expression may nest.

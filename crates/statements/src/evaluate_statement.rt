@@ -1,53 +1,57 @@
 //! EVALUATE.
 
-ghost use Rattle.std.specs.Prelude.{◌≡◌, ◌∷◌, IfOk};
+ghost use Rattle.std.specs.Prelude.{◌≡◌, ◌∷◌, IfErr, IfOk};
 ghost use Rattle.std.specs.Option.{option_copied};
+ghost use Rattle.grammar.specs.Reading as read;
 ghost use Rattle.grammar.specs.Reading.{Reads};
 ghost use Rattle.conditions.specs.Evaluate as asked;
 ghost use Rattle.statements.specs.Evaluate as rule;
-ghost use Rattle.statements.specs.Nests.{Nests};
-ghost use Rattle.statements.specs.Reading as spec;
 
-use crate::nesting::Nesting;
 use conditions::{object, subject};
 use grammar::{Part, ReadFault, Tokens, after_word, any, beside, phrase_at, several};
-use source_tree::{
-    ConditionalStatement, Evaluate, Object, Selected, Statement, Subject, Verb, When,
-};
+use source_tree::{ConditionalStatement, Evaluate, Object, Selected, Subject, Verb, When};
 use sqlite_items::Items;
-use std::alloc::{AllocError, Global};
+use std::alloc::Global;
 use tokens::{Reserved, Token};
 
-impl<F: Fn(Global, &mut Tokens<'_>, usize) -> Result<Statement, ReadFault>> Nesting<F> {
-    /// WHEN OTHER and its statements, where it stands.
-    #[tactic(auto, unfolding(crate::specs::Evaluate::other_reader, crate::specs::Reading::statements, grammar::specs::Phrases::phrase_reader))]
-    fn other(&self, tokens: &mut Tokens<'_>) -> Result<Option<Items<Statement>>, ReadFault>
-        requires { Nests self.now.depth (F.pre self.now.statement) (F.post self.now.statement) }
-        ensures { Reads (rule.other_reader (spec.statements (spec.statement self.now.depth))
-            tokens.old) result tokens.new }
-    {
-        let after = after_when_other(tokens.rest());
-        phrase_at(self, self.alloc, tokens, after)
-    }
+/// From the verb on; `depth` is how deep what the subjects and objects hold may nest.
+#[tactic(auto, unfolding(crate::specs::Evaluate::evaluate_reader))]
+pub fn read_evaluate<S: Drop, P: Part<S>>(
+    statement: &P,
+    alloc: Global,
+    depth: usize,
+    tokens: &mut Tokens<'_>,
+) -> Result<Verb<S>, ReadFault>
+    requires { P.ready statement.now }
+    ensures { Reads (rule.evaluate_reader depth (read.several (P.reading statement.now)
+        (P.beginning statement.now)) tokens.old) result tokens.new }
+{
+    tokens.expect(Reserved::Evaluate)?;
+    let subjects = subjects(alloc, depth, tokens)?;
+    let selected = several(&Selections { statement, depth }, alloc, tokens);
+    let head = beside(subjects, selected)?;
+    let ((subjects, selected), other) = beside(head, other(statement, alloc, tokens))?;
+    tokens.skip(Reserved::EndEvaluate);
+    Ok(Verb::ConditionalStatement(ConditionalStatement::Evaluate(Evaluate {
+        subjects,
+        selected,
+        other,
+    })))
+}
 
-    /// From the verb on.
-    #[tactic(auto, unfolding(crate::specs::Evaluate::evaluate_reader))]
-    pub fn read_evaluate(&self, tokens: &mut Tokens<'_>) -> Result<Verb<Statement>, ReadFault>
-        requires { Nests self.now.depth (F.pre self.now.statement) (F.post self.now.statement) }
-        ensures { Reads (rule.evaluate_reader self.now.depth
-            (spec.statements (spec.statement self.now.depth)) tokens.old) result tokens.new }
-    {
-        tokens.expect(Reserved::Evaluate)?;
-        let subjects = subjects(self.alloc, self.depth, tokens)?;
-        let selected = several(&Selections { nesting: self }, self.alloc, tokens)?;
-        let other = self.other(tokens)?;
-        tokens.skip(Reserved::EndEvaluate);
-        Ok(Verb::ConditionalStatement(ConditionalStatement::Evaluate(Evaluate {
-            subjects,
-            selected,
-            other,
-        })))
-    }
+/// WHEN OTHER and its statements, where it stands.
+#[tactic(auto, unfolding(crate::specs::Evaluate::other_reader, grammar::specs::Phrases::phrase_reader))]
+fn other<S: Drop, P: Part<S>>(
+    statement: &P,
+    alloc: Global,
+    tokens: &mut Tokens<'_>,
+) -> Result<Option<Items<S>>, ReadFault>
+    requires { P.ready statement.now }
+    ensures { Reads (rule.other_reader (read.several (P.reading statement.now)
+        (P.beginning statement.now)) tokens.old) result tokens.new }
+{
+    let after = after_when_other(tokens.rest());
+    phrase_at(statement, alloc, tokens, after)
 }
 
 /// ALSO and the subject after it.
@@ -73,8 +77,11 @@ struct Whens {
 
 /// WHENs and the statements after them.
 #[derive(Drop)]
-struct Selections<'a, F> {
-    nesting: &'a Nesting<F>,
+struct Selections<'a, P> {
+    /// Reads a statement.
+    statement: &'a P,
+    /// How deep what the objects hold may nest.
+    depth: usize,
 }
 
 impl Part<Subject> for FurtherSubjects {
@@ -124,8 +131,9 @@ impl Part<Object> for FurtherObjects {
 }
 
 /// The first and those after it.
-fn listed<T: Drop>(alloc: Global, first: T, more: Items<T>) -> Result<Items<T>, AllocError>
-    ensures { IfOk result (λ all. all ≡ first ∷ more) }
+fn listed<T: Drop>(alloc: Global, first: T, more: Items<T>) -> Result<Items<T>, ReadFault>
+    ensures made { IfOk result (λ all. all ≡ first ∷ more) }
+    ensures memory { IfErr result (λ fault. fault ≡ ReadFault.Memory) }
 {
     let mut all = Items::new(alloc);
     all.push(first)?;
@@ -145,7 +153,7 @@ fn subjects(
     let first = subject(alloc, tokens, depth)?;
     let more = any(&FurtherSubjects { depth }, alloc, tokens);
     let (first, more) = beside(first, more)?;
-    Ok(listed(alloc, first, more)?)
+    listed(alloc, first, more)
 }
 
 /// Objects with ALSO between; `depth` is how deep what they hold may nest.
@@ -156,7 +164,7 @@ fn objects(alloc: Global, depth: usize, tokens: &mut Tokens<'_>) -> Result<Items
     let first = object(alloc, tokens, depth)?;
     let more = any(&FurtherObjects { depth }, alloc, tokens);
     let (first, more) = beside(first, more)?;
-    Ok(listed(alloc, first, more)?)
+    listed(alloc, first, more)
 }
 
 /// The tokens after WHEN OTHER, where it comes first.
@@ -196,30 +204,22 @@ impl Part<When> for Whens {
     }
 }
 
-impl<F: Fn(Global, &mut Tokens<'_>, usize) -> Result<Statement, ReadFault>> Part<
-    Selected<Statement>,
-> for Selections<'_, F> {
+impl<S: Drop, P: Part<S>> Part<Selected<S>> for Selections<'_, P> {
+    ghost use Rattle.grammar.specs.Reading as read;
     ghost use Rattle.statements.specs.Evaluate as rule;
-    ghost use Rattle.statements.specs.Nests.{Nests};
-    ghost use Rattle.statements.specs.Reading as spec;
 
-    ghost ready = { λ n. Nests n.nesting.now.depth (F.pre n.nesting.now.statement)
-        (F.post n.nesting.now.statement) };
+    ghost ready = { λ n. P.ready n.statement.now };
 
-    ghost reading = { λ n. rule.selected_reader n.nesting.now.depth
-        (spec.statements (spec.statement n.nesting.now.depth)) };
+    ghost reading = { λ n. rule.selected_reader n.depth (read.several
+        (P.reading n.statement.now) (P.beginning n.statement.now)) };
 
     ghost beginning = { λ _. rule.begins_when };
 
     #[tactic(auto, unfolding(crate::specs::Evaluate::selected_reader))]
-    fn read(
-        &self,
-        alloc: Global,
-        tokens: &mut Tokens<'_>,
-    ) -> Result<Selected<Statement>, ReadFault> {
-        let depth = self.nesting.depth;
+    fn read(&self, alloc: Global, tokens: &mut Tokens<'_>) -> Result<Selected<S>, ReadFault> {
+        let depth = self.depth;
         let whens = several(&Whens { depth }, alloc, tokens)?;
-        let statements = self.nesting.statements(tokens)?;
+        let (whens, statements) = beside(whens, several(self.statement, alloc, tokens))?;
         Ok(Selected { whens, statements })
     }
 

@@ -5,161 +5,180 @@ ghost use Rattle.std.specs.Option.{option_copied};
 ghost use Rattle.grammar.specs.Reading as read;
 ghost use Rattle.grammar.specs.Reading.{Reads};
 ghost use Rattle.statements.specs.Filing as rule;
-ghost use Rattle.statements.specs.Nests.{Nests};
-ghost use Rattle.statements.specs.Reading as spec;
 
-use crate::nesting::Nesting;
+use crate::file_phrases::{key_phrases, read_phrases};
 use crate::open_statement::{read_close, read_open};
 use crate::verb::FileVerb;
 use conditions::relation;
 use expressions::reference;
-use grammar::{ReadFault, Tokens, after_word, beside, name, past_word};
-use source_tree::{FilePhrases, FileStatement, Reference, StartKey, Statement, Verb};
+use grammar::{Part, ReadFault, Tokens, after_word, beside, name, past_word};
+use source_tree::{FilePhrases, FileStatement, Reference, StartKey, Verb};
 use std::alloc::Global;
 use tokens::{Reserved, Token};
 
-impl<F: Fn(Global, &mut Tokens<'_>, usize) -> Result<Statement, ReadFault>> Nesting<F> {
-    /// READ, from the verb on.
-    #[tactic(auto, unfolding(crate::specs::Filing::read_reader))]
-    fn reading(&self, tokens: &mut Tokens<'_>) -> Result<FileStatement<Statement>, ReadFault>
-        requires { Nests self.now.depth (F.pre self.now.statement) (F.post self.now.statement) }
-        ensures { Reads (rule.read_reader (spec.statements (spec.statement self.now.depth))
-            tokens.old) result tokens.new }
-    {
-        tokens.expect(Reserved::Read)?;
-        let file = name(self.alloc, tokens)?;
-        let next = tokens.take(Reserved::Next);
-        tokens.skip(Reserved::Record);
-        let into = item_after(self.alloc, Reserved::Into, tokens);
-        let head = beside(file, into)?;
-        let head = beside(head, read_key(self.alloc, tokens))?;
-        let (((file, into), key), phrases) = beside(head, self.read_phrases(tokens))?;
-        tokens.skip(Reserved::EndRead);
-        Ok(FileStatement::Read {
-            file,
-            next,
-            into,
-            key,
-            phrases,
-        })
-    }
+/// A file statement, from the verb on.
+#[tactic(auto, unfolding(crate::specs::Filing::file_reader))]
+pub fn read_file_statement<S: Drop, P: Part<S>>(
+    statement: &P,
+    alloc: Global,
+    verb: FileVerb,
+    tokens: &mut Tokens<'_>,
+) -> Result<Verb<S>, ReadFault>
+    requires { P.ready statement.now }
+    ensures { Reads (rule.file_reader (read.several (P.reading statement.now)
+        (P.beginning statement.now)) verb tokens.old) result tokens.new }
+{
+    let found = by_file_verb(statement, alloc, verb, tokens)?;
+    Ok(Verb::FileStatement(found))
+}
 
-    /// A record, what it is stored from, and the phrases.
-    #[tactic(auto, unfolding(crate::specs::Filing::stored_reader))]
-    fn stored(
-        &self,
-        tokens: &mut Tokens<'_>,
-    ) -> Result<(Reference, (Option<Reference>, FilePhrases<Statement>)), ReadFault>
-        requires { Nests self.now.depth (F.pre self.now.statement) (F.post self.now.statement) }
-        ensures { Reads (rule.stored_reader (spec.statements (spec.statement self.now.depth))
-            tokens.old) result tokens.new }
-    {
-        let record = reference(self.alloc, tokens)?;
-        let from = item_after(self.alloc, Reserved::From, tokens);
-        let head = beside(record, from)?;
-        let ((record, from), phrases) = beside(head, self.key_phrases(tokens))?;
-        Ok((record, (from, phrases)))
+/// A file statement by its verb, from the verb on.
+fn by_file_verb<S: Drop, P: Part<S>>(
+    statement: &P,
+    alloc: Global,
+    verb: FileVerb,
+    tokens: &mut Tokens<'_>,
+) -> Result<FileStatement<S>, ReadFault>
+    requires { P.ready statement.now }
+    ensures { Reads (rule.by_file_verb (read.several (P.reading statement.now)
+        (P.beginning statement.now)) verb tokens.old) result tokens.new }
+{
+    match verb {
+        FileVerb::Open => read_open(alloc, tokens),
+        FileVerb::Close => read_close(alloc, tokens),
+        FileVerb::Read => reading(statement, alloc, tokens),
+        FileVerb::Write => writing(statement, alloc, tokens),
+        FileVerb::Rewrite => rewriting(statement, alloc, tokens),
+        FileVerb::Delete => deleting(statement, alloc, tokens),
+        FileVerb::Start => starting(statement, alloc, tokens),
     }
+}
 
-    /// WRITE, from the verb on.
-    #[tactic(auto, unfolding(crate::specs::Filing::write_reader))]
-    fn writing(&self, tokens: &mut Tokens<'_>) -> Result<FileStatement<Statement>, ReadFault>
-        requires { Nests self.now.depth (F.pre self.now.statement) (F.post self.now.statement) }
-        ensures { Reads (rule.write_reader (spec.statements (spec.statement self.now.depth))
-            tokens.old) result tokens.new }
-    {
-        tokens.expect(Reserved::Write)?;
-        let (record, (from, phrases)) = self.stored(tokens)?;
-        tokens.skip(Reserved::EndWrite);
-        Ok(FileStatement::Write {
-            record,
-            from,
-            phrases,
-        })
-    }
+/// READ, from the verb on.
+#[tactic(auto, unfolding(crate::specs::Filing::read_reader))]
+fn reading<S: Drop, P: Part<S>>(
+    statement: &P,
+    alloc: Global,
+    tokens: &mut Tokens<'_>,
+) -> Result<FileStatement<S>, ReadFault>
+    requires { P.ready statement.now }
+    ensures { Reads (rule.read_reader (read.several (P.reading statement.now)
+        (P.beginning statement.now)) tokens.old) result tokens.new }
+{
+    tokens.expect(Reserved::Read)?;
+    let file = name(alloc, tokens)?;
+    let next = tokens.take(Reserved::Next);
+    tokens.skip(Reserved::Record);
+    let into = item_after(alloc, Reserved::Into, tokens);
+    let head = beside(file, into)?;
+    let head = beside(head, read_key(alloc, tokens))?;
+    let (((file, into), key), phrases) = beside(head, read_phrases(statement, alloc, tokens))?;
+    tokens.skip(Reserved::EndRead);
+    Ok(FileStatement::Read {
+        file,
+        next,
+        into,
+        key,
+        phrases,
+    })
+}
 
-    /// REWRITE, from the verb on.
-    #[tactic(auto, unfolding(crate::specs::Filing::rewrite_reader))]
-    fn rewriting(&self, tokens: &mut Tokens<'_>) -> Result<FileStatement<Statement>, ReadFault>
-        requires { Nests self.now.depth (F.pre self.now.statement) (F.post self.now.statement) }
-        ensures { Reads (rule.rewrite_reader (spec.statements (spec.statement self.now.depth))
-            tokens.old) result tokens.new }
-    {
-        tokens.expect(Reserved::Rewrite)?;
-        let (record, (from, phrases)) = self.stored(tokens)?;
-        tokens.skip(Reserved::EndRewrite);
-        Ok(FileStatement::Rewrite {
-            record,
-            from,
-            phrases,
-        })
-    }
+/// A record, what it is stored from, and the phrases.
+#[tactic(auto, unfolding(crate::specs::Filing::stored_reader))]
+fn stored<S: Drop, P: Part<S>>(
+    statement: &P,
+    alloc: Global,
+    tokens: &mut Tokens<'_>,
+) -> Result<(Reference, (Option<Reference>, FilePhrases<S>)), ReadFault>
+    requires { P.ready statement.now }
+    ensures { Reads (rule.stored_reader (read.several (P.reading statement.now)
+        (P.beginning statement.now)) tokens.old) result tokens.new }
+{
+    let record = reference(alloc, tokens)?;
+    let from = item_after(alloc, Reserved::From, tokens);
+    let head = beside(record, from)?;
+    let ((record, from), phrases) = beside(head, key_phrases(statement, alloc, tokens))?;
+    Ok((record, (from, phrases)))
+}
 
-    /// DELETE, from the verb on.
-    #[tactic(auto, unfolding(crate::specs::Filing::delete_reader))]
-    fn deleting(&self, tokens: &mut Tokens<'_>) -> Result<FileStatement<Statement>, ReadFault>
-        requires { Nests self.now.depth (F.pre self.now.statement) (F.post self.now.statement) }
-        ensures { Reads (rule.delete_reader (spec.statements (spec.statement self.now.depth))
-            tokens.old) result tokens.new }
-    {
-        tokens.expect(Reserved::Delete)?;
-        let file = name(self.alloc, tokens)?;
-        tokens.skip(Reserved::Record);
-        let (file, phrases) = beside(file, self.key_phrases(tokens))?;
-        tokens.skip(Reserved::EndDelete);
-        Ok(FileStatement::Delete { file, phrases })
-    }
+/// WRITE, from the verb on.
+#[tactic(auto, unfolding(crate::specs::Filing::write_reader))]
+fn writing<S: Drop, P: Part<S>>(
+    statement: &P,
+    alloc: Global,
+    tokens: &mut Tokens<'_>,
+) -> Result<FileStatement<S>, ReadFault>
+    requires { P.ready statement.now }
+    ensures { Reads (rule.write_reader (read.several (P.reading statement.now)
+        (P.beginning statement.now)) tokens.old) result tokens.new }
+{
+    tokens.expect(Reserved::Write)?;
+    let (record, (from, phrases)) = stored(statement, alloc, tokens)?;
+    tokens.skip(Reserved::EndWrite);
+    Ok(FileStatement::Write {
+        record,
+        from,
+        phrases,
+    })
+}
 
-    /// START, from the verb on.
-    #[tactic(auto, unfolding(crate::specs::Filing::start_reader))]
-    fn starting(&self, tokens: &mut Tokens<'_>) -> Result<FileStatement<Statement>, ReadFault>
-        requires { Nests self.now.depth (F.pre self.now.statement) (F.post self.now.statement) }
-        ensures { Reads (rule.start_reader (spec.statements (spec.statement self.now.depth))
-            tokens.old) result tokens.new }
-    {
-        tokens.expect(Reserved::Start)?;
-        let file = name(self.alloc, tokens)?;
-        let head = beside(file, start_key(self.alloc, tokens))?;
-        let ((file, key), phrases) = beside(head, self.key_phrases(tokens))?;
-        tokens.skip(Reserved::EndStart);
-        Ok(FileStatement::Start { file, key, phrases })
-    }
+/// REWRITE, from the verb on.
+#[tactic(auto, unfolding(crate::specs::Filing::rewrite_reader))]
+fn rewriting<S: Drop, P: Part<S>>(
+    statement: &P,
+    alloc: Global,
+    tokens: &mut Tokens<'_>,
+) -> Result<FileStatement<S>, ReadFault>
+    requires { P.ready statement.now }
+    ensures { Reads (rule.rewrite_reader (read.several (P.reading statement.now)
+        (P.beginning statement.now)) tokens.old) result tokens.new }
+{
+    tokens.expect(Reserved::Rewrite)?;
+    let (record, (from, phrases)) = stored(statement, alloc, tokens)?;
+    tokens.skip(Reserved::EndRewrite);
+    Ok(FileStatement::Rewrite {
+        record,
+        from,
+        phrases,
+    })
+}
 
-    /// A file statement by its verb, from the verb on.
-    fn by_file_verb(
-        &self,
-        verb: FileVerb,
-        tokens: &mut Tokens<'_>,
-    ) -> Result<FileStatement<Statement>, ReadFault>
-        requires { Nests self.now.depth (F.pre self.now.statement) (F.post self.now.statement) }
-        ensures { Reads (rule.by_file_verb (spec.statements (spec.statement self.now.depth)) verb
-            tokens.old) result tokens.new }
-    {
-        match verb {
-            FileVerb::Open => read_open(self.alloc, tokens),
-            FileVerb::Close => read_close(self.alloc, tokens),
-            FileVerb::Read => self.reading(tokens),
-            FileVerb::Write => self.writing(tokens),
-            FileVerb::Rewrite => self.rewriting(tokens),
-            FileVerb::Delete => self.deleting(tokens),
-            FileVerb::Start => self.starting(tokens),
-        }
-    }
+/// DELETE, from the verb on.
+#[tactic(auto, unfolding(crate::specs::Filing::delete_reader))]
+fn deleting<S: Drop, P: Part<S>>(
+    statement: &P,
+    alloc: Global,
+    tokens: &mut Tokens<'_>,
+) -> Result<FileStatement<S>, ReadFault>
+    requires { P.ready statement.now }
+    ensures { Reads (rule.delete_reader (read.several (P.reading statement.now)
+        (P.beginning statement.now)) tokens.old) result tokens.new }
+{
+    tokens.expect(Reserved::Delete)?;
+    let file = name(alloc, tokens)?;
+    tokens.skip(Reserved::Record);
+    let (file, phrases) = beside(file, key_phrases(statement, alloc, tokens))?;
+    tokens.skip(Reserved::EndDelete);
+    Ok(FileStatement::Delete { file, phrases })
+}
 
-    /// From the verb on.
-    #[tactic(auto, unfolding(crate::specs::Filing::file_reader))]
-    pub fn read_file_statement(
-        &self,
-        verb: FileVerb,
-        tokens: &mut Tokens<'_>,
-    ) -> Result<Verb<Statement>, ReadFault>
-        requires { Nests self.now.depth (F.pre self.now.statement) (F.post self.now.statement) }
-        ensures { Reads (rule.file_reader (spec.statements (spec.statement self.now.depth)) verb
-            tokens.old) result tokens.new }
-    {
-        let found = self.by_file_verb(verb, tokens)?;
-        Ok(Verb::FileStatement(found))
-    }
+/// START, from the verb on.
+#[tactic(auto, unfolding(crate::specs::Filing::start_reader))]
+fn starting<S: Drop, P: Part<S>>(
+    statement: &P,
+    alloc: Global,
+    tokens: &mut Tokens<'_>,
+) -> Result<FileStatement<S>, ReadFault>
+    requires { P.ready statement.now }
+    ensures { Reads (rule.start_reader (read.several (P.reading statement.now)
+        (P.beginning statement.now)) tokens.old) result tokens.new }
+{
+    tokens.expect(Reserved::Start)?;
+    let file = name(alloc, tokens)?;
+    let head = beside(file, start_key(alloc, tokens))?;
+    let ((file, key), phrases) = beside(head, key_phrases(statement, alloc, tokens))?;
+    tokens.skip(Reserved::EndStart);
+    Ok(FileStatement::Start { file, key, phrases })
 }
 
 /// The item after words that `after` follows; none where the words aren't there.

@@ -6,6 +6,7 @@ ghost use Rattle.grammar.specs.Reading as read;
 ghost use Rattle.grammar.specs.Reading.{Reads};
 ghost use Rattle.statements.specs.Inspecting as rule;
 
+use crate::followed::followed;
 use crate::limit_phrases::{begins_text, limits, text};
 use expressions::{after_reference_before, reference};
 use grammar::{Part, ReadFault, Tokens, begins_name, beside, several};
@@ -226,8 +227,7 @@ impl Part<Tallying> for Counters {
 
     #[tactic(auto, unfolding(crate::specs::Inspecting::counting_reader))]
     fn read(&self, alloc: Global, tokens: &mut Tokens<'_>) -> Result<Tallying, ReadFault> {
-        let counter = reference(alloc, tokens)?;
-        let (counter, ()) = beside(counter, tokens.expect(Reserved::For))?;
+        let counter = followed(reference(alloc, tokens), Reserved::For, tokens)?;
         let (counter, tallied) = beside(counter, several(&TalliedEntries, alloc, tokens))?;
         Ok(Tallying { counter, tallied })
     }

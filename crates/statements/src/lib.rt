@@ -14,6 +14,7 @@ mod evaluate_statement;
 mod exit_statement;
 mod file_phrases;
 mod file_statement;
+mod followed;
 mod initialize_statement;
 mod inspect_statement;
 mod limit_phrases;

@@ -6,6 +6,7 @@ ghost use Rattle.grammar.specs.Reading.{Reads};
 ghost use Rattle.statements.specs.Moving as spec;
 ghost use Rattle.source_tree.specs.declared.statement.Verb.TheVariants as verb;
 
+use crate::followed::followed;
 use expressions::{References, operand};
 use grammar::{ReadFault, Tokens, beside, several};
 use source_tree::DataStatement;
@@ -20,8 +21,7 @@ pub fn read_move(alloc: Global, tokens: &mut Tokens<'_>) -> Result<DataStatement
         tokens.new }
 {
     tokens.expect(Reserved::Move)?;
-    let sender = operand(alloc, tokens)?;
-    let (sender, ()) = beside(sender, tokens.expect(Reserved::To))?;
+    let sender = followed(operand(alloc, tokens), Reserved::To, tokens)?;
     let (sender, receivers) = beside(sender, several(&References, alloc, tokens))?;
     Ok(DataStatement::Move { sender, receivers })
 }

@@ -4,6 +4,7 @@ ghost use Rattle.std.specs.Prelude.{◌≡◌};
 ghost use Rattle.grammar.specs.Reading.{Reads};
 ghost use Rattle.statements.specs.Multiplying as spec;
 
+use crate::followed::followed;
 use crate::receivers::{Target, target_of};
 use expressions::number_operand;
 use grammar::{ReadFault, Tokens, beside};
@@ -17,8 +18,7 @@ pub fn read_multiply(alloc: Global, tokens: &mut Tokens<'_>) -> Result<Operation
     ensures { Reads (spec.multiply_reader tokens.old) result tokens.new }
 {
     tokens.expect(Reserved::Multiply)?;
-    let factor = number_operand(alloc, tokens)?;
-    let (factor, ()) = beside(factor, tokens.expect(Reserved::By))?;
+    let factor = followed(number_operand(alloc, tokens), Reserved::By, tokens)?;
     let (factor, target) = beside(factor, target_of(alloc, tokens))?;
     Ok(match target {
         Target::Receivers(receivers) => Operation::Multiply { factor, receivers },

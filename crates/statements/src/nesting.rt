@@ -1,5 +1,5 @@
-//! Statements in one another. The rules that hold statements take the reader of those as a parameter, so that each is
-//! proved by itself.
+//! Statements in one another. The rules that hold statements take the reader of those as a parameter, and the type too, so
+//! that each is proved by itself.
 
 ghost use Rattle.std.specs.Prelude.{◌≡◌};
 ghost use Rattle.std.specs.Result.{result_map_both};
@@ -9,14 +9,20 @@ ghost use Rattle.statements.specs.Reading as spec;
 ghost use Rattle.statements.specs.Nests.{Nests};
 
 use crate::accept_statement::read_accept;
+use crate::arithmetic::arithmetic;
+use crate::conditional_statement::read_if;
 use crate::continue_statement::read_continue;
 use crate::display_statement::display;
+use crate::evaluate_statement::read_evaluate;
 use crate::exit_statement::read_exit;
+use crate::file_statement::read_file_statement;
 use crate::initialize_statement::read_initialize;
 use crate::inspect_statement::read_inspect;
 use crate::move_statement::read_move;
+use crate::perform_statement::read_perform;
 use crate::set_statement::read_set;
 use crate::stop_statement::stop_run;
+use crate::string_statement::read_string;
 use crate::verb::{VerbWord, begins_statement, verb_at};
 use grammar::{Halt, Part, ReadFault, Tokens, several};
 use source_tree::{ControlStatement, DataStatement, Statement, TextStatement, Verb};
@@ -65,28 +71,30 @@ impl<F: Fn(Global, &mut Tokens<'_>, usize) -> Result<Statement, ReadFault>> Nest
     }
 
     /// What a statement does, by its verb.
-    #[tactic(auto, unfolding(crate::specs::Reading::verb))]
+    #[tactic(auto, unfolding(crate::specs::Reading::verb, crate::specs::Reading::statements))]
     fn verb(&self, tokens: &mut Tokens<'_>) -> Result<Verb<Statement>, ReadFault>
         requires { Nests self.now.depth (F.pre self.now.statement) (F.post self.now.statement) }
         ensures { Reads (spec.verb self.now.depth (spec.statement self.now.depth) tokens.old) result
             tokens.new }
     {
+        let alloc = self.alloc;
+        let depth = self.depth;
         match verb_at(tokens) {
-            Some(VerbWord::Accept) => as_text(read_accept(self.alloc, tokens)),
-            Some(VerbWord::Arithmetic(verb)) => self.arithmetic(verb, tokens),
+            Some(VerbWord::Accept) => as_text(read_accept(alloc, tokens)),
+            Some(VerbWord::Arithmetic(verb)) => arithmetic(self, alloc, depth, verb, tokens),
             Some(VerbWord::Continue) => as_control(read_continue(tokens)),
-            Some(VerbWord::Display) => as_text(display(self.alloc, tokens)),
-            Some(VerbWord::Evaluate) => self.read_evaluate(tokens),
+            Some(VerbWord::Display) => as_text(display(alloc, tokens)),
+            Some(VerbWord::Evaluate) => read_evaluate(self, alloc, depth, tokens),
             Some(VerbWord::Exit) => as_control(read_exit(tokens)),
-            Some(VerbWord::Filing(verb)) => self.read_file_statement(verb, tokens),
-            Some(VerbWord::If) => self.read_if(tokens),
-            Some(VerbWord::Initialize) => as_data(read_initialize(self.alloc, tokens)),
-            Some(VerbWord::Inspect) => read_inspect(self.alloc, tokens),
-            Some(VerbWord::Move) => as_data(read_move(self.alloc, tokens)),
-            Some(VerbWord::Perform) => self.read_perform(tokens),
-            Some(VerbWord::Set) => as_data(read_set(self.alloc, tokens)),
+            Some(VerbWord::Filing(verb)) => read_file_statement(self, alloc, verb, tokens),
+            Some(VerbWord::If) => read_if(self, alloc, depth, tokens),
+            Some(VerbWord::Initialize) => as_data(read_initialize(alloc, tokens)),
+            Some(VerbWord::Inspect) => read_inspect(alloc, tokens),
+            Some(VerbWord::Move) => as_data(read_move(alloc, tokens)),
+            Some(VerbWord::Perform) => read_perform(self, alloc, depth, tokens),
+            Some(VerbWord::Set) => as_data(read_set(alloc, tokens)),
             Some(VerbWord::Stop) => as_control(stop_run(tokens)),
-            Some(VerbWord::String) => self.read_string(tokens),
+            Some(VerbWord::String) => read_string(self, alloc, tokens),
             None => Err(tokens.refuse()),
         }
     }

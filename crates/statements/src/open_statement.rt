@@ -7,17 +7,17 @@ ghost use Rattle.grammar.specs.Reading.{Reads};
 ghost use Rattle.statements.specs.Opening as rule;
 
 use grammar::{Names, Part, ReadFault, Tokens, begins_name, name, several};
-use source_tree::{FileStatement, OpenMode, Opening, Statement};
+use source_tree::{FileStatement, OpenMode, Opening};
 use sqlite_items::Items;
 use std::alloc::Global;
 use tokens::{Kind, Reserved, Token};
 
 /// From the verb on.
 #[tactic(auto, unfolding(crate::specs::Opening::openings_reader))]
-pub fn read_open(
+pub fn read_open<S: Drop>(
     alloc: Global,
     tokens: &mut Tokens<'_>,
-) -> Result<FileStatement<Statement>, ReadFault>
+) -> Result<FileStatement<S>, ReadFault>
     ensures { Reads (rule.openings_reader tokens.old) result tokens.new }
 {
     tokens.expect(Reserved::Open)?;
@@ -27,10 +27,10 @@ pub fn read_open(
 
 /// From the verb on.
 #[tactic(auto, unfolding(crate::specs::Opening::close_reader))]
-pub fn read_close(
+pub fn read_close<S: Drop>(
     alloc: Global,
     tokens: &mut Tokens<'_>,
-) -> Result<FileStatement<Statement>, ReadFault>
+) -> Result<FileStatement<S>, ReadFault>
     ensures { Reads (rule.close_reader tokens.old) result tokens.new }
 {
     tokens.expect(Reserved::Close)?;

@@ -1,50 +1,61 @@
 //! PERFORM.
 
 ghost use Rattle.std.specs.Prelude.{◌≡◌};
+ghost use Rattle.grammar.specs.Reading as read;
 ghost use Rattle.grammar.specs.Reading.{Reads};
-ghost use Rattle.statements.specs.Nests.{Nests};
 ghost use Rattle.statements.specs.Performing as rule;
-ghost use Rattle.statements.specs.Reading as spec;
 
-use crate::nesting::Nesting;
+use crate::followed::followed;
 use crate::repetition::turns;
 use expressions::after_reference_before;
-use grammar::{ReadFault, Tokens, begins_name, beside, name};
-use source_tree::{Name, PerformStatement, Performed, Statement, Verb};
+use grammar::{Part, ReadFault, Tokens, begins_name, beside, name, several};
+use source_tree::{Name, PerformStatement, Performed, Verb};
 use std::alloc::Global;
 use tokens::Reserved;
 
-impl<F: Fn(Global, &mut Tokens<'_>, usize) -> Result<Statement, ReadFault>> Nesting<F> {
-    /// How often, the statements and END-PERFORM.
-    #[tactic(auto, unfolding(crate::specs::Performing::in_line_reader))]
-    fn in_line(&self, tokens: &mut Tokens<'_>) -> Result<Verb<Statement>, ReadFault>
-        requires { Nests self.now.depth (F.pre self.now.statement) (F.post self.now.statement) }
-        ensures { Reads (rule.in_line_reader self.now.depth
-            (spec.statements (spec.statement self.now.depth)) tokens.old) result tokens.new }
-    {
-        let turns = turns(self.alloc, self.depth, tokens)?;
-        let line = beside(turns, self.statements(tokens))?;
-        let ((turns, inside), ()) = beside(line, tokens.expect(Reserved::EndPerform))?;
-        Ok(Verb::PerformStatement(PerformStatement {
-            performed: Performed::Statements(inside),
-            turns,
-        }))
+/// From the verb on; `depth` is how deep a condition may nest.
+#[tactic(auto, unfolding(crate::specs::Performing::perform_reader))]
+pub fn read_perform<S: Drop, P: Part<S>>(
+    statement: &P,
+    alloc: Global,
+    depth: usize,
+    tokens: &mut Tokens<'_>,
+) -> Result<Verb<S>, ReadFault>
+    requires { P.ready statement.now }
+    ensures { Reads (rule.perform_reader depth (read.several (P.reading statement.now)
+        (P.beginning statement.now)) tokens.old) result tokens.new }
+{
+    tokens.expect(Reserved::Perform)?;
+    if begins_procedures(tokens) {
+        procedures(alloc, depth, tokens)
+    } else {
+        in_line(statement, alloc, depth, tokens)
     }
+}
 
-    /// From the verb on.
-    #[tactic(auto, unfolding(crate::specs::Performing::perform_reader))]
-    pub fn read_perform(&self, tokens: &mut Tokens<'_>) -> Result<Verb<Statement>, ReadFault>
-        requires { Nests self.now.depth (F.pre self.now.statement) (F.post self.now.statement) }
-        ensures { Reads (rule.perform_reader self.now.depth
-            (spec.statements (spec.statement self.now.depth)) tokens.old) result tokens.new }
-    {
-        tokens.expect(Reserved::Perform)?;
-        if begins_procedures(tokens) {
-            procedures(self.alloc, self.depth, tokens)
-        } else {
-            self.in_line(tokens)
-        }
-    }
+/// How often, the statements and END-PERFORM.
+#[tactic(auto, unfolding(crate::specs::Performing::in_line_reader))]
+fn in_line<S: Drop, P: Part<S>>(
+    statement: &P,
+    alloc: Global,
+    depth: usize,
+    tokens: &mut Tokens<'_>,
+) -> Result<Verb<S>, ReadFault>
+    requires { P.ready statement.now }
+    ensures { Reads (rule.in_line_reader depth (read.several (P.reading statement.now)
+        (P.beginning statement.now)) tokens.old) result tokens.new }
+{
+    let turns = turns(alloc, depth, tokens)?;
+    let inside = followed(
+        several(statement, alloc, tokens),
+        Reserved::EndPerform,
+        tokens,
+    );
+    let (turns, inside) = beside(turns, inside)?;
+    Ok(Verb::PerformStatement(PerformStatement {
+        performed: Performed::Statements(inside),
+        turns,
+    }))
 }
 
 /// THRU or THROUGH, whichever `thru` is, and the last procedure's name.
@@ -82,11 +93,11 @@ fn begins_procedures(tokens: &Tokens<'_>) -> bool
 
 /// Procedures by their names, and how often; `depth` is how deep a condition may nest.
 #[tactic(auto, unfolding(crate::specs::Performing::procedures_reader))]
-fn procedures(
+fn procedures<S: Drop>(
     alloc: Global,
     depth: usize,
     tokens: &mut Tokens<'_>,
-) -> Result<Verb<Statement>, ReadFault>
+) -> Result<Verb<S>, ReadFault>
     ensures { Reads (rule.procedures_reader depth tokens.old) result tokens.new }
 {
     let first = name(alloc, tokens)?;

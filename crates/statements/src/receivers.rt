@@ -4,6 +4,7 @@ ghost use Rattle.std.specs.Prelude.{◌≡◌};
 ghost use Rattle.grammar.specs.Reading.{Reads};
 ghost use Rattle.statements.specs.Receivers as spec;
 
+use crate::followed::followed;
 use expressions::{NumberOperands, after_reference_before, number_operand, reference};
 use grammar::{Part, ReadFault, Tokens, begins_name, beside, several};
 use source_tree::{Operand, Receiver};
@@ -79,8 +80,7 @@ pub fn target_of(alloc: Global, tokens: &mut Tokens<'_>) -> Result<Target, ReadF
     if begins_receivers(tokens) {
         return Ok(Target::Receivers(all_receivers(alloc, tokens)?));
     }
-    let operand = number_operand(alloc, tokens)?;
-    let (operand, ()) = beside(operand, tokens.expect(Reserved::Giving))?;
+    let operand = followed(number_operand(alloc, tokens), Reserved::Giving, tokens)?;
     let (operand, receivers) = beside(operand, all_receivers(alloc, tokens))?;
     Ok(Target::Giving { operand, receivers })
 }

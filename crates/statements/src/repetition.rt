@@ -6,10 +6,11 @@ ghost use Rattle.grammar.specs.Reading as read;
 ghost use Rattle.grammar.specs.Reading.{Reads};
 ghost use Rattle.statements.specs.Turning as rule;
 
+use crate::followed::followed;
 use conditions::condition;
 use expressions::{begins_integer, integer, number_operand, reference};
 use grammar::{ReadFault, Tokens, after_word, begins_name, beside, past_word};
-use source_tree::{Repetition, TestTime, Until, Varying};
+use source_tree::{Reference, Repetition, TestTime, Until, Varying};
 use std::alloc::Global;
 use tokens::{Kind, Reserved, Token};
 
@@ -34,8 +35,7 @@ pub fn turns(alloc: Global, depth: usize, tokens: &mut Tokens<'_>) -> Result<Rep
 fn times(alloc: Global, tokens: &mut Tokens<'_>) -> Result<Repetition, ReadFault>
     ensures { Reads (rule.times_reader tokens.old) result tokens.new }
 {
-    let count = integer(alloc, tokens)?;
-    let (count, ()) = beside(count, tokens.expect(Reserved::Times))?;
+    let count = followed(integer(alloc, tokens), Reserved::Times, tokens)?;
     Ok(Repetition::Times(count))
 }
 
@@ -44,8 +44,7 @@ fn times(alloc: Global, tokens: &mut Tokens<'_>) -> Result<Repetition, ReadFault
 fn counted(alloc: Global, tokens: &mut Tokens<'_>) -> Result<Repetition, ReadFault>
     ensures { Reads (rule.counted_reader tokens.old) result tokens.new }
 {
-    let item = reference(alloc, tokens)?;
-    let (item, ()) = beside(item, tokens.expect(Reserved::Times))?;
+    let item = followed(reference(alloc, tokens), Reserved::Times, tokens)?;
     Ok(Repetition::CountedBy(item))
 }
 
@@ -101,10 +100,20 @@ fn varied(alloc: Global, tokens: &mut Tokens<'_>) -> Result<Varying, ReadFault>
     ensures { Reads (rule.varied_reader tokens.old) result tokens.new }
 {
     tokens.expect(Reserved::Varying)?;
-    let item = reference(alloc, tokens)?;
-    tokens.expect(Reserved::From)?;
-    let from = number_operand(alloc, tokens)?;
-    let (start, ()) = beside((item, from), tokens.expect(Reserved::By))?;
+    let item = followed(reference(alloc, tokens), Reserved::From, tokens)?;
+    varied_from(item, alloc, tokens)
+}
+
+/// Where the item starts, BY, and what is added to it.
+fn varied_from(
+    item: Reference,
+    alloc: Global,
+    tokens: &mut Tokens<'_>,
+) -> Result<Varying, ReadFault>
+    ensures { Reads (rule.varied_from item tokens.old) result tokens.new }
+{
+    let from = followed(number_operand(alloc, tokens), Reserved::By, tokens);
+    let start = beside(item, from)?;
     let ((item, from), by) = beside(start, number_operand(alloc, tokens))?;
     Ok(Varying { item, from, by })
 }
@@ -137,8 +146,7 @@ fn until(alloc: Global, depth: usize, tokens: &mut Tokens<'_>) -> Result<Repetit
     ensures { Reads (rule.until_reader depth tokens.old) result tokens.new }
 {
     let test = test_time(tokens)?;
-    let varying = varying(alloc, tokens)?;
-    let (varying, ()) = beside(varying, tokens.expect(Reserved::Until))?;
+    let varying = followed(varying(alloc, tokens), Reserved::Until, tokens)?;
     let (varying, condition) = beside(varying, condition(alloc, tokens, depth))?;
     Ok(Repetition::Until(Until {
         test,

@@ -6,6 +6,7 @@ ghost use Rattle.grammar.specs.Reading.{Reads};
 ghost use Rattle.statements.specs.Setting as spec;
 ghost use Rattle.source_tree.specs.declared.statement.Verb.TheVariants as verb;
 
+use crate::followed::followed;
 use expressions::References;
 use grammar::{ReadFault, Tokens, several};
 use source_tree::DataStatement;
@@ -20,8 +21,7 @@ pub fn read_set(alloc: Global, tokens: &mut Tokens<'_>) -> Result<DataStatement,
         tokens.new }
 {
     tokens.expect(Reserved::Set)?;
-    let conditions = several(&References, alloc, tokens)?;
-    tokens.expect(Reserved::To)?;
-    tokens.expect(Reserved::True)?;
+    let conditions = followed(several(&References, alloc, tokens), Reserved::To, tokens);
+    let conditions = followed(conditions, Reserved::True, tokens)?;
     Ok(DataStatement::Set { conditions })
 }

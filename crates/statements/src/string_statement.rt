@@ -2,40 +2,41 @@
 
 ghost use Rattle.std.specs.Prelude.{◌≡◌};
 ghost use Rattle.std.specs.Option.{option_copied};
+ghost use Rattle.grammar.specs.Reading as read;
 ghost use Rattle.grammar.specs.Reading.{Reads};
-ghost use Rattle.statements.specs.Nests.{Nests};
-ghost use Rattle.statements.specs.Reading as spec;
 ghost use Rattle.statements.specs.Stringing as rule;
 
-use crate::nesting::Nesting;
+use crate::followed::followed;
 use expressions::{Operands, begins_operand, operand, reference};
 use grammar::{Part, Phrase, ReadFault, Tokens, after_word, beside, past_word, several, two_sided};
-use source_tree::{Operand, Reference, Sending, Statement, StringStatement, Verb};
+use source_tree::{Operand, Reference, Sending, StringStatement, Verb};
 use sqlite_items::Items;
 use std::alloc::Global;
 use tokens::{Reserved, Token};
 
-impl<F: Fn(Global, &mut Tokens<'_>, usize) -> Result<Statement, ReadFault>> Nesting<F> {
-    /// From the verb on: what is strung together, the OVERFLOW phrases and END-STRING.
-    #[tactic(auto, unfolding(crate::specs::Stringing::string_reader, crate::specs::Reading::statements))]
-    pub fn read_string(&self, tokens: &mut Tokens<'_>) -> Result<Verb<Statement>, ReadFault>
-        requires { Nests self.now.depth (F.pre self.now.statement) (F.post self.now.statement) }
-        ensures { Reads (rule.string_reader (spec.statements (spec.statement self.now.depth))
-            tokens.old) result tokens.new }
-    {
-        tokens.expect(Reserved::String)?;
-        let strung = strung(self.alloc, tokens)?;
-        let head = beside(strung, pointer(self.alloc, tokens))?;
-        let phrases = two_sided(Phrase::Overflow, self, self.alloc, tokens);
-        let (((sendings, receiver), pointer), phrases) = beside(head, phrases)?;
-        tokens.skip(Reserved::EndString);
-        Ok(Verb::StringStatement(StringStatement {
-            sendings,
-            receiver,
-            pointer,
-            phrases,
-        }))
-    }
+/// From the verb on: what is strung together, the OVERFLOW phrases and END-STRING.
+#[tactic(auto, unfolding(crate::specs::Stringing::string_reader))]
+pub fn read_string<S: Drop, P: Part<S>>(
+    statement: &P,
+    alloc: Global,
+    tokens: &mut Tokens<'_>,
+) -> Result<Verb<S>, ReadFault>
+    requires { P.ready statement.now }
+    ensures { Reads (rule.string_reader (read.several (P.reading statement.now)
+        (P.beginning statement.now)) tokens.old) result tokens.new }
+{
+    tokens.expect(Reserved::String)?;
+    let strung = strung(alloc, tokens)?;
+    let head = beside(strung, pointer(alloc, tokens))?;
+    let phrases = two_sided(Phrase::Overflow, statement, alloc, tokens);
+    let (((sendings, receiver), pointer), phrases) = beside(head, phrases)?;
+    tokens.skip(Reserved::EndString);
+    Ok(Verb::StringStatement(StringStatement {
+        sendings,
+        receiver,
+        pointer,
+        phrases,
+    }))
 }
 
 /// What the senders are DELIMITED BY; none is SIZE.
@@ -65,8 +66,8 @@ impl Part<Sending> for Sendings {
 
     #[tactic(auto, unfolding(crate::specs::Stringing::sending_reader))]
     fn read(&self, alloc: Global, tokens: &mut Tokens<'_>) -> Result<Sending, ReadFault> {
-        let senders = several(&Operands, alloc, tokens)?;
-        tokens.expect(Reserved::Delimited)?;
+        let senders = several(&Operands, alloc, tokens);
+        let senders = followed(senders, Reserved::Delimited, tokens)?;
         tokens.skip(Reserved::By);
         let delimiter = delimiter(alloc, tokens)?;
         Ok(Sending { senders, delimiter })
@@ -82,8 +83,7 @@ impl Part<Sending> for Sendings {
 fn strung(alloc: Global, tokens: &mut Tokens<'_>) -> Result<(Items<Sending>, Reference), ReadFault>
     ensures { Reads (rule.strung_reader tokens.old) result tokens.new }
 {
-    let sendings = several(&Sendings, alloc, tokens)?;
-    let (sendings, ()) = beside(sendings, tokens.expect(Reserved::Into))?;
+    let sendings = followed(several(&Sendings, alloc, tokens), Reserved::Into, tokens)?;
     beside(sendings, reference(alloc, tokens))
 }
 

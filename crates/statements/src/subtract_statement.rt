@@ -4,6 +4,7 @@ ghost use Rattle.std.specs.Prelude.{◌≡◌};
 ghost use Rattle.grammar.specs.Reading.{Reads};
 ghost use Rattle.statements.specs.Subtracting as spec;
 
+use crate::followed::followed;
 use crate::receivers::{Target, numbers, target_of};
 use grammar::{ReadFault, Tokens};
 use source_tree::Operation;
@@ -16,8 +17,7 @@ pub fn read_subtract(alloc: Global, tokens: &mut Tokens<'_>) -> Result<Operation
     ensures { Reads (spec.subtract_reader tokens.old) result tokens.new }
 {
     tokens.expect(Reserved::Subtract)?;
-    let operands = numbers(alloc, tokens)?;
-    tokens.expect(Reserved::From)?;
+    let operands = followed(numbers(alloc, tokens), Reserved::From, tokens)?;
     Ok(match target_of(alloc, tokens)? {
         Target::Receivers(receivers) => Operation::Subtract {
             operands,

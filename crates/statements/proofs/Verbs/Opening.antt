@@ -167,7 +167,7 @@ module _ (files : List Opening) where
   openings_stand i rest (groups, is, (i1, verb, s)) = stands w.Open i i1 verb
 
   pub openings_complete : {Allowed : Halt → Type 0} (i rest : List Token) → rule.openings files i rest
-      → Answers Allowed (openings_reader i) (Open files) rest
+      → Answers Allowed (openings_reader {S = Statement} i) (Open files) rest
   unfolding openings_reader
   openings_complete {Allowed = Allowed} i rest (groups, is, (i1, verb, s)) =
       step (read.expect w.Open i) _ (word_complete w.Open tt i i1 verb)
@@ -206,7 +206,7 @@ module _ (files : List Name) where
   closing_stands i rest s = stands w.Close i s.0 s.1
 
   pub closing_complete : {Allowed : Halt → Type 0} (i rest : List Token) → rule.close_statement files i rest
-      → Answers Allowed (close_reader i) (Close files) rest
+      → Answers Allowed (close_reader {S = Statement} i) (Close files) rest
   unfolding close_reader
   closing_complete i rest (i1, verb, s) =
       step (read.expect w.Close i) _ (word_complete w.Close tt i i1 verb)

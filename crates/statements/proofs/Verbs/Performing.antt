@@ -112,7 +112,7 @@ procedures_complete : (Allowed : Halt → Type 0) (depth depth' : ℕ)
     → Complete Allowed (condition depth') (condition_reader depth)
     → (first : Name) (to : Option Name) (often : Repetition) (i rest : List Token)
     → rule.procedures depth' first to often i rest
-    → Answers Allowed (procedures_reader depth i)
+    → Answers Allowed (procedures_reader {S = Statement} depth i)
     (verb.PerformStatement (record { performed = Procedures first to; turns = often })) rest
 unfolding procedures_reader
 procedures_complete Allowed depth depth' asks first to often i rest (i1, (named, no_count), (i2, thru, phrase)) =
