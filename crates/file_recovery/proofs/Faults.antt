@@ -6,7 +6,7 @@ use Rattle.records.specs.declared.fault.StoreFault.{StoreFault}
 use Rattle.records.specs.declared.fault.StoreFault.TheVariants.{Device, Full, Damaged, Memory, Spent, Layout, Old}
 use Rattle.btree.specs.Reading.{IsReadRefusal}
 use Rattle.btree.specs.Refusals.{IsChangeRefusal}
-use Rattle.btree.proofs.Passing.{passed}
+use Rattle.btree.proofs.Passing.{passed, same_error}
 use Rattle.pages.specs.declared.error.PagesError.{PagesError}
 use Rattle.pages.specs.declared.error.PagesError.TheVariants as pages
 use Rattle.pages.specs.declared.page_map.PageMap.{PageMap}
@@ -88,3 +88,10 @@ memory_passed given fault from is = subst (λ (m : StoreFault). IsErrAnd given (
 
 pub memory_read : (fault : StoreFault) → fault ≡ Memory → IsReadFault fault
 memory_read fault is = subst IsReadFault (sym is) tt
+
+-- nor is damage
+damaged_or_device : Damaged ≡ Device → ⊥
+damaged_or_device is = cc
+
+pub damaged_not_device : {T A : Type 0} → (◌≡◌ {A = Result T StoreFault} (Err Damaged) (Err Device)) → A
+damaged_not_device is = absurd (damaged_or_device (same_error is))

@@ -18,7 +18,7 @@ use Rattle.file_recovery.specs.Covered.{IsCovered}
 use Rattle.volume_format.specs.Faults.{fault_of}
 use Rattle.file_recovery.specs.Faults.{IsReadFault}
 use Rattle.file_recovery.specs.Kept.{FindsCatalog, NoCatalog}
-use Rattle.file_recovery.specs.Recovered.{RefusedTrees, IsReadCause}
+use Rattle.file_recovery.specs.Recovered.{RefusedTrees, IsReadCause, IsTreeCause}
 use Rattle.file_recovery.proofs.Covering.{NoneMarked, none_held, catalog_held, stray_held, long_held}
 
 -- no page is marked at first
@@ -80,6 +80,11 @@ refused_of image pages.ForeignMark is = is
 pub cause_of : (error : PagesError) → (error ≡ pages.Device) ⊎ (error ≡ pages.Memory) → IsReadCause (fault_of error)
 cause_of error (inl is) = inl (ap fault_of is)
 cause_of error (inr is) = inr (ap fault_of is)
+
+pub tree_cause_of : (error : PagesError)
+    → (error ≡ pages.ForeignMark) ⊎ ((error ≡ pages.Device) ⊎ (error ≡ pages.Memory)) → IsTreeCause (fault_of error)
+tree_cause_of error (inl is) = inl (ap fault_of is)
+tree_cause_of error (inr is) = inr (cause_of error is)
 
 -- a refusal to read the catalog
 pub refused_read : (image : List Sector) (fault : StoreFault) → IsReadFault fault

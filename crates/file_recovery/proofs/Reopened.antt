@@ -1,8 +1,8 @@
 -- A volume that is opened again, after a call that synced it or did nothing.
-use Rattle.std.proofs.Common.{◌≡◌, ◌⊎◌, ◌↔◌, inl, inr, List, ap, ◌∙◌}
+use Rattle.std.proofs.Common.{◌≡◌, ◌⊎◌, ◌↔◌, inl, inr, List, sym, ap, subst, ◌∙◌}
 use Rattle.station.specs.Calls.{OnlyReads, OnlyWrites}
 use Rattle.station.specs.Failures.{Blames}
-use Rattle.station.specs.State.{State, state_after_sync}
+use Rattle.station.specs.State.{State, SameConsole, state_after_sync}
 use Rattle.station.specs.History.{Through}
 use Rattle.station.specs.Opening.{IsOpening}
 use Rattle.station.specs.declared.device.Device.{Ghosts as Devices}
@@ -42,3 +42,37 @@ module _ {D : Type 0} (d : Devices D) where
         };
       })
       (reads_writes d B mid new reads)
+
+  -- it is as it was when it was synced
+  pub still_synced : (B : Type 0) (old mid new : D) → (d.is_honest old ↔ d.is_honest mid)
+      → (d.is_honest old → d.state mid ≡ state_after_sync (d.state old)) → OnlyReads d B mid new → d.is_honest old
+      → d.state new ≡ state_after_sync (d.state old)
+  still_synced B old mid new honest synced reads h = reads.state (honest.0 h) ∙ synced h
+
+  pub still_opening : (B : Type 0) (old mid new : D) → (d.is_honest old ↔ d.is_honest mid)
+      → (d.is_honest old → Through (d.history old) (d.history mid) (d.state mid) (IsOpening (d.state old)))
+      → OnlyReads d B mid new → d.is_honest old
+      → Through (d.history old) (d.history new) (d.state new) (IsOpening (d.state old))
+  still_opening B old mid new honest moments reads h =
+      subst (λ (s : State). Through (d.history old) (d.history new) s (IsOpening (d.state old)))
+      (sym (reads.state (honest.0 h)))
+      (subst (λ (l : List State). Through (d.history old) l (d.state mid) (IsOpening (d.state old)))
+      (sym (reads.history (honest.0 h))) (moments h))
+
+-- a device that was synced, or not
+console_stays : (old new : State) → (new ≡ old) ⊎ (new ≡ state_after_sync old) → SameConsole old new
+console_stays old new (inl same) =
+    record { events = ap (λ (s : State). s.events) same; lines = ap (λ (s : State). s.lines) same }
+console_stays old new (inr synced) =
+    record { events = ap (λ (s : State). s.events) synced; lines = ap (λ (s : State). s.lines) synced }
+
+pub synced_at_most : {D : Type 0} (d : Devices D) (A B : Type 0) (old new : D) → (d.is_honest old ↔ d.is_honest new)
+    → d.sectors new ≡ d.sectors old → Blames A (d.failures old) (d.failures new) → (B → A)
+    → (d.is_honest old → (d.state new ≡ d.state old) ⊎ (d.state new ≡ state_after_sync (d.state old)))
+    → OnlyWrites d B old new
+synced_at_most d A B old new honest sectors failures from unwritten = record {
+  honest = honest;
+  sectors = sectors;
+  failures = record { no_fewer = failures.no_fewer; failed = λ blamed. failures.failed (from blamed) };
+  console = λ h. console_stays (d.state old) (d.state new) (unwritten h);
+}

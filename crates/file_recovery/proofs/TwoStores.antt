@@ -1,6 +1,6 @@
 -- What is told of a volume that one of two stores wrote.
 use Rattle.std.proofs.Common.{◌≡◌, ⊎_elim, List, refl, ap}
-use Rattle.std.specs.Prelude.{Result, Ok, Err, IfOk, IfErr}
+use Rattle.std.specs.Prelude.{Result, Ok, Err, IfOk, IfErr, OnOk, OnErr}
 use Rattle.station.specs.Disk.{Sector}
 use Rattle.pages.specs.Layout.{IsForeign}
 use Rattle.records.specs.declared.fault.StoreFault.{StoreFault}
@@ -18,6 +18,14 @@ pub ok_so : {T E : Type 0} {P Q : T → Type 0} (result : Result T E) → ((x : 
     → IfOk result Q
 ok_so (Ok x) from so = from x so
 ok_so (Err e) from so = tt
+
+pub ok_anyway : {T E A : Type 0} (result : Result T E) → A → OnOk result A
+ok_anyway (Ok x) holds = holds
+ok_anyway (Err e) holds = tt
+
+pub err_anyway : {T E A : Type 0} (result : Result T E) → A → OnErr result A
+err_anyway (Ok x) holds = tt
+err_anyway (Err e) holds = holds
 
 -- of the halves, where the newest root isn't that of trees
 module _ (image : List Sector) where

@@ -2,7 +2,6 @@
 use Rattle.std.proofs.Common.{◌≡◌, ◌≤◌, ◌+◌, ◌++◌, ◌^◌, ℕ, suc, Bool, List, [], ◌∷◌, length, take, sym, ap, subst}
 use Rattle.std.proofs.Common.{◌∙◌, arith}
 use Rattle.std.specs.Prelude.{Option, Some}
-use Rattle.station.specs.Disk.{Sector}
 use Rattle.station.specs.declared.device.Device.{Ghosts as Devices}
 use Rattle.pages.specs.Pages.{mark_of}
 use Rattle.pages.specs.declared.page_map.PageMap.{PageMap}

@@ -1,4 +1,4 @@
-use Rattle.std.proofs.Common.{◌≡◌, inr, List, Err, sym, ap, ◌∙◌}
+use Rattle.std.proofs.Common.{◌≡◌, inr, List, Err, ◌∙◌}
 use Rattle.std.specs.Prelude.{Option, OnOk}
 use Rattle.std.proofs.lemmas.Result.{on_ok_weaker}
 use Rattle.station.specs.Disk.{Sector}
@@ -14,6 +14,7 @@ use Rattle.volume_format.specs.Trees.{AreOf}
 use Rattle.file_bytes.specs.Stored.{rows_of}
 use Rattle.volume_format.proofs.Forests.{all_right}
 use Rattle.volume_format.proofs.Looks.{looks_then}
+use Rattle.btree.proofs.Passing.{was_error}
 use Rattle.file_recovery.proofs.Calling.{on_tree_before}
 use Rattle.file_recovery.proofs.Indexes.{index_is, index_there, index_entries}
 use Rattle.file_recovery.proofs.alternates.check_alternate.Goals as goal
@@ -55,9 +56,9 @@ returns-clause-damaged g c = λ up honest agrees told own is rooted grows can.
 
 pub returns-in_err-check_pages-clause-damaged : goal.returns-in_err-check_pages-clause-damaged
 returns-in_err-check_pages-clause-damaged g c = λ up honest agrees refused own is rooted grows can.
-    let from = rw refused at c.from_residual.ensures.1 in
-    let fault : c.in_err-check_pages.field-0.0 ≡ Damaged = sym from in
-    let told : c.check_pages.result ≡ Err Damaged = c.in_err-check_pages.was ∙ ap Err fault in
+    let told =
+    was_error c.from_residual.result c.check_pages.result c.in_err-check_pages.field-0.0 Damaged
+    c.from_residual.ensures.1 c.in_err-check_pages.was refused in
     let before : List (Option Sector) = pages_on g.D.Device c.args.pages.now c.args.device.now in
     let there = index_there before (spec_of c.args.file.now) (rows_of c.args.rows.now) c.args.root.value.now _
     (c.new-tree.ensures.layout ∙ c.tree_layout-layout.ensures.layout) own is grows

@@ -1,4 +1,4 @@
-use Rattle.std.proofs.Common.{◌≡◌, ◌<◌, inr, ℕ, List, Err, length, sym, ap, subst, ◌∙◌, arith}
+use Rattle.std.proofs.Common.{◌≡◌, ◌<◌, inr, ℕ, List, Err, length, subst, arith}
 use Rattle.std.specs.Prelude.{Option}
 use Rattle.station.specs.Disk.{Sector}
 use Rattle.pages.specs.Pages.{map_now}
@@ -9,6 +9,7 @@ use Rattle.volume_format.proofs.Small.{few_alternates}
 use Rattle.file_recovery.specs.Found.{FindsIndexes, NoIndex}
 use Rattle.file_bytes.specs.Stored.{rows_of}
 use Rattle.volume_format.proofs.Looks.{looks_nowhere, looks_then}
+use Rattle.btree.proofs.Passing.{was_error}
 use Rattle.file_recovery.proofs.Calling.{on_pages_before, looks_on}
 use Rattle.file_recovery.proofs.Indexes.{no_indexes, index_more, indexes_go_on, at_first, none_here}
 use Rattle.file_recovery.proofs.alternates.check_alternates.Given.{Over}
@@ -53,16 +54,15 @@ returns-in_err-check_alternate-clause-looks g c =
     let loop = c.loop-key in
     looks_then g.D.Device ⊥ (c.check_alternate.result ≡ Err Device) _ c.args.pages.now loop.pages
     c.check_alternate.new.pages c.args.device.now loop.device c.check_alternate.new.device
-    (λ is. let from = rw is at c.from_residual.ensures.1 in let fault : c.in_err-check_alternate.field-0.0 ≡ Device =
-    sym from in let told : c.check_alternate.result ≡ Err Device =
-    c.in_err-check_alternate.was ∙ ap Err fault in inr told)
+    (λ is. inr (was_error c.from_residual.result c.check_alternate.result c.in_err-check_alternate.field-0.0 Device
+    c.from_residual.ensures.1 c.in_err-check_alternate.was is))
     loop.invariant.looks c.check_alternate.ensures.looks
 
 pub returns-in_err-check_alternate-clause-damaged : goal.returns-in_err-check_alternate-clause-damaged
 returns-in_err-check_alternate-clause-damaged g c = λ up honest agrees refused trees are can.
-    let from = rw refused at c.from_residual.ensures.1 in
-    let fault : c.in_err-check_alternate.field-0.0 ≡ Damaged = sym from in
-    let told : c.check_alternate.result ≡ Err Damaged = c.in_err-check_alternate.was ∙ ap Err fault in
+    let told =
+    was_error c.from_residual.result c.check_alternate.result c.in_err-check_alternate.field-0.0 Damaged
+    c.from_residual.ensures.1 c.in_err-check_alternate.was refused in
     let loop = c.loop-key in
     let spec = spec_of c.args.file.now in
     let rows = rows_of c.args.rows.now in

@@ -1,4 +1,4 @@
-use Rattle.std.proofs.Common.{◌≡◌, ◌≤◌, ◌^◌, inr, ℕ, List, Err, length, sym, ap, subst, ◌∙◌, arith}
+use Rattle.std.proofs.Common.{◌≡◌, inr, ℕ, List, Err, sym, ap, subst, ◌∙◌, arith}
 use Rattle.std.specs.Prelude.{Option, Result, Ok, IfOk}
 use Rattle.std.proofs.lemmas.List.{length-map}
 use Rattle.station.specs.Disk.{Sector}
@@ -14,8 +14,10 @@ use Rattle.volume_format.specs.Catalog.{catalog_layout}
 use Rattle.file_recovery.specs.Kept.{FindsCatalog}
 use Rattle.file_recovery.specs.Listed.{FindsFiles, NoFiles, pages_of_files}
 use Rattle.file_bytes.specs.Stored.{named_of, files_of}
-use Rattle.volume_format.proofs.Looks.{looks_then}
-use Rattle.file_recovery.proofs.Calling.{on_marked_before}
+use Rattle.volume_format.proofs.Looks.{looks_then, looks_blamed}
+use Rattle.btree.proofs.Passing.{was_error, if_refused}
+use Rattle.file_recovery.proofs.Faults.{cause_passed}
+use Rattle.file_recovery.proofs.Calling.{on_marked_before, unspent_kept, sectors_kept}
 use Rattle.file_recovery.proofs.Listed.{catalog_read, no_catalog_read, catalog_grows}
 use Rattle.btree_check.proofs.Marking.{can_left}
 use Rattle.file_recovery.proofs.catalog.read_catalog.Given.{Over}
@@ -89,9 +91,9 @@ returns-clause-damaged g c = λ honest agrees told.
 
 pub returns-in_err-check_pages-clause-damaged : goal.returns-in_err-check_pages-clause-damaged
 returns-in_err-check_pages-clause-damaged g c = λ honest agrees refused catalog kept is can.
-    let from = rw refused at c.from_residual.ensures.1 in
-    let fault : c.in_err-check_pages.field-0.0 ≡ Damaged = sym from in
-    let told : c.check_pages.result ≡ Err Damaged = c.in_err-check_pages.was ∙ ap Err fault in
+    let told =
+    was_error c.from_residual.result c.check_pages.result c.in_err-check_pages.field-0.0 Damaged
+    c.from_residual.ensures.1 c.in_err-check_pages.was refused in
     let m : Map = map_now c.args.pages.now (g.D.Device.state c.args.device.now).disk.present in
     let tree : RootedTree = c.catalog_tree-catalog.result in
     let there = catalog_named m tree catalog
@@ -99,3 +101,29 @@ returns-in_err-check_pages-clause-damaged g c = λ honest agrees refused catalog
     (c.catalog_tree-catalog.ensures.root ∙ c.catalog.ensures) (catalog_grows m c.args.generation catalog kept is) in
     c.check_pages.ensures.damaged honest agrees told catalog there
     (can_left c.args.seen.now (pages_of catalog) (pages_of_files kept) can).unmarked
+
+pub read_files-requires-clause-unspent : goal.read_files-requires-clause-unspent
+read_files-requires-clause-unspent g c =
+    unspent_kept g.D.Device (c.check_pages.result ≡ Err Device) c.args.pages.now c.check_pages.new.pages
+    c.args.device.now c.check_pages.new.device c.check_pages.ensures.looks c.requires.unspent
+
+pub read_files-requires-clause-sectors : goal.read_files-requires-clause-sectors
+read_files-requires-clause-sectors g c =
+    sectors_kept g.D.Device (c.check_pages.result ≡ Err Device) c.args.pages.now c.check_pages.new.pages
+    c.args.device.now c.check_pages.new.device c.check_pages.ensures.looks c.requires.sectors
+
+pub returns-in_err-check_pages-clause-looks : goal.returns-in_err-check_pages-clause-looks
+returns-in_err-check_pages-clause-looks g c =
+    looks_blamed g.D.Device (c.check_pages.result ≡ Err Device) _ c.args.pages.now c.check_pages.new.pages
+    c.args.device.now c.check_pages.new.device (λ is. was_error c.from_residual.result c.check_pages.result
+    c.in_err-check_pages.field-0.0 Device c.from_residual.ensures.1 c.in_err-check_pages.was is)
+    c.check_pages.ensures.looks
+
+pub returns-in_err-check_pages-clause-files : goal.returns-in_err-check_pages-clause-files
+returns-in_err-check_pages-clause-files g c = λ honest agrees.
+    if_refused c.from_residual.result c.in_err-check_pages.field-0.0 c.from_residual.ensures.1 _
+
+pub returns-in_err-check_pages-clause-cause : goal.returns-in_err-check_pages-clause-cause
+returns-in_err-check_pages-clause-cause g c =
+    cause_passed c.from_residual.result c.in_err-check_pages.field-0.0 c.from_residual.ensures.1
+    c.in_err-check_pages.ensures.cause

@@ -1,9 +1,11 @@
-use Rattle.std.proofs.Common.{◌≡◌, inr, Err, sym, ap, ◌∙◌, arith}
+use Rattle.std.proofs.Common.{◌≡◌, inr, Err, arith}
 use Rattle.btree.specs.Calls.{pages_on}
 use Rattle.chains.specs.Chain.{pages_for}
 use Rattle.records.specs.declared.fault.StoreFault.TheVariants.{Device, Damaged}
 use Rattle.volume_format.proofs.Looks.{looks_nowhere, looks_blamed, looks_then}
 use Rattle.file_recovery.specs.Chained.{MarksLink, NoMarkedLink}
+use Rattle.btree.proofs.Passing.{was_error, never_ok}
+use Rattle.file_recovery.proofs.Faults.{damaged_not_device}
 use Rattle.file_recovery.proofs.Calling.{on_pages_before, looks_on}
 use Rattle.file_recovery.proofs.Following.{marked_start, marked_next, marked_all, no_more, no_end}
 use Rattle.file_recovery.proofs.chained.check_chain.Goals as goal
@@ -34,15 +36,15 @@ returns-in_err-next-clause-looks g c =
     let loop = c.loop-place in
     looks_then g.D.Device ⊥ (c.mark_link.result ≡ Err Device) _ c.args.pages.now loop.pages
     c.mark_link.new.pages c.args.device.now loop.device c.mark_link.new.device
-    (λ is. let from = rw is at c.from_residual.ensures.1 in let fault : c.in_err-next.field-0.0 ≡ Device =
-    sym from in let told : c.mark_link.result ≡ Err Device = c.in_err-next.was ∙ ap Err fault in inr told)
+    (λ is. inr (was_error c.from_residual.result c.mark_link.result c.in_err-next.field-0.0 Device
+    c.from_residual.ensures.1 c.in_err-next.was is))
     loop.invariant.looks c.mark_link.ensures.looks
 
 pub returns-in_err-next-clause-damaged : goal.returns-in_err-next-clause-damaged
 returns-in_err-next-clause-damaged g c = λ honest agrees refused stands can.
-    let from = rw refused at c.from_residual.ensures.1 in
-    let fault : c.in_err-next.field-0.0 ≡ Damaged = sym from in
-    let told : c.mark_link.result ≡ Err Damaged = c.in_err-next.was ∙ ap Err fault in
+    let told =
+    was_error c.from_residual.result c.mark_link.result c.in_err-next.field-0.0 Damaged c.from_residual.ensures.1
+    c.in_err-next.was refused in
     let loop = c.loop-place in
     let test = c.loop-place-test.true in
     let count = c.page_count-count.ensures in
@@ -64,12 +66,12 @@ returns-then-page-ne0-clause-damaged g c = λ honest agrees told stands can.
 pub returns-then-page-ne0-clause-looks : goal.returns-then-page-ne0-clause-looks
 returns-then-page-ne0-clause-looks g c =
     looks_blamed g.D.Device ⊥ _ c.args.pages.now c.loop-place.pages c.args.device.now c.loop-place.device
-    (λ is. let never : ⊥ = cc in absurd never) c.loop-place.invariant.looks
+    (λ is. damaged_not_device is) c.loop-place.invariant.looks
 
 pub returns-clause-looks : goal.returns-clause-looks
 returns-clause-looks g c =
     looks_blamed g.D.Device ⊥ _ c.args.pages.now c.loop-place.pages c.args.device.now c.loop-place.device
-    (λ is. let never : ⊥ = cc in absurd never) c.loop-place.invariant.looks
+    (λ is. never_ok is) c.loop-place.invariant.looks
 
 pub returns-clause-chain : goal.returns-clause-chain
 returns-clause-chain g c = λ honest agrees.

@@ -1,4 +1,4 @@
-use Rattle.std.proofs.Common.{◌≡◌, inr, ℕ, List, Err, sym, ap, subst, ◌∙◌}
+use Rattle.std.proofs.Common.{◌≡◌, inr, ℕ, List, Err, sym, subst}
 use Rattle.std.specs.Prelude.{Option}
 use Rattle.station.specs.Disk.{Sector}
 use Rattle.btree.specs.Calls.{pages_on}
@@ -6,6 +6,7 @@ use Rattle.chains.specs.Chain.{Stands, pages_for}
 use Rattle.chains.specs.Changes.{IsRecordOf}
 use Rattle.records.specs.declared.fault.StoreFault.TheVariants.{Device, Damaged}
 use Rattle.volume_format.proofs.Looks.{looks_then, looks_past}
+use Rattle.btree.proofs.Passing.{was_error, never_ok}
 use Rattle.file_recovery.proofs.Calling.{pages_kept}
 use Rattle.file_recovery.proofs.Faults.{memory_not_device}
 use Rattle.file_recovery.proofs.Following.{whole_made, whole_read, none_named}
@@ -13,9 +14,9 @@ use Rattle.file_recovery.proofs.chained.whole_value.Goals as goal
 
 pub returns-in_err-check_chain-clause-damaged : goal.returns-in_err-check_chain-clause-damaged
 returns-in_err-check_chain-clause-damaged g c = λ honest agrees refused.
-    let from = rw refused at c.from_residual.ensures.1 in
-    let fault : c.in_err-check_chain.field-0.0 ≡ Damaged = sym from in
-    let told : c.check_chain.result ≡ Err Damaged = c.in_err-check_chain.was ∙ ap Err fault in
+    let told =
+    was_error c.from_residual.result c.check_chain.result c.in_err-check_chain.field-0.0 Damaged
+    c.from_residual.ensures.1 c.in_err-check_chain.was refused in
     none_named (pages_on g.D.Device c.args.pages.now c.args.device.now) _ _ c.args.value.now c.args.seen.now
     c.read_u32-first.ensures (c.check_chain.ensures.damaged honest agrees told)
 
@@ -23,17 +24,16 @@ pub returns-in_err-whole-clause-looks : goal.returns-in_err-whole-clause-looks
 returns-in_err-whole-clause-looks g c =
     looks_then g.D.Device (c.check_chain.result ≡ Err Device) (c.record_of.result ≡ Err Device) _ c.args.pages.now
     c.check_chain.new.pages c.check_chain.new.pages c.args.device.now c.check_chain.new.device c.record_of.new.device
-    (λ is. let from = rw is at c.from_residual-in_err-whole.ensures.1 in
-    let fault : c.in_err-whole.field-0.0 ≡ Device = sym from in
-    let told : c.record_of.result ≡ Err Device = c.in_err-whole.was ∙ ap Err fault in inr told)
+    (λ is. inr (was_error c.from_residual-in_err-whole.result c.record_of.result c.in_err-whole.field-0.0 Device
+    c.from_residual-in_err-whole.ensures.1 c.in_err-whole.was is))
     c.check_chain.ensures.looks
     (looks_past g.D.Device _ c.check_chain.new.pages _ _ c.record_of.ensures.only)
 
 pub returns-in_err-whole-clause-damaged : goal.returns-in_err-whole-clause-damaged
 returns-in_err-whole-clause-damaged g c = λ honest agrees refused stands can.
-    let from = rw refused at c.from_residual-in_err-whole.ensures.1 in
-    let fault : c.in_err-whole.field-0.0 ≡ Damaged = sym from in
-    let told : c.record_of.result ≡ Err Damaged = c.in_err-whole.was ∙ ap Err fault in
+    let told =
+    was_error c.from_residual-in_err-whole.result c.record_of.result c.in_err-whole.field-0.0 Damaged
+    c.from_residual-in_err-whole.ensures.1 c.in_err-whole.was refused in
     let looks = c.check_chain.ensures.looks in
     let before : List (Option Sector) = pages_on g.D.Device c.args.pages.now c.args.device.now in
     let same = pages_kept g.D.Device (c.check_chain.result ≡ Err Device) c.args.pages.now c.check_chain.new.pages
@@ -58,7 +58,7 @@ pub returns-clause-looks : goal.returns-clause-looks
 returns-clause-looks g c =
     looks_then g.D.Device (c.check_chain.result ≡ Err Device) (c.record_of.result ≡ Err Device) _ c.args.pages.now
     c.check_chain.new.pages c.check_chain.new.pages c.args.device.now c.check_chain.new.device c.record_of.new.device
-    (λ is. let never : ⊥ = cc in absurd never) c.check_chain.ensures.looks
+    (λ is. never_ok is) c.check_chain.ensures.looks
     (looks_past g.D.Device _ c.check_chain.new.pages _ _ c.record_of.ensures.only)
 
 pub returns-clause-whole : goal.returns-clause-whole

@@ -23,6 +23,7 @@ use Rattle.volume_format.proofs.Looks.{looks_then, looks_blamed, looks_nowhere}
 use Rattle.file_recovery.proofs.Calling.{on_pages_before, on_pages_before_both, unspent_kept, sectors_kept}
 use Rattle.btree.proofs.Passing.{if_refused, never_ok, was_error}
 use Rattle.file_recovery.proofs.Faults.{cause_passed, memory_read, memory_passed, memory_not_device, memory_not_damaged}
+use Rattle.file_recovery.proofs.Faults.{damaged_not_device}
 use Rattle.file_recovery.proofs.Entered.{is_none}
 use Rattle.file_recovery.proofs.FirstMark.{long_by, listing_fits}
 use Rattle.file_recovery.proofs.FirstMark.{without_count, counted_as, none_counted, none_miscounted, finds_counted}
@@ -102,7 +103,7 @@ pub returns-then-not-is_counted-clause-looks : goal.returns-then-not-is_counted-
 returns-then-not-is_counted-clause-looks g c =
     looks_then g.D.Device (c.check_pages.result ≡ Err Device) (c.read_rows.result ≡ Err Device) _ c.args.pages.now
     c.check_pages.new.pages c.read_rows.new.pages c.args.device.now c.check_pages.new.device c.read_rows.new.device
-    (λ is. let never : ⊥ = cc in absurd never) c.check_pages.ensures.looks c.read_rows.ensures.looks
+    (λ is. damaged_not_device is) c.check_pages.ensures.looks c.read_rows.ensures.looks
 
 pub returns-in_default-clause-damaged : goal.returns-in_default-clause-damaged
 returns-in_default-clause-damaged g c = λ honest agrees told. none_counted (λ kept found can.
@@ -150,9 +151,9 @@ returns-clause-file g c = λ honest agrees.
 pub returns-in_err-check_pages-clause-damaged : goal.returns-in_err-check_pages-clause-damaged
 returns-in_err-check_pages-clause-damaged g c = λ honest agrees refused.
     let to = goal.at.returns-in_err-check_pages-clause-damaged g c in
-    let from = rw refused at c.from_residual-in_err-check_pages.ensures.1 in
-    let fault : c.in_err-check_pages.field-0.0 ≡ Damaged = sym from in
-    let told : c.check_pages.result ≡ Err Damaged = c.in_err-check_pages.was ∙ ap Err fault in
+    let told =
+    was_error c.from_residual-in_err-check_pages.result c.check_pages.result c.in_err-check_pages.field-0.0 Damaged
+    c.from_residual-in_err-check_pages.ensures.1 c.in_err-check_pages.was refused in
     none_counted (no_tree_there (entry_read g to.After-check_pages) c.args.seen.now
     (λ levels holds unmarked. c.check_pages.ensures.damaged honest agrees told levels holds unmarked))
 
@@ -160,9 +161,9 @@ pub returns-in_err-rows-clause-damaged : goal.returns-in_err-rows-clause-damaged
 returns-in_err-rows-clause-damaged g c = λ honest agrees refused.
     let to = goal.at.returns-in_err-rows-clause-damaged g c in
     let tree : RootedTree = c.new-tree.result in
-    let from = rw refused at c.from_residual-in_err-rows.ensures.1 in
-    let fault : c.in_err-rows.field-0.0 ≡ Damaged = sym from in
-    let told : c.read_rows.result ≡ Err Damaged = c.in_err-rows.was ∙ ap Err fault in
+    let told =
+    was_error c.from_residual-in_err-rows.result c.read_rows.result c.in_err-rows.field-0.0 Damaged
+    c.from_residual-in_err-rows.ensures.1 c.in_err-rows.was refused in
     let found = c.in_ok-check_pages.ensures.holds honest agrees in
     none_counted (no_rows_there (entry_read g to.After-check_pages) c.args.seen.now c.check_pages.new.seen found.levels
     found.holds found.marks (on_pages_before g.D.Device (λ pages. (levels : List (List TreeNode))
@@ -174,9 +175,10 @@ returns-in_err-rows-clause-damaged g c = λ honest agrees refused.
 pub returns-in_err-check_alternates-clause-damaged : goal.returns-in_err-check_alternates-clause-damaged
 returns-in_err-check_alternates-clause-damaged g c = λ honest agrees refused.
     let to = goal.at.returns-in_err-check_alternates-clause-damaged g c in
-    let from = rw refused at c.from_residual-in_err-check_alternates.ensures.1 in
-    let fault : c.in_err-check_alternates.field-0.0 ≡ Damaged = sym from in
-    let told : c.check_alternates.result ≡ Err Damaged = c.in_err-check_alternates.was ∙ ap Err fault in
+    let told =
+    was_error c.from_residual-in_err-check_alternates.result c.check_alternates.result
+    c.in_err-check_alternates.field-0.0 Damaged c.from_residual-in_err-check_alternates.ensures.1
+    c.in_err-check_alternates.was refused in
     let read = entry_read g to.After-check_pages in
     let got = rows_read_on g to.After-is_counted honest agrees read in
     let up = rows_ascend_there g to.After-check_alternates got.ascend in
@@ -194,8 +196,8 @@ pub returns-in_err-rows-clause-looks : goal.returns-in_err-rows-clause-looks
 returns-in_err-rows-clause-looks g c =
     looks_then g.D.Device (c.check_pages.result ≡ Err Device) (c.read_rows.result ≡ Err Device) _ c.args.pages.now
     c.check_pages.new.pages c.read_rows.new.pages c.args.device.now c.check_pages.new.device c.read_rows.new.device
-    (λ is. let from = rw is at c.from_residual-in_err-rows.ensures.1 in let fault : c.in_err-rows.field-0.0 ≡ Device =
-    sym from in let told : c.read_rows.result ≡ Err Device = c.in_err-rows.was ∙ ap Err fault in inr told)
+    (λ is. inr (was_error c.from_residual-in_err-rows.result c.read_rows.result c.in_err-rows.field-0.0 Device
+    c.from_residual-in_err-rows.ensures.1 c.in_err-rows.was is))
     c.check_pages.ensures.looks c.read_rows.ensures.looks
 
 pub returns-in_err-check_alternates-clause-looks : goal.returns-in_err-check_alternates-clause-looks
@@ -206,9 +208,9 @@ returns-in_err-check_alternates-clause-looks g c =
     (λ is. absurd is) c.check_pages.ensures.looks c.read_rows.ensures.looks in
     looks_then g.D.Device ⊥ (c.check_alternates.result ≡ Err Device) _ c.args.pages.now c.read_rows.new.pages
     c.check_alternates.new.pages c.args.device.now c.read_rows.new.device c.check_alternates.new.device
-    (λ is. let from = rw is at c.from_residual-in_err-check_alternates.ensures.1 in
-    let fault : c.in_err-check_alternates.field-0.0 ≡ Device = sym from in
-    let told : c.check_alternates.result ≡ Err Device = c.in_err-check_alternates.was ∙ ap Err fault in inr told)
+    (λ is. inr (was_error c.from_residual-in_err-check_alternates.result c.check_alternates.result
+    c.in_err-check_alternates.field-0.0 Device c.from_residual-in_err-check_alternates.ensures.1
+    c.in_err-check_alternates.was is))
     both c.check_alternates.ensures.looks
 
 pub returns-clause-looks : goal.returns-clause-looks
@@ -219,7 +221,7 @@ returns-clause-looks g c =
     (λ is. absurd is) c.check_pages.ensures.looks c.read_rows.ensures.looks in
     looks_then g.D.Device ⊥ (c.check_alternates.result ≡ Err Device) _ c.args.pages.now c.read_rows.new.pages
     c.check_alternates.new.pages c.args.device.now c.read_rows.new.device c.check_alternates.new.device
-    (λ is. let never : ⊥ = cc in absurd never) both c.check_alternates.ensures.looks
+    (λ is. never_ok is) both c.check_alternates.ensures.looks
 
 pub returns-in_err-file-clause-file : goal.returns-in_err-file-clause-file
 returns-in_err-file-clause-file g c =
@@ -272,12 +274,12 @@ returns-in_default-clause-file g c = λ honest agrees. tt
 pub returns-then-not-is_next-clause-looks : goal.returns-then-not-is_next-clause-looks
 returns-then-not-is_next-clause-looks g c =
     looks_blamed g.D.Device ⊥ _ c.args.pages.now c.args.pages.now c.args.device.now c.args.device.now
-    (λ is. let never : ⊥ = cc in absurd never) (looks_nowhere g.D.Device c.args.pages.now c.args.device.now)
+    (λ is. damaged_not_device is) (looks_nowhere g.D.Device c.args.pages.now c.args.device.now)
 
 pub returns-in_default-clause-looks : goal.returns-in_default-clause-looks
 returns-in_default-clause-looks g c =
     looks_blamed g.D.Device ⊥ _ c.args.pages.now c.args.pages.now c.args.device.now c.args.device.now
-    (λ is. let never : ⊥ = cc in absurd never) (looks_nowhere g.D.Device c.args.pages.now c.args.device.now)
+    (λ is. damaged_not_device is) (looks_nowhere g.D.Device c.args.pages.now c.args.device.now)
 
 pub returns-in_err-file-clause-looks : goal.returns-in_err-file-clause-looks
 returns-in_err-file-clause-looks g c =

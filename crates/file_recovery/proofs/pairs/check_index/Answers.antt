@@ -1,4 +1,4 @@
-use Rattle.std.proofs.Common.{◌≡◌, inr, List, length, Err, sym, ap, subst, ◌∙◌, arith}
+use Rattle.std.proofs.Common.{◌≡◌, inr, List, length, Err, sym, subst, ◌∙◌, arith}
 use Rattle.std.specs.List.{AllByRecursion}
 use Rattle.std.proofs.lemmas.List.{length-map}
 use Rattle.pages.specs.Pages.{map_now}
@@ -9,9 +9,11 @@ use Rattle.records.specs.declared.fault.StoreFault.TheVariants.{Device, Damaged}
 use Rattle.records.specs.Stores.{spec_of}
 use Rattle.file_recovery.specs.Rows.{IsPairOf}
 use Rattle.file_bytes.specs.Stored.{row_of, rows_of}
-use Rattle.volume_format.proofs.Looks.{looks_blamed, looks_then}
-use Rattle.file_recovery.proofs.Calling.{on_tree_before, looks_on, unspent_kept}
-use Rattle.file_recovery.proofs.Faults.{search_passed}
+use Rattle.volume_format.proofs.Looks.{looks_blamed, looks_nowhere, looks_then}
+use Rattle.file_recovery.proofs.Calling.{on_tree_before, looks_on, unspent_kept, sectors_kept}
+use Rattle.file_recovery.proofs.Faults.{search_passed, cause_passed, memory_read, memory_passed}
+use Rattle.file_recovery.proofs.Faults.{memory_not_device, memory_not_damaged, damaged_not_device}
+use Rattle.btree.proofs.Passing.{on_refused, never_ok, was_error}
 use Rattle.file_recovery.proofs.Matching.{are_pairs, as_many}
 use Rattle.file_recovery.proofs.PairsOf.{primes_ascend}
 use Rattle.btree.proofs.Ascending.{first_at, none_at, some_at}
@@ -74,9 +76,9 @@ returns-in-None-clause-damaged g c = λ up honest agrees levels holds told are.
 
 pub returns-in_err-next-clause-damaged : goal.returns-in_err-next-clause-damaged
 returns-in_err-next-clause-damaged g c = λ up honest agrees levels holds refused are.
-    let from = rw refused at c.from_residual-in_err-next.ensures.1 in
-    let fault : c.in_err-next.field-0.0 ≡ Damaged = sym from in
-    let told : c.first_in.result ≡ Err Damaged = c.in_err-next.was ∙ ap Err fault in
+    let told =
+    was_error c.from_residual-in_err-next.result c.first_in.result c.in_err-next.field-0.0 Damaged
+    c.from_residual-in_err-next.ensures.1 c.in_err-next.was refused in
     c.first_in.ensures.damaged honest agrees levels holds told
 
 pub returns-in_err-next-clause-cause : goal.returns-in_err-next-clause-cause
@@ -89,16 +91,15 @@ returns-in_err-next-in-Some-clause-looks g c =
     let loop = c.loop-turn in
     looks_then g.D.Device ⊥ (c.next_in.result ≡ Err Device) _ c.args.pages.now loop.pages c.next_in.new.pages
     c.args.device.now loop.device c.next_in.new.device
-    (λ is. let from =
-    rw is at c.from_residual-in_err-next-in-Some.ensures.1 in let fault : c.in_err-next-in-Some.field-0.0 ≡ Device =
-    sym from in let told : c.next_in.result ≡ Err Device = c.in_err-next-in-Some.was ∙ ap Err fault in inr told)
+    (λ is. inr (was_error c.from_residual-in_err-next-in-Some.result c.next_in.result c.in_err-next-in-Some.field-0.0
+    Device c.from_residual-in_err-next-in-Some.ensures.1 c.in_err-next-in-Some.was is))
     loop.invariant.looks c.next_in.ensures.looks
 
 pub returns-in_err-next-in-Some-clause-damaged : goal.returns-in_err-next-in-Some-clause-damaged
 returns-in_err-next-in-Some-clause-damaged g c = λ up honest agrees levels holds refused are.
-    let from = rw refused at c.from_residual-in_err-next-in-Some.ensures.1 in
-    let fault : c.in_err-next-in-Some.field-0.0 ≡ Damaged = sym from in
-    let told : c.next_in.result ≡ Err Damaged = c.in_err-next-in-Some.was ∙ ap Err fault in
+    let told =
+    was_error c.from_residual-in_err-next-in-Some.result c.next_in.result c.in_err-next-in-Some.field-0.0 Damaged
+    c.from_residual-in_err-next-in-Some.ensures.1 c.in_err-next-in-Some.was refused in
     on_tree_before g.D.Device (λ pages l. ⊥) c.loop-turn.invariant.looks
     (λ still same l there. c.next_in.ensures.damaged still same l there told) honest agrees levels holds
 
@@ -157,3 +158,67 @@ returns-clause-index g c = λ up honest agrees levels holds.
     are_pairs spec c.args.key rows entries c.args.file.now.sound c.requires.key up ascend
     (each_passed (IsPairOf spec c.args.key rows) entries (each_pair g to honest agrees levels holds))
     (as_many_pairs g to honest agrees levels holds)
+
+pub next_in-requires : goal.next_in-requires
+next_in-requires g c = record {
+  sectors = sectors_kept g.D.Device ⊥ c.args.pages.now c.loop-turn.pages c.args.device.now c.loop-turn.device
+      c.loop-turn.invariant.looks c.requires.sectors;
+}
+
+pub returns-in_err-index-clause-looks : goal.returns-in_err-index-clause-looks
+returns-in_err-index-clause-looks g c =
+    looks_blamed g.D.Device ⊥ _ _ _ _ _ (λ is. memory_not_device c.from_residual.result
+    (memory_passed c.from_residual.result c.in_err-index.field-0.0 c.from_residual.ensures.1 c.in_err-index.ensures) is)
+    (looks_nowhere g.D.Device c.args.pages.now c.args.device.now)
+
+pub returns-in_err-index-clause-index : goal.returns-in_err-index-clause-index
+returns-in_err-index-clause-index g c = λ up honest agrees levels holds.
+    on_refused c.from_residual.result c.in_err-index.field-0.0 c.from_residual.ensures.1 _
+
+pub returns-in_err-index-clause-damaged : goal.returns-in_err-index-clause-damaged
+returns-in_err-index-clause-damaged g c = λ up honest agrees levels holds is are. memory_not_damaged
+    c.from_residual.result
+    (memory_passed c.from_residual.result c.in_err-index.field-0.0 c.from_residual.ensures.1 c.in_err-index.ensures) is
+
+pub returns-in_err-index-clause-cause : goal.returns-in_err-index-clause-cause
+returns-in_err-index-clause-cause g c =
+    cause_passed c.from_residual.result c.in_err-index.field-0.0 c.from_residual.ensures.1
+    (memory_read c.in_err-index.field-0.0 c.in_err-index.ensures)
+
+pub returns-in_err-next-clause-looks : goal.returns-in_err-next-clause-looks
+returns-in_err-next-clause-looks g c =
+    looks_blamed g.D.Device (c.first_in.result ≡ Err Device) _ c.args.pages.now c.first_in.new.pages c.args.device.now
+    c.first_in.new.device (λ is. was_error c.from_residual-in_err-next.result c.first_in.result
+    c.in_err-next.field-0.0 Device c.from_residual-in_err-next.ensures.1 c.in_err-next.was is) c.first_in.ensures.looks
+
+pub returns-in_err-next-clause-index : goal.returns-in_err-next-clause-index
+returns-in_err-next-clause-index g c = λ up honest agrees levels holds.
+    on_refused c.from_residual-in_err-next.result c.in_err-next.field-0.0 c.from_residual-in_err-next.ensures.1 _
+
+pub returns-in_err-next-in-Some-clause-index : goal.returns-in_err-next-in-Some-clause-index
+returns-in_err-next-in-Some-clause-index g c = λ up honest agrees levels holds.
+    on_refused c.from_residual-in_err-next-in-Some.result c.in_err-next-in-Some.field-0.0
+    c.from_residual-in_err-next-in-Some.ensures.1 _
+
+pub returns-then-not-is_pair-clause-looks : goal.returns-then-not-is_pair-clause-looks
+returns-then-not-is_pair-clause-looks g c =
+    looks_blamed g.D.Device ⊥ _ c.args.pages.now c.loop-turn.pages c.args.device.now c.loop-turn.device
+    (λ is. damaged_not_device is) c.loop-turn.invariant.looks
+
+pub returns-in-None-clause-looks : goal.returns-in-None-clause-looks
+returns-in-None-clause-looks g c =
+    looks_blamed g.D.Device ⊥ _ c.args.pages.now c.loop-turn.pages c.args.device.now c.loop-turn.device
+    (λ is. let never : ⊥ = cc in absurd never) c.loop-turn.invariant.looks
+
+pub returns-in-Some-next-clause-looks : goal.returns-in-Some-next-clause-looks
+returns-in-Some-next-clause-looks g c =
+    looks_blamed g.D.Device ⊥ _ c.args.pages.now c.loop-turn.pages c.args.device.now c.loop-turn.device
+    (λ is. let never : ⊥ = cc in absurd never) c.loop-turn.invariant.looks
+
+pub returns-clause-looks : goal.returns-clause-looks
+returns-clause-looks g c =
+    looks_blamed g.D.Device ⊥ _ c.args.pages.now c.loop-turn.pages c.args.device.now c.loop-turn.device
+    (λ is. never_ok is) c.loop-turn.invariant.looks
+
+pub returns-clause-damaged : goal.returns-clause-damaged
+returns-clause-damaged g c = λ up honest agrees levels holds told are. never_ok told

@@ -6,6 +6,7 @@ use Rattle.records.specs.Stores.{spec_of}
 use Rattle.volume_format.proofs.Looks.{looks_nowhere, looks_blamed}
 use Rattle.file_recovery.specs.Faults.{IsReadFault}
 use Rattle.file_recovery.specs.Rows.{IsOwnFault}
+use Rattle.btree.proofs.Passing.{was_error}
 use Rattle.file_recovery.proofs.Faults.{own_fault, own_not_device}
 use Rattle.file_recovery.proofs.Following.{long_kept, short_kept, short_row, short_none, long_row, long_none}
 use Rattle.file_recovery.proofs.Following.{long_other}
@@ -59,9 +60,9 @@ returns-then-not-is_long-clause-cause g c =
 
 pub returns-in_err-whole-clause-damaged : goal.returns-in_err-whole-clause-damaged
 returns-in_err-whole-clause-damaged g c = λ honest agrees refused.
-    let from = rw refused at c.from_residual.ensures.1 in
-    let fault : c.in_err-whole.field-0.0 ≡ Damaged = sym from in
-    let told : c.whole_value.result ≡ Err Damaged = c.in_err-whole.was ∙ ap Err fault in
+    let told =
+    was_error c.from_residual.result c.whole_value.result c.in_err-whole.field-0.0 Damaged c.from_residual.ensures.1
+    c.in_err-whole.was refused in
     long_none (spec_of c.args.file.now) c.args.next_arrival
     (pages_on g.D.Device c.args.pages.now c.args.device.now) c.args.entry.now c.args.seen.now
     (sym c.is_long.ensures ∙ c.if-not-is_long.false) c.value-2.result.now c.value-2.ensures

@@ -76,9 +76,9 @@ returns-in-None-clause-rows g c = λ honest agrees levels holds.
 
 pub returns-in_err-next-clause-damaged : goal.returns-in_err-next-clause-damaged
 returns-in_err-next-clause-damaged g c = λ honest agrees levels holds refused rows all stand listed can.
-    let from = rw refused at c.from_residual.ensures.1 in
-    let fault : c.in_err-next.field-0.0 ≡ Damaged = sym from in
-    let told : c.first_in.result ≡ Err Damaged = c.in_err-next.was ∙ ap Err fault in
+    let told =
+    was_error c.from_residual.result c.first_in.result c.in_err-next.field-0.0 Damaged c.from_residual.ensures.1
+    c.in_err-next.was refused in
     c.first_in.ensures.damaged honest agrees levels holds told
 
 pub returns-in_err-next-clause-cause : goal.returns-in_err-next-clause-cause
@@ -91,16 +91,15 @@ returns-in_err-row-in-Some-clause-looks g c =
     let loop = c.loop-turn in
     looks_then g.D.Device ⊥ (c.read_row.result ≡ Err Device) _ c.args.pages.now loop.pages c.read_row.new.pages
     c.args.device.now loop.device c.read_row.new.device
-    (λ is. let from =
-    rw is at c.from_residual-in_err-row-in-Some.ensures.1 in let fault : c.in_err-row-in-Some.field-0.0 ≡ Device =
-    sym from in let told : c.read_row.result ≡ Err Device = c.in_err-row-in-Some.was ∙ ap Err fault in inr told)
+    (λ is. inr (was_error c.from_residual-in_err-row-in-Some.result c.read_row.result c.in_err-row-in-Some.field-0.0
+    Device c.from_residual-in_err-row-in-Some.ensures.1 c.in_err-row-in-Some.was is))
     loop.invariant.looks c.read_row.ensures.looks
 
 pub returns-in_err-row-in-Some-clause-damaged : goal.returns-in_err-row-in-Some-clause-damaged
 returns-in_err-row-in-Some-clause-damaged g c = λ honest agrees levels holds refused.
-    let from = rw refused at c.from_residual-in_err-row-in-Some.ensures.1 in
-    let fault : c.in_err-row-in-Some.field-0.0 ≡ Damaged = sym from in
-    let told : c.read_row.result ≡ Err Damaged = c.in_err-row-in-Some.was ∙ ap Err fault in
+    let told =
+    was_error c.from_residual-in_err-row-in-Some.result c.read_row.result c.in_err-row-in-Some.field-0.0 Damaged
+    c.from_residual-in_err-row-in-Some.ensures.1 c.in_err-row-in-Some.was refused in
     let loop = c.loop-turn in
     no_row_here g.D.Device loop.invariant.looks loop.invariant.next_is c.in-Some.is loop.invariant.found
     (λ still same. c.read_row.ensures.damaged still same told) honest agrees levels holds
@@ -119,16 +118,15 @@ returns-in_err-next-in-Some-clause-looks g c =
     let till = row_looks g (goal.at.returns-in_err-next-in-Some-clause-looks g c).After-read_row in
     looks_then g.D.Device ⊥ (c.next_in.result ≡ Err Device) _ c.args.pages.now c.read_row.new.pages
     c.next_in.new.pages c.args.device.now c.read_row.new.device c.next_in.new.device
-    (λ is. let from =
-    rw is at c.from_residual-in_err-next-in-Some.ensures.1 in let fault : c.in_err-next-in-Some.field-0.0 ≡ Device =
-    sym from in let told : c.next_in.result ≡ Err Device = c.in_err-next-in-Some.was ∙ ap Err fault in inr told)
+    (λ is. inr (was_error c.from_residual-in_err-next-in-Some.result c.next_in.result c.in_err-next-in-Some.field-0.0
+    Device c.from_residual-in_err-next-in-Some.ensures.1 c.in_err-next-in-Some.was is))
     till c.next_in.ensures.looks
 
 pub returns-in_err-next-in-Some-clause-damaged : goal.returns-in_err-next-in-Some-clause-damaged
 returns-in_err-next-in-Some-clause-damaged g c = λ honest agrees levels holds refused rows all stand listed can.
-    let from = rw refused at c.from_residual-in_err-next-in-Some.ensures.1 in
-    let fault : c.in_err-next-in-Some.field-0.0 ≡ Damaged = sym from in
-    let told : c.next_in.result ≡ Err Damaged = c.in_err-next-in-Some.was ∙ ap Err fault in
+    let told =
+    was_error c.from_residual-in_err-next-in-Some.result c.next_in.result c.in_err-next-in-Some.field-0.0 Damaged
+    c.from_residual-in_err-next-in-Some.ensures.1 c.in_err-next-in-Some.was refused in
     on_tree_before g.D.Device (λ pages l. ⊥)
     (row_looks g (goal.at.returns-in_err-next-in-Some-clause-damaged g c).After-read_row)
     (λ still same l there. c.next_in.ensures.damaged still same l there told) honest agrees levels holds

@@ -2,11 +2,13 @@ use Rattle.std.proofs.Common.{◌≡◌, ◌≤◌, ◌^◌, false, Bool, List, 
 use Rattle.std.proofs.lemmas.List.{length-replicate, with_items_is}
 use Rattle.pages.specs.Image.{Map}
 use Rattle.pages.specs.Pages.{map_now}
-use Rattle.records.specs.declared.fault.StoreFault.TheVariants.{Damaged}
+use Rattle.records.specs.declared.fault.StoreFault.TheVariants.{Device, Damaged}
 use Rattle.file_recovery.specs.Covered.{IsCovered}
 use Rattle.records.specs.Files.{AreShort}
 use Rattle.file_bytes.specs.declared.stored.StoredFile.{StoredFile}
 use Rattle.file_bytes.specs.Stored.{files_of}
+use Rattle.btree.proofs.Passing.{if_refused, never_ok, reads_where, was_error}
+use Rattle.file_recovery.proofs.Faults.{cause_passed, damaged_not_device}
 use Rattle.file_recovery.proofs.Covering.{NoneMarked}
 use Rattle.file_recovery.proofs.ReadTrees.{none_marked, catalog_is_held, none_is_held, stray_is_held, long_is_held}
 use Rattle.file_recovery.proofs.recovering.read_volume.Given.{Over}
@@ -37,9 +39,8 @@ pub returns-in_err-files-clause-damaged : goal.returns-in_err-files-clause-damag
 returns-in_err-files-clause-damaged g c = λ honest agrees told files holds.
     let image = (g.D.Device.state c.args.device.now).disk.present in
     let m : Map = map_now c.args.pages.now image in
-    let from = rw told at c.from_residual-in_err-files.ensures.1 in
-    let fault : c.in_err-files.field-0.0 ≡ Damaged = sym from in
-    let refused : c.read_catalog.result ≡ Err Damaged = c.in_err-files.was ∙ ap Err fault in
+    let refused = was_error c.from_residual-in_err-files.result c.read_catalog.result c.in_err-files.field-0.0 Damaged
+    c.from_residual-in_err-files.ensures.1 c.in_err-files.was told in
     let many : length c.deref_mut.result.now ≡ length m.pages = ap (λ (l : List Bool). length l)
     (c.deref_mut.ensures.value ∙ c.in_ok-seen.ensures.items_if_clones_equal (λ y is. is))
     ∙ length-replicate c.page_count.result false ∙ c.page_count.ensures.count
@@ -85,3 +86,33 @@ returns-clause-damaged g c = λ honest agrees told files holds.
     (λ short. c.may_hold.ensures.no c.if-may_hold.false
     (λ first. subst (λ (l : List StoredFile). AreShort (files_of l)) (sym c.deref-2.ensures.value)
     (short (sym (c.mark.ensures.is ∙ c.read_catalog.ensures.looks.unchanged.committed.mark) ∙ first)))) files holds
+
+pub returns-in_err-files-clause-only : goal.returns-in_err-files-clause-only
+returns-in_err-files-clause-only g c =
+    reads_where g.D.Device (c.read_catalog.result ≡ Err Device) _ _ _
+    (λ is. was_error c.from_residual-in_err-files.result c.read_catalog.result c.in_err-files.field-0.0 Device
+    c.from_residual-in_err-files.ensures.1 c.in_err-files.was is) c.read_catalog.ensures.looks.only
+
+pub returns-in_err-files-clause-holds : goal.returns-in_err-files-clause-holds
+returns-in_err-files-clause-holds g c = λ honest agrees. if_refused c.from_residual-in_err-files.result
+    c.in_err-files.field-0.0 c.from_residual-in_err-files.ensures.1 _
+
+pub returns-in_err-files-clause-cause : goal.returns-in_err-files-clause-cause
+returns-in_err-files-clause-cause g c =
+    cause_passed c.from_residual-in_err-files.result c.in_err-files.field-0.0 c.from_residual-in_err-files.ensures.1
+    c.in_err-files.ensures.cause
+
+pub returns-then-not-are_covered-clause-only : goal.returns-then-not-are_covered-clause-only
+returns-then-not-are_covered-clause-only g c =
+    reads_where g.D.Device _ _ _ _ (λ is. let never : ⊥ = cc in absurd never) c.read_catalog.ensures.looks.only
+
+pub returns-then-may_hold-clause-only : goal.returns-then-may_hold-clause-only
+returns-then-may_hold-clause-only g c =
+    reads_where g.D.Device _ _ _ _ (λ is. never_ok is) c.read_catalog.ensures.looks.only
+
+pub returns-then-may_hold-clause-damaged : goal.returns-then-may_hold-clause-damaged
+returns-then-may_hold-clause-damaged g c = λ honest agrees told files holds. never_ok told
+
+pub returns-clause-only : goal.returns-clause-only
+returns-clause-only g c =
+    reads_where g.D.Device _ _ _ _ (λ is. damaged_not_device is) c.read_catalog.ensures.looks.only
