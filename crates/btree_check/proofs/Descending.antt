@@ -1,5 +1,5 @@
 -- From a level to the one below it, and from a root to its levels.
-use Rattle.std.proofs.Common.{◌≡◌, ◌≤◌, ◌<◌, ◌+◌, ◌-◌, ◌^◌, ◌++◌, ℕ, Bool, List, [], ◌∷◌, length, refl, sym, ap, subst}
+use Rattle.std.proofs.Common.{◌≡◌, ◌≤◌, ◌<◌, ◌-◌, ◌^◌, ◌++◌, ℕ, Bool, List, [], ◌∷◌, length, refl, sym, ap, subst}
 use Rattle.std.proofs.Common.{◌∙◌}
 use Rattle.std.proofs.Common.{arith, true, false}
 use Rattle.std.specs.Prelude.{slice_index_or, Option, Some, Result, Ok, Err}
@@ -126,3 +126,9 @@ root_missing layout view pages after root number key top separators none seen le
     under))
     (tree_can layout pages root seen levels tree unmarked) (small_numbers layout pages root levels few tree)
     (omega (arith, few_levels layout pages root levels few tree, deep))
+
+-- levels under separators are some
+pub none_under : (layout : RowLayout) (pages : List (Option Sector)) (separators : List Separator)
+    (levels : List (List TreeNode)) → IsUnder layout pages separators levels → length levels ≤ 0 → ⊥
+none_under layout pages separators [] under few = under.top
+none_under layout pages separators (top ∷ more) under few = omega (arith, few)
