@@ -24,7 +24,7 @@ refused_by_call was is refused = was ∙ ap Err (sym (rw refused at is))
 pub never_refused : {T A : Type 0} {x : T} {fault : StoreFault} → (◌≡◌ {A = Result T StoreFault} (Ok x) (Err fault)) → A
 never_refused is = cc
 
-none_on : {T : Type 0} (A : Type 0) (given : Result T StoreFault) (e : StoreFault) → IsErrAnd given (λ x. x ≡ e)
+pub none_on : {T : Type 0} (A : Type 0) (given : Result T StoreFault) (e : StoreFault) → IsErrAnd given (λ x. x ≡ e)
     → OnOk given A
 none_on A (Ok x) e is = absurd is
 none_on A (Err x) e is = tt

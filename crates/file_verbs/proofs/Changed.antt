@@ -1,5 +1,6 @@
 -- WRITE, REWRITE and DELETE, from what the store answers to the step of the table.
 use Rattle.std.proofs.Common.{◌≡◌, ℕ, Bool, true, false, ◌&&◌, List, Option, Some, None, refl, sym, ◌∙◌, ap, subst}
+use Rattle.std.proofs.Common.{length}
 use Rattle.std.proofs.Common.{if◌then◌else◌}
 use Rattle.std.specs.Prelude.{unwrap_or, not, Result, Ok, Err, OnOk}
 use Rattle.std.specs.Result.{IsErrAnd}
@@ -44,6 +45,11 @@ pub changed_held : (files : Files) (s : Select) (l : Link) → IsLinked files s 
 changed_held files s l (There there held has) opened = (held, has)
 changed_held files s l (Gone gone mode none) opened = let e : false ≡ true =
     sym (ap may_change mode) ∙ opened in absurd cc
+
+pub long_either : (b : Bool) (one two : List ℕ) {n : ℕ} → length one ≡ n → length two ≡ n
+    → length (if b then one else two) ≡ n
+long_either true one two first second = first
+long_either false one two first second = second
 
 -- an outcome that tells of a change is a success
 pub success_of : (outcome : Outcome) → is_change outcome ≡ true → is_success (status_after outcome) ≡ true

@@ -245,6 +245,15 @@ module _ {s : Spec} {key : KeyOfReference} {relation : Relation} {count : ℕ} {
       ∙ ap (λ (v : List ℕ). if_fits s.organization relation pair (record { value = v; number = told.number })) row_is)
       (bound_at side value from) sought.bound found row_put
 
+pub first_bytes_long : (s : Spec) (key : KeyOfReference) (count : ℕ) (bytes : List ℕ) {value : List ℕ}
+    → is_spec s ≡ true
+    → IsKey s key → count ≤ key_length s key → length bytes ≡ s.record_length
+    → value ≡ take count (drop (place_of s key).offset bytes) → length value ≡ count
+first_bytes_long s key count bytes h is le size named =
+    let within = place_within s key h is in
+    ap length named ∙ length-take-le count (drop (place_of s key).offset bytes)
+    (omega (arith, le, size, within, length-drop (place_of s key).offset bytes))
+
 -- no more bytes of a key are named than a row has of it
 pub no_longer : (s : Spec) (key : KeyOfReference) (count : ℕ) (bytes put : List ℕ) {value row_value : List ℕ}
     → is_spec s ≡ true
@@ -253,8 +262,7 @@ pub no_longer : (s : Spec) (key : KeyOfReference) (count : ℕ) (bytes put : Lis
     → length value ≤ length row_value
 no_longer s key count bytes put h is le size put_size named part_is =
     let within = place_within s key h is in
-    let own = ap length named ∙ length-take-le count (drop (place_of s key).offset bytes)
-    (omega (arith, le, size, within, length-drop (place_of s key).offset bytes)) in
+    let own = first_bytes_long s key count bytes h is le size named in
     let row = ap length part_is ∙ length-take-le (place_of s key).length (drop (place_of s key).offset put)
     (omega (arith, put_size, within, length-drop (place_of s key).offset put)) in
     omega (arith, own, row, le)

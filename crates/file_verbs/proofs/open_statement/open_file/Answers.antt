@@ -1,4 +1,4 @@
-use Rattle.std.proofs.Common.{◌≡◌, true, false, refl, sym, ◌∙◌, ap, subst, inl, inr, ⊎_elim, arith}
+use Rattle.std.proofs.Common.{true, refl, sym, ◌∙◌, ap, subst, inl, inr, ⊎_elim, arith}
 use Rattle.std.specs.Prelude.{Some}
 use Rattle.records.specs.declared.status.Status.TheVariants.{Success, SuccessAbsent, FileMissing, FileDiffers}
 use Rattle.records.specs.declared.verb.OpenMode.{OpenMode}
@@ -11,6 +11,8 @@ use Rattle.records.specs.Calls.{ChangesFiles}
 use Rattle.records.specs.FileStep.{area, can_change_files, has_changed}
 use Rattle.records.proofs.Calls.{after_reads, reads_changes, reads_rests}
 use Rattle.file_verbs.specs.Links.{IsLinked, Gone, connector_of}
+use Rattle.file_verbs.proofs.Doing.{err_any}
+use Rattle.file_verbs.proofs.Calling.{never_refused, no_answer, none_on}
 use Rattle.file_verbs.proofs.Opened.{absent_is, output_makes, output_changes}
 use Rattle.file_verbs.proofs.Opened.{present_linked, still_opened, begins, differs}
 use Rattle.file_verbs.proofs.Opened.{misses}
@@ -263,3 +265,45 @@ returns-in_default-mode-clause-idle g c = λ honest. idle_never _ c.args.mode Su
 pub returns-in_default-mode-clause-rests : goal.returns-in_default-mode-clause-rests
 returns-in_default-mode-clause-rests g c =
     err_map c.open_new-in-Absent.result (λ spent. inl spent) c.open_new-in-Absent.ensures.spends
+
+pub returns-in-Present-clause-full : goal.returns-in-Present-clause-full
+returns-in-Present-clause-full g c = λ files stands bytes number lacking.
+    ⊎_elim (λ is. never_refused is) (λ is. never_refused is) lacking
+
+pub returns-in-Present-clause-never_full : goal.returns-in-Present-clause-never_full
+returns-in-Present-clause-never_full g c = λ none. (λ is. never_refused is, λ is. never_refused is)
+
+pub returns-in-Different-clause-full : goal.returns-in-Different-clause-full
+returns-in-Different-clause-full g c = λ files stands bytes number lacking.
+    ⊎_elim (λ is. never_refused is) (λ is. never_refused is) lacking
+
+pub returns-in-Different-clause-never_full : goal.returns-in-Different-clause-never_full
+returns-in-Different-clause-never_full g c = λ none. (λ is. never_refused is, λ is. never_refused is)
+
+pub returns-then-not-select-clause-full : goal.returns-then-not-select-clause-full
+returns-then-not-select-clause-full g c = λ files stands bytes number lacking.
+    ⊎_elim (λ is. never_refused is) (λ is. never_refused is) lacking
+
+pub returns-then-not-select-clause-never_full : goal.returns-then-not-select-clause-never_full
+returns-then-not-select-clause-never_full g c = λ none. (λ is. never_refused is, λ is. never_refused is)
+
+pub returns-in-Input-clause-full : goal.returns-in-Input-clause-full
+returns-in-Input-clause-full g c = λ files stands bytes number lacking.
+    ⊎_elim (λ is. never_refused is) (λ is. never_refused is) lacking
+
+pub returns-in-Input-clause-never_full : goal.returns-in-Input-clause-never_full
+returns-in-Input-clause-never_full g c = λ none. (λ is. never_refused is, λ is. never_refused is)
+
+pub returns-in_err-there-clause-step : goal.returns-in_err-there-clause-step
+returns-in_err-there-clause-step g c = λ files stands bytes number.
+    no_answer _ _ c.from_residual.result c.from_residual.ensures.1
+
+pub returns-in_err-there-clause-linked : goal.returns-in_err-there-clause-linked
+returns-in_err-there-clause-linked g c = λ files stands bytes number.
+    none_on _ c.from_residual.result c.in_err-there.field-0.0 c.from_residual.ensures.1
+
+pub returns-in_err-there-clause-idle : goal.returns-in_err-there-clause-idle
+returns-in_err-there-clause-idle g c = λ honest. no_answer _ _ c.from_residual.result c.from_residual.ensures.1
+
+pub returns-in_err-there-clause-same : goal.returns-in_err-there-clause-same
+returns-in_err-there-clause-same g c = err_any c.from_residual.result refl

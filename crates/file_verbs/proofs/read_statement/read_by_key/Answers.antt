@@ -1,5 +1,6 @@
 use Rattle.std.proofs.Common.{◌≡◌, length, refl, sym, ◌∙◌, ap, subst, arith}
 use Rattle.std.proofs.lemmas.List.{with_items_is}
+use Rattle.records.specs.declared.file_spec.KeyPlace.{KeyPlace}
 use Rattle.records.specs.Stores.{spec_of}
 use Rattle.file_verbs.specs.Links.{connector_of}
 use Rattle.records.specs.declared.status.Status.TheVariants.{NotFound}
@@ -159,3 +160,18 @@ returns-clause-absent g c = ap (λ (l : Link). l.is_absent) c.take_row.ensures.l
 
 pub returns-clause-damaged : goal.returns-clause-damaged
 returns-clause-damaged g c = λ files stands linked is. never_refused is
+
+pub take_row-requires-clause-bytes : goal.take_row-requires-clause-bytes
+take_row-requires-clause-bytes g c =
+    c.requires.bytes
+    ∙ sym (ap length (with_items_is c.args.link.now.sought c.seek_fitting.new.sought
+    (c.seek_fitting.auto.sought ∙ c.deref_mut.ensures.len))
+    ∙ room g (goal.at.take_row-requires-clause-bytes g c).After-seek_fitting)
+
+pub seek_fitting-requires-clause-count : goal.seek_fitting-requires-clause-count
+seek_fitting-requires-clause-count g c =
+    let same = ap (λ (p : KeyPlace). p.length) c.key_place.ensures.place in
+    omega (arith, same)
+
+pub seek_fitting-requires-clause-sought : goal.seek_fitting-requires-clause-sought
+seek_fitting-requires-clause-sought g c = ap length c.deref_mut.ensures.value ∙ c.requires.link.sought_length

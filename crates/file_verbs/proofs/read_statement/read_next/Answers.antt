@@ -9,6 +9,7 @@ use Rattle.file_verbs.specs.Links.{IsLink}
 use Rattle.file_verbs.proofs.Calling.{no_answer}
 use Rattle.file_verbs.proofs.Doing.{err_any}
 use Rattle.file_verbs.proofs.Calling.{still_reads, reads_on, refused_by_call, never_refused}
+use Rattle.file_verbs.proofs.Told.{first_bytes_long}
 use Rattle.file_verbs.proofs.Taken.{held_of, ended, absent_rows, absent_next}
 use Rattle.file_verbs.proofs.ReadSteps.{next_at_end, next_too_long, next_taken}
 use Rattle.file_verbs.proofs.read_statement.read_next.Given.{Over}
@@ -198,3 +199,24 @@ returns-clause-absent g c = ap (λ (l : Link). l.is_absent) c.take_row.ensures.l
 
 pub returns-clause-damaged : goal.returns-clause-damaged
 returns-clause-damaged g c = λ files stands linked is. never_refused is
+
+pub take_row-requires-clause-bytes : goal.take_row-requires-clause-bytes
+take_row-requires-clause-bytes g c =
+    c.requires.bytes
+    ∙ sym
+    (ap length (with_items_is c.args.link.now.sought c.seek.new.bytes (c.seek.auto.bytes ∙ c.deref_mut.ensures.len))
+    ∙ room g (goal.at.take_row-requires-clause-bytes g c).After-seek)
+
+pub key_bytes-value-requires-clause-whole : goal.key_bytes-value-requires-clause-whole
+key_bytes-value-requires-clause-whole g c = ap length c.deref.ensures.value ∙ c.requires.link.row_length
+
+pub seek-requires-clause-value : goal.seek-requires-clause-value
+seek-requires-clause-value g c =
+    let long = first_bytes_long (spec_of c.args.select.now.file) c.args.link.now.reference c.args.link.now.value_length
+    c.deref.result.now c.args.select.now.file.sound c.requires.link.key c.requires.link.value
+    (ap length c.deref.ensures.value ∙ c.requires.link.row_length) c.key_bytes-value.ensures in
+    let short = c.requires.link.value in
+    omega (arith, long, short)
+
+pub seek-requires-clause-bytes : goal.seek-requires-clause-bytes
+seek-requires-clause-bytes g c = ap length c.deref_mut.ensures.value ∙ c.requires.link.sought_length

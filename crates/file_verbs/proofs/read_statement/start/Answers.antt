@@ -158,3 +158,6 @@ returns-clause-absent g c = ap (λ (l : Link). l.is_absent) c.stand.ensures
 
 pub returns-clause-damaged : goal.returns-clause-damaged
 returns-clause-damaged g c = λ files stands linked is. never_refused is
+
+pub seek_fitting-requires-clause-sought : goal.seek_fitting-requires-clause-sought
+seek_fitting-requires-clause-sought g c = ap length c.deref_mut.ensures.value ∙ c.requires.link.sought_length

@@ -1,9 +1,12 @@
-use Rattle.std.proofs.Common.{inl, refl, sym, ◌∙◌, ap}
+use Rattle.std.proofs.Common.{inl, refl, sym, ◌∙◌, ap, length}
 use Rattle.records.specs.declared.key.KeyOfReference.TheVariants.{Prime}
 use Rattle.records.specs.FileStep.{is_success}
 use Rattle.records.specs.Rows.{part, place_of}
 use Rattle.records.specs.Steps.{Step, status_after}
 use Rattle.records.specs.Stores.{spec_of}
+use Rattle.records.specs.Tests.{is_sequential}
+use Rattle.file_verbs.proofs.Calling.{never_refused}
+use Rattle.file_verbs.proofs.Changed.{long_either}
 use Rattle.file_verbs.proofs.Calling.{still_changes, changes_on, no_answer, refused_by_call}
 use Rattle.file_verbs.proofs.Doing.{err_any}
 use Rattle.file_verbs.proofs.Changed.{changed_held, removes, success_of, no_change_of, refused_turns, answered_turns}
@@ -74,3 +77,27 @@ returns-clause-changes g c = changes_on c.remove.ensures.changes c.write_status.
 pub returns-clause-idle : goal.returns-clause-idle
 returns-clause-idle g c = λ honest none.
     c.in_ok-outcome.ensures.idle honest (no_change_of _ (ap is_success (sym c.write_status.ensures) ∙ none))
+
+pub returns-clause-link : goal.returns-clause-link
+returns-clause-link g c = record {
+  key = c.requires.link.key;
+  value = c.requires.link.value;
+  row_length = c.requires.link.row_length;
+  sought_length = c.requires.link.sought_length;
+  written_length = c.requires.link.written_length;
+  last = c.requires.link.last;
+}
+
+pub returns-clause-full : goal.returns-clause-full
+returns-clause-full g c = λ files stands linked is. never_refused is
+
+pub returns-clause-makes_none : goal.returns-clause-makes_none
+returns-clause-makes_none g c = λ is. never_refused is
+
+pub returns-in_err-outcome-clause-same : goal.returns-in_err-outcome-clause-same
+returns-in_err-outcome-clause-same g c = err_any c.from_residual.result refl
+
+pub key_value-key-requires-clause-whole : goal.key_value-key-requires-clause-whole
+key_value-key-requires-clause-whole g c = ap length c.record_to_change-named.ensures
+    ∙ long_either (is_sequential c.args.select.now.access) c.args.link.now.row.items c.args.bytes.now
+    c.requires.link.row_length c.requires.bytes

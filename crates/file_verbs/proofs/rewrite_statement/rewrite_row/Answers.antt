@@ -1,6 +1,7 @@
 use Rattle.std.proofs.Common.{false, inl, refl, sym, ◌∙◌, ap}
 use Rattle.records.specs.FileStep.{is_success}
 use Rattle.records.specs.Steps.{Step, status_after}
+use Rattle.file_verbs.proofs.Calling.{never_refused}
 use Rattle.file_verbs.proofs.Calling.{still_changes, changes_on, changes_nothing, reads_nothing}
 use Rattle.file_verbs.proofs.Calling.{no_answer, refused_by_call}
 use Rattle.file_verbs.proofs.Doing.{err_any}
@@ -93,3 +94,38 @@ returns-clause-turns g c = λ files stands linked.
     c.has_other_key.ensures c.if-has_other_key.false in
     answered_turns c.write_status.result c.in_ok-outcome.was (sym (ap (λ (t : Step). t.files) e))
     (c.replace.ensures.turns files h.0 stands h.1)
+
+pub returns-then-has_other_key-clause-link : goal.returns-then-has_other_key-clause-link
+returns-then-has_other_key-clause-link g c = record {
+  key = c.requires.link.key;
+  value = c.requires.link.value;
+  row_length = c.requires.link.row_length;
+  sought_length = c.requires.link.sought_length;
+  written_length = c.requires.link.written_length;
+  last = c.requires.link.last;
+}
+
+pub returns-then-has_other_key-clause-full : goal.returns-then-has_other_key-clause-full
+returns-then-has_other_key-clause-full g c = λ files stands linked is. never_refused is
+
+pub returns-then-has_other_key-clause-makes_none : goal.returns-then-has_other_key-clause-makes_none
+returns-then-has_other_key-clause-makes_none g c = λ is. never_refused is
+
+pub returns-clause-link : goal.returns-clause-link
+returns-clause-link g c = record {
+  key = c.requires.link.key;
+  value = c.requires.link.value;
+  row_length = c.requires.link.row_length;
+  sought_length = c.requires.link.sought_length;
+  written_length = c.requires.link.written_length;
+  last = c.requires.link.last;
+}
+
+pub returns-clause-full : goal.returns-clause-full
+returns-clause-full g c = λ files stands linked is. never_refused is
+
+pub returns-clause-makes_none : goal.returns-clause-makes_none
+returns-clause-makes_none g c = λ is. never_refused is
+
+pub returns-in_err-outcome-clause-same : goal.returns-in_err-outcome-clause-same
+returns-in_err-outcome-clause-same g c = err_any c.from_residual.result refl

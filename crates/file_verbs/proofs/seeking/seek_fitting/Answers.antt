@@ -1,7 +1,7 @@
-use Rattle.std.proofs.Common.{true, false, sym, ◌∙◌}
+use Rattle.std.proofs.Common.{true, false, sym, ◌∙◌, arith}
 use Rattle.records.specs.Stores.{spec_of}
 use Rattle.file_verbs.proofs.Calling.{still_reads, reads_on, refused_by_call}
-use Rattle.file_verbs.proofs.Told.{is_sought, none_sought, one_sought, no_longer}
+use Rattle.file_verbs.proofs.Told.{is_sought, none_sought, one_sought, no_longer, first_bytes_long}
 use Rattle.file_verbs.proofs.seeking.seek_fitting.Goals as goal
 
 pub returns-in_default-clause-found : goal.returns-in_default-clause-found
@@ -59,3 +59,14 @@ returns-else-is_fitting-clause-reads g c = reads_on c.seek.ensures.reads _
 pub returns-in_err-found-clause-damaged : goal.returns-in_err-found-clause-damaged
 returns-in_err-found-clause-damaged g c = λ files held stands has is.
     c.seek.ensures.damaged files held stands has (refused_by_call c.in_err-found.was c.from_residual.ensures.1 is)
+
+pub seek-requires-clause-value : goal.seek-requires-clause-value
+seek-requires-clause-value g c =
+    let comparison = c.args.comparison in
+    let long = first_bytes_long (spec_of c.args.file.now) comparison.key comparison.count c.args.bytes.now
+    c.args.file.now.sound c.requires.key c.requires.count c.requires.bytes c.key_bytes-value.ensures in
+    let short = c.requires.count in
+    omega (arith, long, short)
+
+pub key_value-row_value-requires-clause-whole : goal.key_value-row_value-requires-clause-whole
+key_value-row_value-requires-clause-whole g c = c.seek.auto.bytes ∙ c.requires.sought

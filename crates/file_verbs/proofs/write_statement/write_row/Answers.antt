@@ -1,7 +1,7 @@
 use Rattle.std.proofs.Common.{false, inl, refl, sym, ap, ◌∙◌}
 use Rattle.records.specs.Steps.{Step}
 use Rattle.file_verbs.proofs.Calling.{still_changes, changes_on, changes_nothing, reads_nothing}
-use Rattle.file_verbs.proofs.Calling.{no_answer, refused_by_call}
+use Rattle.file_verbs.proofs.Calling.{no_answer, refused_by_call, never_refused}
 use Rattle.file_verbs.proofs.Opened.{still_opened}
 use Rattle.file_verbs.proofs.Taken.{ended}
 use Rattle.file_verbs.proofs.Doing.{err_any}
@@ -107,3 +107,47 @@ returns-then-is_out_of_sequence-clause-turns g c = λ files stands linked.
     still_opened (reads_nothing OutOfSequence) (g.met.T.Store.held c.args.store.now) OutOfSequence false
     s.file.name.items
     stands (ap (λ (t : Step). t.files) e)
+
+pub returns-then-is_past_boundary-clause-link : goal.returns-then-is_past_boundary-clause-link
+returns-then-is_past_boundary-clause-link g c = record {
+  key = c.requires.link.key;
+  value = c.requires.link.value;
+  row_length = c.requires.link.row_length;
+  sought_length = c.requires.link.sought_length;
+  written_length = c.requires.link.written_length;
+  last = c.requires.link.last;
+}
+
+pub returns-then-is_past_boundary-clause-full : goal.returns-then-is_past_boundary-clause-full
+returns-then-is_past_boundary-clause-full g c = λ files stands linked is. never_refused is
+
+pub returns-then-is_past_boundary-clause-makes_none : goal.returns-then-is_past_boundary-clause-makes_none
+returns-then-is_past_boundary-clause-makes_none g c = λ is. never_refused is
+
+pub returns-then-is_out_of_sequence-clause-link : goal.returns-then-is_out_of_sequence-clause-link
+returns-then-is_out_of_sequence-clause-link g c = record {
+  key = c.requires.link.key;
+  value = c.requires.link.value;
+  row_length = c.requires.link.row_length;
+  sought_length = c.requires.link.sought_length;
+  written_length = c.requires.link.written_length;
+  last = c.requires.link.last;
+}
+
+pub returns-then-is_out_of_sequence-clause-full : goal.returns-then-is_out_of_sequence-clause-full
+returns-then-is_out_of_sequence-clause-full g c = λ files stands linked is. never_refused is
+
+pub returns-then-is_out_of_sequence-clause-makes_none : goal.returns-then-is_out_of_sequence-clause-makes_none
+returns-then-is_out_of_sequence-clause-makes_none g c = λ is. never_refused is
+
+pub returns-in_err-outcome-clause-same : goal.returns-in_err-outcome-clause-same
+returns-in_err-outcome-clause-same g c = err_any c.from_residual.result refl
+
+pub returns-in_err-outcome-clause-area : goal.returns-in_err-outcome-clause-area
+returns-in_err-outcome-clause-area g c = err_any c.from_residual.result refl
+
+pub returns-clause-full : goal.returns-clause-full
+returns-clause-full g c = λ files stands linked is. never_refused is
+
+pub returns-clause-makes_none : goal.returns-clause-makes_none
+returns-clause-makes_none g c = λ is. never_refused is
