@@ -1,14 +1,17 @@
 -- Each entry of a table, one more at a time.
 use Rattle.std.proofs.Common.{◌≡◌, ℕ, ◌+◌, ◌<◌, ◌≤◌, ◌^◌, length, List, refl, sym, ◌∙◌, ap, subst, arith, Some}
-use Rattle.std.specs.Prelude.{slice_get, Bool, true, false, nat_lt}
+use Rattle.std.specs.Prelude.{slice_get, get_or, Bool, true, false, nat_lt, ◌↔◌, IsTrue}
 use Rattle.std.proofs.lemmas.Bool.Decides.{nat_tests}
-use Rattle.std.proofs.lemmas.Option.{same_Some}
+use Rattle.std.proofs.lemmas.Bool.{leb-true, le-leb}
+use Rattle.std.proofs.lemmas.Bool.Decides.{Decides-ltb}
+use Rattle.std.proofs.lemmas.Option.{same_Some, slice_get_read}
+use Rattle.std.proofs.Math.Dec.{ltb, leb}
 use Rattle.items.specs.Items.{IsTaken}
 use Rattle.data_instructions.specs.declared.tables.DataItem.{DataItem}
 use Rattle.data_instructions.specs.declared.tables.LiteralSender.{LiteralSender}
 use Rattle.data_instructions.specs.declared.tables.Inspection.{Inspection}
 use Rattle.data_instructions.specs.declared.tables.DataTables.{DataTables}
-use Rattle.data_instructions.specs.Tables.{IsTables, IsDataItem, IsInspection}
+use Rattle.data_instructions.specs.Tables.{IsTables, IsDataItem, IsInspection, Lies}
 
 pub more_entries : {X : Type 0} (P : X → Type 0) (xs : List X) (i : ℕ) (x : X) → slice_get xs i ≡ Some x → P x
     → ((k : ℕ) (one : X) → k < i → slice_get xs k ≡ Some one → P one)
@@ -59,3 +62,16 @@ senders_in_order tables senders is order = subst EachSender (sym is) order.sende
 pub inspections_in_order : (tables : DataTables) (inspections : List Inspection) → inspections ≡ tables.inspections
     → IsTables tables → EachInspection inspections
 inspections_in_order tables inspections is order = subst EachInspection (sym is) order.inspections
+
+-- An item lies in the area that was found for it exactly if it ends within.
+pub lies_there : (areas : List (List ℕ)) (one : DataItem) (area : List ℕ) (long : ℕ)
+    → true ≡ ltb one.area (length areas) → area ≡ get_or areas one.area area → long ≡ length area
+    → IsTrue (leb (one.offset + one.item.length) long) ↔ Lies areas one one.offset
+lies_there areas one area long within there is =
+    let end = one.offset + one.item.length in
+    let here : slice_get areas one.area ≡ Some area =
+    slice_get_read areas (length areas) one.area area refl ((Decides-ltb one.area (length areas)).0 (sym within)) there in (
+      λ t. record { area = area; here = here; within = subst (λ n. end ≤ n) is (leb-true end long t) },
+      λ lies. le-leb end long
+          (subst (λ n. end ≤ n) (ap length (same_Some lies.area area (sym lies.here ∙ here)) ∙ sym is) lies.within),
+    )

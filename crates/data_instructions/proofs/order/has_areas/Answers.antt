@@ -15,3 +15,12 @@ returns c = (
       slice_get_within c.args.areas.now k area here in c.loop-area.invariant k area (omega (arith, within)) here,
   λ all. refl,
 )
+
+pub returns-then-len : goal.returns-then-len
+returns-then-len c = (
+  λ t. absurd cc,
+  λ all. let short =
+      all c.loop-area.area-index c.area-item.result (slice_get_read c.args.areas.now _ c.loop-area.area-index
+      c.area-item.result refl (omega arith) c.area-item.is) in
+      absurd (omega (arith, short, c.len.ensures, c.if-len.true)),
+)
