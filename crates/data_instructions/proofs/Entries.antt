@@ -70,7 +70,8 @@ pub lies_there : (areas : List (List ℕ)) (one : DataItem) (area : List ℕ) (l
 lies_there areas one area long within there is =
     let end = one.offset + one.item.length in
     let here : slice_get areas one.area ≡ Some area =
-    slice_get_read areas (length areas) one.area area refl ((Decides-ltb one.area (length areas)).0 (sym within)) there in (
+    slice_get_read areas (length areas) one.area area refl ((Decides-ltb one.area (length areas)).0 (sym within))
+    there in (
       λ t. record { area = area; here = here; within = subst (λ n. end ≤ n) is (leb-true end long t) },
       λ lies. le-leb end long
           (subst (λ n. end ≤ n) (ap length (same_Some lies.area area (sym lies.here ∙ here)) ∙ sym is) lies.within),

@@ -44,7 +44,8 @@ module _ (one other : Shape) (numbers : one.stacks.numbers ≡ other.stacks.numb
       → Joins true one other one
   joins_same r is off =
       let same : one.sender ≡ other.sender =
-      (one_sender one.sender other.sender).0 (not_false (option_eq eq-value.it one.sender other.sender) (sym is ∙ off)) in (
+      (one_sender one.sender other.sender).0
+      (not_false (option_eq eq-value.it one.sender other.sender) (sym is ∙ off)) in (
         record { stacks = refl; line = refl; sender = inr refl },
         record { stacks = sym same_stacks; line = sym line; sender = inr same },
         λ t covers also. covers,
@@ -60,7 +61,8 @@ module _ (one other : Shape) (numbers : one.stacks.numbers ≡ other.stacks.numb
         λ t covers also. record {
           stacks = covers.stacks;
           line = covers.line;
-          sender = ⊎_elim (λ none. inl none) (λ left. ⊎_elim (λ none. inl none) (λ right. absurd (differ (sym left ∙ right)))
+          sender =
+              ⊎_elim (λ none. inl none) (λ left. ⊎_elim (λ none. inl none) (λ right. absurd (differ (sym left ∙ right)))
               also.sender) covers.sender;
         },
       )

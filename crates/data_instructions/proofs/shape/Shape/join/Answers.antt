@@ -12,7 +12,9 @@ returns c =
     let places = c.same.ensures.0 c.if-not-same.false in
     elim c.if-ne.branch [
       | then-ne w ↦ subst (λ (all : Shape). Joins true one other all) (sym w.self-is)
-          (joins_none one other c.if-self-after.false places c.if-self-after-2.false c.ne.result c.ne.ensures w.if-ne.true)
+          (joins_none one other c.if-self-after.false places c.if-self-after-2.false c.ne.result c.ne.ensures
+          w.if-ne.true)
       | else-ne w ↦ subst (λ (all : Shape). Joins true one other all) (sym w.self-is)
-          (joins_same one other c.if-self-after.false places c.if-self-after-2.false c.ne.result c.ne.ensures w.if-ne.false)
+          (joins_same one other c.if-self-after.false places c.if-self-after-2.false c.ne.result c.ne.ensures
+          w.if-ne.false)
     ]
