@@ -1,6 +1,6 @@
 //! What INSPECT does, in an image.
 
-ghost use Rattle.std.specs.Prelude.{◌≡◌, ◌++◌, ◌∷◌, OnOk};
+ghost use Rattle.std.specs.Prelude.{◌≡◌, ◌==◌, ◌++◌, ◌∷◌, OnOk, if◌then◌else◌};
 ghost use Rattle.answers.specs.Answer.{Gives};
 ghost use Rattle.data_image.specs.Faults.{fault_of};
 ghost use Rattle.data_image.specs.Inspections.{span_bytes, fit_bytes, text_bytes, entry_bytes, inspection_bytes, IsSpanSpelled, IsFitSpelled, IfSpanSpelled, IsEntrySpelled, IsInspectionSpelled, span_at, fit_at, text_at, entry_at, inspection_at};
@@ -124,6 +124,18 @@ fn put_fit(out: &mut Vec<u8>, fit: Fit) -> Result<(), AllocError>
     }
 }
 
+/// The fit of a text whose first byte this is: the first one where it is no other.
+fn text_fit(byte: u8, text: Span) -> Fit
+    ensures { result ≡ if byte == 2 then Fit.All text else if byte == 3 then Fit.Leading text
+        else Fit.First text }
+{
+    match byte {
+        ALL => Fit::All(text),
+        LEADING => Fit::Leading(text),
+        _ => Fit::First(text),
+    }
+}
+
 #[tactic(auto, unfolding(crate::specs::Inspections::fit_at))]
 fn read_fit(bytes: &[u8]) -> Result<(Fit, &[u8]), ImageError>
     ensures { Gives (λ x. (x.0, x.1.now)) fault_of result (fit_at bytes.now) }
@@ -131,17 +143,9 @@ fn read_fit(bytes: &[u8]) -> Result<(Fit, &[u8]), ImageError>
     let (byte, rest) = read_byte(bytes)?;
     match byte {
         CHARACTERS => Ok((Fit::Characters, rest)),
-        ALL => {
+        ALL | LEADING | FIRST => {
             let (text, rest) = read_span(rest)?;
-            Ok((Fit::All(text), rest))
-        }
-        LEADING => {
-            let (text, rest) = read_span(rest)?;
-            Ok((Fit::Leading(text), rest))
-        }
-        FIRST => {
-            let (text, rest) = read_span(rest)?;
-            Ok((Fit::First(text), rest))
+            Ok((text_fit(byte, text), rest))
         }
         _ => Err(ImageError::Refused(ImageFault::Value)),
     }

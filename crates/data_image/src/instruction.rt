@@ -1,12 +1,14 @@
 //! Instructions on data, in an image.
 
-ghost use Rattle.std.specs.Prelude.{◌≡◌, ◌++◌, ◌∷◌, List, [], OnOk};
+ghost use Rattle.std.specs.Prelude.{◌≡◌, ◌==◌, ◌++◌, ◌∷◌, List, [], OnOk, if◌then◌else◌};
 ghost use Rattle.answers.specs.Answer.{Gives};
 ghost use Rattle.data_image.specs.Faults.{fault_of};
 ghost use Rattle.data_image.specs.Spelling.{short_bytes, IsByte, FitsFourBytes};
 ghost use Rattle.data_image.specs.Instructions as spec;
-ghost use Rattle.data_image.specs.Instructions.{calculation_bytes, data_instruction_bytes, data_instruction_at, index_at, truncate_at, naming_at, measured_at, inspect_measured, convert_measured, measured_from, duplicate, text_from, test_from, instruction_from, HasNumber, HasShorts};
-ghost use Rattle.data_image.specs.Tests.{compare_literal_at};
+ghost use Rattle.data_image.specs.Instructions.{calculation_bytes, data_instruction_bytes, data_instruction_at, index_at, truncate_at, inspect_measured, convert_measured, measured_from, text_from, test_from, instruction_from, HasNumber, HasShorts};
+ghost use Rattle.data_image.specs.Gathers.{overlay, up_to_text, text_up_to_place, inspect, convert};
+ghost use Rattle.data_image.specs.Parts.{part_fixed};
+ghost use Rattle.data_image.specs.Tests.{compare, compare_numbers, or_equal, or_within, compare_literal_at};
 
 use crate::byte::{found, put_byte, read_byte};
 use crate::fault::ImageError;
@@ -25,6 +27,7 @@ use data_instructions::{
     Calculation, DataInstruction, Gather, InspectionIndex, ItemIndex, NumberIndex, Part,
     SenderIndex, Test, TextIndex,
 };
+use source_tree::Relation;
 use std::alloc::{AllocError, Global};
 
 // The first byte of each instruction in an image.
@@ -247,30 +250,22 @@ fn read_index(bytes: &[u8]) -> Result<(DataInstruction, &[u8]), ImageError>
     Ok((DataInstruction::Index { stride, count }, rest))
 }
 
-fn read_inspect_measured(bytes: &[u8]) -> Result<(DataInstruction, &[u8]), ImageError>
-    ensures { Gives (λ x. (x.0, x.1.now)) fault_of result (measured_at inspect_measured bytes.now) }
+/// The instruction with texts that were measured whose first byte this is: `convert measured` where it is not the other one.
+fn measured_instruction(byte: u8, inspection: InspectionIndex, numbers: u32) -> DataInstruction
+    ensures { result ≡ if byte == 75 then inspect_measured inspection numbers
+        else convert_measured inspection numbers }
 {
-    let (number, rest) = read_short(bytes)?;
-    let (numbers, rest) = read_short(rest)?;
-    let inspection = InspectionIndex { number };
-    let one = DataInstruction::InspectMeasured {
-        inspection,
-        numbers,
-    };
-    Ok((one, rest))
-}
-
-fn read_convert_measured(bytes: &[u8]) -> Result<(DataInstruction, &[u8]), ImageError>
-    ensures { Gives (λ x. (x.0, x.1.now)) fault_of result (measured_at convert_measured bytes.now) }
-{
-    let (number, rest) = read_short(bytes)?;
-    let (numbers, rest) = read_short(rest)?;
-    let inspection = InspectionIndex { number };
-    let one = DataInstruction::ConvertMeasured {
-        inspection,
-        numbers,
-    };
-    Ok((one, rest))
+    if byte == INSPECT_MEASURED {
+        DataInstruction::InspectMeasured {
+            inspection,
+            numbers,
+        }
+    } else {
+        DataInstruction::ConvertMeasured {
+            inspection,
+            numbers,
+        }
+    }
 }
 
 fn read_truncate(bytes: &[u8]) -> Result<(DataInstruction, &[u8]), ImageError>
@@ -278,14 +273,6 @@ fn read_truncate(bytes: &[u8]) -> Result<(DataInstruction, &[u8]), ImageError>
 {
     let (scale, rest) = read_byte(bytes)?;
     let one = Calculation::Truncate { scale };
-    Ok((DataInstruction::Calculate(one), rest))
-}
-
-fn read_duplicate(bytes: &[u8]) -> Result<(DataInstruction, &[u8]), ImageError>
-    ensures { Gives (λ x. (x.0, x.1.now)) fault_of result (naming_at duplicate bytes.now) }
-{
-    let (depth, rest) = read_short(bytes)?;
-    let one = Calculation::Duplicate { depth };
     Ok((DataInstruction::Calculate(one), rest))
 }
 
@@ -304,9 +291,42 @@ fn read_measured(byte: u8, bytes: &[u8]) -> Result<(DataInstruction, &[u8]), Ima
     ensures { Gives (λ x. (x.0, x.1.now)) fault_of result (measured_from byte bytes.now) }
 {
     match byte {
-        INSPECT_MEASURED => read_inspect_measured(bytes),
-        CONVERT_MEASURED => read_convert_measured(bytes),
+        INSPECT_MEASURED | CONVERT_MEASURED => {
+            let (number, rest) = read_short(bytes)?;
+            let (numbers, rest) = read_short(rest)?;
+            let inspection = InspectionIndex { number };
+            Ok((measured_instruction(byte, inspection, numbers), rest))
+        }
         _ => Ok((found(plain_instruction_of(byte))?, bytes)),
+    }
+}
+
+/// The instruction on texts with a number whose first byte this is: one of a part where it is no other.
+fn text_instruction(byte: u8, number: u32) -> DataInstruction
+    ensures { result ≡ if byte == 60 then overlay number
+        else if byte == 64 then up_to_text number
+        else if byte == 65 then text_up_to_place number
+        else if byte == 69 then inspect number
+        else if byte == 73 then convert number
+        else part_fixed number }
+{
+    match byte {
+        OVERLAY => DataInstruction::Overlay {
+            text: TextIndex { number },
+        },
+        UP_TO_TEXT => DataInstruction::Gather(Gather::UpToText {
+            delimiter: TextIndex { number },
+        }),
+        TEXT_UP_TO_PLACE => DataInstruction::Gather(Gather::TextUpToPlace {
+            text: TextIndex { number },
+        }),
+        INSPECT => DataInstruction::Inspect {
+            inspection: InspectionIndex { number },
+        },
+        CONVERT => DataInstruction::Convert {
+            inspection: InspectionIndex { number },
+        },
+        _ => DataInstruction::Part(Part::Fixed { size: number }),
     }
 }
 
@@ -315,38 +335,34 @@ fn read_text(byte: u8, bytes: &[u8]) -> Result<(DataInstruction, &[u8]), ImageEr
     ensures { Gives (λ x. (x.0, x.1.now)) fault_of result (text_from byte bytes.now) }
 {
     match byte {
-        OVERLAY => {
+        OVERLAY | UP_TO_TEXT | TEXT_UP_TO_PLACE | INSPECT | CONVERT | PART_FIXED => {
             let (number, rest) = read_short(bytes)?;
-            let text = TextIndex { number };
-            Ok((DataInstruction::Overlay { text }, rest))
-        }
-        UP_TO_TEXT => {
-            let (number, rest) = read_short(bytes)?;
-            let delimiter = TextIndex { number };
-            let one = Gather::UpToText { delimiter };
-            Ok((DataInstruction::Gather(one), rest))
-        }
-        TEXT_UP_TO_PLACE => {
-            let (number, rest) = read_short(bytes)?;
-            let text = TextIndex { number };
-            let one = Gather::TextUpToPlace { text };
-            Ok((DataInstruction::Gather(one), rest))
-        }
-        INSPECT => {
-            let (number, rest) = read_short(bytes)?;
-            let inspection = InspectionIndex { number };
-            Ok((DataInstruction::Inspect { inspection }, rest))
-        }
-        CONVERT => {
-            let (number, rest) = read_short(bytes)?;
-            let inspection = InspectionIndex { number };
-            Ok((DataInstruction::Convert { inspection }, rest))
-        }
-        PART_FIXED => {
-            let (size, rest) = read_short(bytes)?;
-            Ok((DataInstruction::Part(Part::Fixed { size }), rest))
+            Ok((text_instruction(byte, number), rest))
         }
         _ => read_measured(byte, bytes),
+    }
+}
+
+/// The test of a relation whose first byte this is: `compare numbers` where it is not the other one.
+fn relation_test(byte: u8, relation: Relation) -> DataInstruction
+    ensures { result ≡ if byte == 40 then compare relation else compare_numbers relation }
+{
+    if byte == COMPARE {
+        DataInstruction::Test(Test::Compare { relation })
+    } else {
+        DataInstruction::Test(Test::CompareNumbers { relation })
+    }
+}
+
+/// The test that goes on with a literal whose first byte this is: `or within` where it is not the other one.
+fn further_test(byte: u8, number: u32) -> DataInstruction
+    ensures { result ≡ if byte == 44 then or_equal number else or_within number }
+{
+    let literal = SenderIndex { number };
+    if byte == OR_EQUAL {
+        DataInstruction::Test(Test::OrEqual { literal })
+    } else {
+        DataInstruction::Test(Test::OrWithin { first: literal })
     }
 }
 
@@ -355,31 +371,45 @@ fn read_test(byte: u8, bytes: &[u8]) -> Result<(DataInstruction, &[u8]), ImageEr
     ensures { Gives (λ x. (x.0, x.1.now)) fault_of result (test_from byte bytes.now) }
 {
     match byte {
-        COMPARE => {
+        COMPARE | COMPARE_NUMBERS => {
             let (relation, rest) = read_relation(bytes)?;
-            Ok((DataInstruction::Test(Test::Compare { relation }), rest))
+            Ok((relation_test(byte, relation), rest))
         }
         COMPARE_LITERAL => read_compare_literal(bytes),
-        COMPARE_NUMBERS => {
-            let (relation, rest) = read_relation(bytes)?;
-            let one = Test::CompareNumbers { relation };
-            Ok((DataInstruction::Test(one), rest))
-        }
         CLASS => {
             let (class, rest) = read_class(bytes)?;
             Ok((DataInstruction::Test(Test::Class { class }), rest))
         }
-        OR_EQUAL => {
+        OR_EQUAL | OR_WITHIN => {
             let (number, rest) = read_short(bytes)?;
-            let literal = SenderIndex { number };
-            Ok((DataInstruction::Test(Test::OrEqual { literal }), rest))
-        }
-        OR_WITHIN => {
-            let (number, rest) = read_short(bytes)?;
-            let first = SenderIndex { number };
-            Ok((DataInstruction::Test(Test::OrWithin { first }), rest))
+            Ok((further_test(byte, number), rest))
         }
         _ => read_text(byte, bytes),
+    }
+}
+
+/// The instruction with a number whose first byte this is: `duplicate` where it is no other.
+fn naming_instruction(byte: u8, number: u32) -> DataInstruction
+    ensures { result ≡ if byte == 16 then spec.place_instruction number
+        else if byte == 19 then spec.literal number
+        else if byte == 21 then spec.take_literal number
+        else if byte == 24 then spec.append_literal number
+        else spec.duplicate number }
+{
+    match byte {
+        PLACE => DataInstruction::Place {
+            item: ItemIndex { number },
+        },
+        LITERAL => DataInstruction::Literal {
+            number: NumberIndex { number },
+        },
+        TAKE_LITERAL => DataInstruction::TakeLiteral {
+            literal: SenderIndex { number },
+        },
+        APPEND_LITERAL => DataInstruction::AppendLiteral {
+            text: TextIndex { number },
+        },
+        _ => DataInstruction::Calculate(Calculation::Duplicate { depth: number }),
     }
 }
 
@@ -388,29 +418,12 @@ fn read_from(byte: u8, bytes: &[u8]) -> Result<(DataInstruction, &[u8]), ImageEr
     ensures { Gives (λ x. (x.0, x.1.now)) fault_of result (instruction_from byte bytes.now) }
 {
     match byte {
-        PLACE => {
+        PLACE | LITERAL | TAKE_LITERAL | APPEND_LITERAL | DUPLICATE => {
             let (number, rest) = read_short(bytes)?;
-            let item = ItemIndex { number };
-            Ok((DataInstruction::Place { item }, rest))
+            Ok((naming_instruction(byte, number), rest))
         }
         INDEX => read_index(bytes),
-        LITERAL => {
-            let (number, rest) = read_short(bytes)?;
-            let number = NumberIndex { number };
-            Ok((DataInstruction::Literal { number }, rest))
-        }
-        TAKE_LITERAL => {
-            let (number, rest) = read_short(bytes)?;
-            let literal = SenderIndex { number };
-            Ok((DataInstruction::TakeLiteral { literal }, rest))
-        }
-        APPEND_LITERAL => {
-            let (number, rest) = read_short(bytes)?;
-            let text = TextIndex { number };
-            Ok((DataInstruction::AppendLiteral { text }, rest))
-        }
         TRUNCATE => read_truncate(bytes),
-        DUPLICATE => read_duplicate(bytes),
         _ => read_test(byte, bytes),
     }
 }
