@@ -1,8 +1,8 @@
 //! `check SOURCE`.
 
 use crate::command::show_bytes;
-use crate::host_file::read_source;
 use crate::verdict::Verdict;
+use host::read_source;
 use source_commands::check_source;
 use std::io::Write;
 use std::rt::Files;
@@ -15,7 +15,7 @@ where
 {
     let source = match read_source(rt, path) {
         Ok(source) => source,
-        Err(verdict) => return verdict,
+        Err(error) => return Verdict::refusing_host_file(error),
     };
     let Ok(report) = check_source(rt.alloc(), path.as_bytes(), source.as_slice()) else {
         return Verdict::memory();

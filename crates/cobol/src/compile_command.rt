@@ -1,7 +1,7 @@
 //! `compile SOURCE IMAGE`.
 
-use crate::host_file::{read_source, write_image};
 use crate::verdict::Verdict;
+use host::{read_source, write_image};
 use run_unit::compile;
 use std::rt::Files;
 
@@ -11,7 +11,7 @@ pub fn compile_file<R: Files + AllocGlobal>(rt: &R, source: &str, image: &str) -
     match image_of(rt, source) {
         Ok(bytes) => match write_image(rt, image, bytes.as_slice()) {
             Ok(()) => Verdict::Done,
-            Err(verdict) => verdict,
+            Err(error) => Verdict::refusing_host_file(error),
         },
         Err(verdict) => verdict,
     }
@@ -19,6 +19,6 @@ pub fn compile_file<R: Files + AllocGlobal>(rt: &R, source: &str, image: &str) -
 
 /// The image of a source file.
 fn image_of<R: Files + AllocGlobal>(rt: &R, source: &str) -> Result<Vec<u8>, Verdict> {
-    let text = read_source(rt, source)?;
+    let text = read_source(rt, source).map_err(Verdict::refusing_host_file)?;
     compile(rt.alloc(), text.as_slice()).map_err(Verdict::refusing)
 }

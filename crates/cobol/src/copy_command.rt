@@ -2,8 +2,9 @@
 
 ghost use Rattle.std.specs.Prelude.{◌≤◌};
 
-use crate::progress::{Progress, Reasons, Watched};
 use crate::verdict::Verdict;
+use crate::watched::Watched;
+use host::{Progress, Reasons};
 use host_volume::{Access, HostDevice, HostVolume, NewVolume, Replacement};
 use std::fs::File;
 use std::rt::Files;

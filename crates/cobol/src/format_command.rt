@@ -2,8 +2,8 @@
 
 ghost use Rattle.std.specs.Prelude.{◌≤◌};
 
-use crate::progress::{Progress, Reasons};
 use crate::verdict::Verdict;
+use host::{Progress, Reasons};
 use host_volume::{HostDevice, NewVolume};
 use std::fs::File;
 use std::rt::Files;

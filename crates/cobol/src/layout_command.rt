@@ -1,8 +1,8 @@
 //! `layout SOURCE`.
 
 use crate::command::show_bytes;
-use crate::host_file::read_source;
 use crate::verdict::Verdict;
+use host::read_source;
 use source_commands::layout_of_source;
 use std::io::Write;
 use std::rt::Files;
@@ -15,7 +15,7 @@ where
 {
     let source = match read_source(rt, path) {
         Ok(source) => source,
-        Err(verdict) => return verdict,
+        Err(error) => return Verdict::refusing_host_file(error),
     };
     match layout_of_source(rt.alloc(), source.as_slice()) {
         Ok(text) => show_bytes(out, text.as_slice()),

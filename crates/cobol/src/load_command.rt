@@ -1,8 +1,9 @@
 //! `load VOLUME NAME`.
 
-use crate::progress::{Progress, Reasons, Watched};
 use crate::unknown_name::refuse_name;
 use crate::verdict::Verdict;
+use crate::watched::Watched;
+use host::{Progress, Reasons};
 use host_volume::{Access, HostDevice, HostVolume};
 use std::alloc::Global;
 use std::fs::File;

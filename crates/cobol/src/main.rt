@@ -4,28 +4,22 @@
 mod check_command;
 mod command;
 mod compile_command;
-mod console;
 mod copy_command;
-mod descriptors;
 mod dump_command;
 mod explain_command;
-mod file_trace;
 mod format_command;
-mod host_file;
-mod host_station;
 mod layout_command;
 mod list_command;
 mod load_command;
 mod migrate_command;
-mod progress;
 mod run_command;
 mod stat_command;
-mod today;
 mod unknown_name;
 mod verdict;
+mod watched;
 
 use command::{command, explain};
-use descriptors::hold;
+use host::hold_descriptors;
 use std::io;
 use std::process::ExitCode;
 use verdict::Verdict;
@@ -39,7 +33,7 @@ fn words_of(rt: &HostRuntime) -> Result<Vec<String>, Verdict> {
 }
 
 fn main(rt: HostRuntime) -> ExitCode {
-    let Ok(_held) = hold(&rt) else {
+    let Ok(_held) = hold_descriptors(&rt) else {
         let verdict = Verdict::host_file();
         explain(&mut rt.stderr(), verdict);
         return ExitCode::from(verdict.status());

@@ -3,11 +3,9 @@
 ghost use Rattle.std.specs.Prelude.{All, IfOk};
 ghost use Rattle.machine.specs.Ends.{IsDigit};
 
-use crate::host_file::read_image;
-use crate::host_station::HostStation;
-use crate::today::today;
 use crate::verdict::Verdict;
 use command_words::RunRequest;
+use host::{HostStation, read_image, today};
 use host_volume::{Access, HostDevice, HostVolume};
 use run_unit::run_volume;
 use station::Device;
@@ -28,12 +26,13 @@ where
     E: Write,
     requires { All IsDigit request.day }
 {
-    let Ok(day) = day_of_run(rt, &request) else {
-        return Verdict::device();
+    let day = match day_of_run(rt, &request) {
+        Ok(day) => day,
+        Err(verdict) => return verdict,
     };
     let image = match read_image(rt, request.image) {
         Ok(image) => image,
-        Err(verdict) => return verdict,
+        Err(error) => return Verdict::refusing_host_file(error),
     };
     let volume = match HostVolume::open(rt, request.volume, Access::ReadWrite) {
         Ok(volume) => HostDevice::new(rt.alloc(), volume),
@@ -47,14 +46,14 @@ where
 }
 
 /// The date that the program receives.
-fn day_of_run<R>(rt: &R, request: &RunRequest) -> Result<[u8; 6], jiff::Error>
+fn day_of_run<R>(rt: &R, request: &RunRequest) -> Result<[u8; 6], Verdict>
 where
     R: Files<File = File> + AllocGlobal + Clock + Env + Clone + Drop,
     requires { All IsDigit request.now.day }
     ensures { IfOk result (λ day. All IsDigit day) }
 {
     if request.is_today {
-        return today(rt);
+        return today(rt).map_err(|_| Verdict::device());
     }
     Ok(request.day)
 }

@@ -8,8 +8,8 @@ ghost use Rattle.std.specs.Io.KnownBytes.{Appends, Keeps};
 ghost use Rattle.station.specs.Disk.{sector_at};
 ghost use Rattle.station.specs.Failures.{CountsFailure};
 ghost use Rattle.station.specs.State.{wrote, state_after_sync};
-ghost use Rattle.cobol.specs.Host.{nothing_known};
-ghost use Rattle.cobol.specs.Traced.{Tells, traced_line};
+ghost use Rattle.host.specs.Unknown.{nothing_known};
+ghost use Rattle.host.specs.Traced.{Tells, traced_line};
 
 use crate::console::take_line;
 use crate::file_trace::trace_statement;

@@ -1,7 +1,7 @@
 //! The day of the host.
 
 ghost use Rattle.std.specs.Prelude.{All, IfOk};
-ghost use Rattle.machine.specs.Ends.{IsDigit};
+ghost use Rattle.command_words.specs.Words.{IsDigit};
 
 use command_words::read_day;
 use jiff::tz::{SystemTimeZone, TimeZone, TimeZoneDatabase};
@@ -14,7 +14,7 @@ use std::time::Clock;
 /// A day as YYMMDD.
 const FORMAT: &str = "%y%m%d";
 
-/// The host's day, YYMMDD, in the time zone that the variable TZ names, or else `/etc/localtime`. Where neither can be read, the
+/// The host's day, six digits YYMMDD, in the time zone that the variable TZ names, or else `/etc/localtime`. Where neither can be read, the
 /// day is that of UTC. It fails if the clock does, or if memory runs out.
 pub fn today<R>(rt: &R) -> Result<[u8; 6], Error>
 where

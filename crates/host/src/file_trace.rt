@@ -3,7 +3,7 @@
 ghost use Rattle.std.specs.Prelude.{◌≡◌, [], IfOk};
 ghost use Rattle.volume_commands.specs.Output.{AppendsBeginning};
 ghost use Rattle.volume_commands.specs.Text as text;
-ghost use Rattle.cobol.specs.Traced as spec;
+ghost use Rattle.host.specs.Traced as spec;
 
 use itoa::Buffer;
 use station::TracedStatement;

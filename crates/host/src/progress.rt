@@ -6,9 +6,9 @@ use std::time::{Clock, Instant};
 /// How many seconds pass before anything is printed.
 const SECONDS: u64 = 2;
 
-/// Where reasons and progress are printed.
+/// A writer of reasons, on which progress may be printed too.
 pub trait Reasons: Write {
-    /// Whether a person may watch it, so that progress is printed too.
+    /// Whether a person may watch it, so that progress is printed.
     fn is_watched(&self) -> bool;
 }
 
@@ -29,7 +29,7 @@ pub struct Progress {
 }
 
 impl Progress {
-    /// Nothing is written so far.
+    /// Nothing is written so far, of so many sectors. Nothing is printed of it unless `err` is watched and the clock can be read.
     pub fn new<R: Clock, E: Reasons>(rt: &R, err: &E, sectors: u32) -> Progress {
         let start = if err.is_watched() {
             Instant::now(rt).ok()
@@ -43,7 +43,7 @@ impl Progress {
         }
     }
 
-    /// So many sectors are written.
+    /// So many sectors are written. The percentage is printed after two seconds, if it is another one than before.
     pub fn report<R: Clock, E: Reasons>(&mut self, rt: &R, err: &mut E, written: u32) {
         let percent = u64::from(written) * 100 / u64::from(self.sectors.max(1));
         if self.is_late(rt) && self.percent != Some(percent) {
@@ -68,28 +68,5 @@ impl Progress {
             Ok(time) => time.as_secs() >= SECONDS,
             Err(_) => false,
         }
-    }
-}
-
-/// The progress of a command on files, over the place where it is printed.
-#[derive(Drop)]
-pub struct Watched<'a, R, E> {
-    pub rt: &'a R,
-    pub progress: Progress,
-    pub err: &'a mut E,
-}
-
-impl<'a, R: Clock, E: Reasons> Watched<'a, R, E> {
-    /// Ends the line, if there is one.
-    pub fn end(self) {
-        self.progress.end(self.err);
-    }
-}
-
-impl<'a, R: Clock, E: Reasons> volume_copies::Progress for Watched<'a, R, E> {
-    fn report(&mut self, done: u64, all: u64) {
-        let percent = u128::from(done) * 100 / u128::from(all.max(1));
-        self.progress
-            .report(self.rt, self.err, percent.min(100) as u32);
     }
 }
