@@ -1,25 +1,31 @@
 -- What PERFORMs perform, as it is collected.
 use Rattle.std.proofs.Common.{◌≡◌, ℕ, ◌<◌, ◌≤◌, ◌+◌, List, [], ◌∷◌, ◌++◌, length, get_or, take, refl, sym, ap, ◌∙◌}
 use Rattle.std.proofs.Common.{subst, append_assoc, arith}
-use Rattle.std.specs.Prelude.{map, ◌⊎◌, Option, None, Some, Result, OnOk}
+use Rattle.std.specs.Prelude.{map, Option, None, Some, Result, OnOk}
 use Rattle.std.proofs.lemmas.Result.{on_ok_weaker}
-use Rattle.std.proofs.Common.{inl, inr}
 use Rattle.std.proofs.lemmas.List.{append-nil, map-append, length-append, length-take-le, take_more, take_all}
 use Rattle.lexical.specs.declared.place.Place.{Place}
 use Rattle.perform_graph.specs.declared.performed.PerformedRange.{PerformedRange}
-use Rattle.source_tree.specs.declared.data_statement.DataStatement.{DataStatement}
-use Rattle.source_tree.specs.declared.text_statement.TextStatement.{TextStatement}
-use Rattle.source_tree.specs.declared.control_statement.ControlStatement.{ControlStatement}
+use Rattle.source_tree.specs.declared.conditional_statement.ConditionalStatement.TheVariants.{If, Evaluate}
+use Rattle.source_tree.specs.declared.perform_statement.Performed.{Performed}
+use Rattle.source_tree.specs.declared.perform_statement.Performed.TheVariants.{Procedures, Statements}
+use Rattle.source_tree.specs.declared.phrases.FilePhrases.{FilePhrases}
+use Rattle.source_tree.specs.declared.phrases.FilePhrases.TheVariants.{Absent, AtEnd, InvalidKey}
 use Rattle.source_tree.specs.declared.statement.Verb.{Verb}
 use Rattle.source_tree.specs.declared.statement.Verb.TheVariants as verb
 use Rattle.source_tree.specs.declared.statement.Statement.{Statement, out-Statement}
 use Rattle.source_tree.specs.declared.program.Paragraph.{Paragraph}
 use Rattle.source_tree.specs.declared.program.Section.{Section}
-use Rattle.source_tree.specs.Procedures.{Procedure, paragraphs_or_one, paragraphs_in}
+use Rattle.source_tree.specs.Filing.{phrases_of}
+use Rattle.source_tree.specs.Procedures.{Procedure, paragraphs_or_one, paragraphs_in, range_of}
 use Rattle.source_tree.specs.Recursion.{Performance, by_paragraph, each_performs, phrase_performs, verb_performs}
+use Rattle.source_tree.specs.Recursion.{file_phrases_performs, range_performs, performed_performs, selected_performs}
 use Rattle.source_tree.specs.Recursion.{statement_performs, paragraph_performs, performs_from}
+use Rattle.source_tree.specs.StatementCount.{in_phrase}
+use Rattle.check_rules.specs.declared.inner_statements.InnerStatements.{InnerStatements}
 use Rattle.check_rules.specs.declared.performs.Performs.{Performs}
-use Rattle.check_rules.specs.Performs.{AppendsPerforms, AddsPhrase, in_paragraph}
+use Rattle.check_rules.specs.InnerStatements.{InnerLists, file_phrases_lists, performed_lists, inner_lists, lists_in}
+use Rattle.check_rules.specs.Performs.{AppendsPerforms, in_paragraph, named_performs, own_performs}
 use Rattle.declarations.proofs.PerformLayers.{statement_is}
 
 pub adds_nothing : (all : Performs) → AppendsPerforms all all []
@@ -187,71 +193,72 @@ module _ (procedures : List Procedure) where
   walked_all {old} {new} all i number past h =
       subst (λ (l : List Section). AreWalked old new l number) (take_all i all past) h
 
--- ---- a statement, by its verb
+-- ---- a statement performs what it performs by itself, and what the statements in it perform
 
-pub adds_verb : {old new : Performs} (procedures : List Procedure) (number : ℕ) (one : Statement)
-    (does : Verb Statement) → (out-Statement one).verb ≡ does
-    → AppendsPerforms old new (in_paragraph number (verb_performs procedures (statement_performs procedures) does))
-    → AppendsPerforms old new (in_paragraph number (statement_performs procedures one))
-adds_verb {old} {new} procedures number one does is h =
-    let same = statement_is procedures one ∙ ap (verb_performs procedures (statement_performs procedures)) is in
-    subst (λ (l : List Performance). AppendsPerforms old new (in_paragraph number l)) (sym same) h
+module _ (procedures : List Procedure) {S : Type 0} (inside : S → List Performance) where
+  abbrev inner_performs : InnerLists S → List Performance
+  inner_performs all = each_performs (selected_performs inside) all.selected
+      ++ (each_performs inside all.first ++ each_performs inside all.second)
 
--- A statement of another family performs nothing.
-pub nothing_performed : (procedures : List Procedure) (number : ℕ) (one : Statement) (all : Performs)
-    → ((x : DataStatement) × ((out-Statement one).verb ≡ verb.DataStatement x))
-    ⊎ (((x : TextStatement) × ((out-Statement one).verb ≡ verb.TextStatement x))
-    ⊎ ((x : ControlStatement) × ((out-Statement one).verb ≡ verb.ControlStatement x)))
-    → AppendsPerforms all all (in_paragraph number (statement_performs procedures one))
-nothing_performed procedures number one all (inl h) =
-    adds_verb procedures number one (verb.DataStatement h.0) h.1 (adds_nothing all)
-nothing_performed procedures number one all (inr (inl h)) =
-    adds_verb procedures number one (verb.TextStatement h.0) h.1 (adds_nothing all)
-nothing_performed procedures number one all (inr (inr h)) =
-    adds_verb procedures number one (verb.ControlStatement h.0) h.1 (adds_nothing all)
+  phrase_is : (phrase : Option (List S)) → phrase_performs inside phrase ≡ each_performs inside (in_phrase phrase)
+  phrase_is None = refl
+  phrase_is (Some all) = refl
 
--- ---- a statement with phrases; `rest` is what the last call answered
+  pair_is : (arose did_not : Option (List S))
+      → phrase_performs inside arose ++ phrase_performs inside did_not
+      ≡ each_performs inside (in_phrase arose) ++ each_performs inside (in_phrase did_not)
+  pair_is arose did_not = ap (λ l. l ++ phrase_performs inside did_not) (phrase_is arose)
+      ∙ ap (λ l. each_performs inside (in_phrase arose) ++ l) (phrase_is did_not)
 
-module _ {T E : Type 0} (old now new : Performs) (procedures : List Procedure) (number : ℕ) (one : Statement)
-    (rest : Result T E) (second : Option (List Statement)) where
-  pub adds_ways : (first : List Statement)
-      → AppendsPerforms old now (in_paragraph number (each_performs (statement_performs procedures) first))
-      → OnOk rest (AddsPhrase procedures number now new second)
-      → statement_performs procedures one
-      ≡ each_performs (statement_performs procedures) first ++ phrase_performs (statement_performs procedures) second
-      → OnOk rest (AppendsPerforms old new (in_paragraph number (statement_performs procedures one)))
-  adds_ways first before after same =
-      on_ok_weaker rest
-      (λ (more : AddsPhrase procedures number now new second).
-      subst (λ (l : List Performance). AppendsPerforms old new (in_paragraph number l)) (sym same)
-      (adds_within number (each_performs (statement_performs procedures) first)
-      (phrase_performs (statement_performs procedures) second) before more.added)) after
+  file_phrases_is : (phrases : FilePhrases S)
+      → file_phrases_performs inside phrases ≡ inner_performs (file_phrases_lists phrases)
+  file_phrases_is Absent = refl
+  file_phrases_is (AtEnd pair) = pair_is pair.arose pair.did_not
+  file_phrases_is (InvalidKey pair) = pair_is pair.arose pair.did_not
 
--- a phrase after others
-pub adds_behind : {T E : Type 0} (old now new : Performs) (procedures : List Procedure) (number : ℕ) (rest : Result T E)
-    (first : List Performance) (second : Option (List Statement))
-    → AppendsPerforms old now (in_paragraph number first) → OnOk rest (AddsPhrase procedures number now new second)
-    → OnOk rest
-    (AppendsPerforms old new (in_paragraph number (first ++ phrase_performs (statement_performs procedures) second)))
-adds_behind old now new procedures number rest first second before after =
+  performed_is : (what : Performed S)
+      → performed_performs procedures inside what
+      ≡ named_performs procedures what ++ inner_performs (performed_lists what)
+  performed_is (Procedures from last) = sym (append-nil (range_performs from.place (range_of procedures from last)))
+  performed_is (Statements all) = sym (append-nil (each_performs inside all))
+
+  verb_is : (one : Verb S)
+      → verb_performs procedures inside one ≡ own_performs procedures one ++ inner_performs (inner_lists one)
+  verb_is (verb.DataStatement one) = refl
+  verb_is (verb.Arithmetic one) = pair_is one.phrases.arose one.phrases.did_not
+  verb_is (verb.ConditionalStatement (If condition statements otherwise)) =
+      ap (λ l. each_performs inside statements ++ l) (phrase_is otherwise)
+  verb_is (verb.ConditionalStatement (Evaluate one)) =
+      ap (λ l. each_performs (selected_performs inside) one.selected ++ l) (phrase_is one.other)
+  verb_is (verb.PerformStatement one) = performed_is one.performed
+  verb_is (verb.TextStatement one) = refl
+  verb_is (verb.StringStatement one) = pair_is one.phrases.arose one.phrases.did_not
+  verb_is (verb.FileStatement one) = file_phrases_is (phrases_of one)
+  verb_is (verb.ControlStatement one) = refl
+
+-- `rest` is what the last call answered
+pub adds_lists : {T E : Type 0} (old own chosen front new : Performs) (procedures : List Procedure) (number : ℕ)
+    (one : Statement) (inner : InnerStatements Statement) (rest : Result T E)
+    → lists_in inner ≡ inner_lists (out-Statement one).verb
+    → AppendsPerforms old own (in_paragraph number (own_performs procedures (out-Statement one).verb))
+    → AppendsPerforms own chosen (in_paragraph number
+    (each_performs (selected_performs (statement_performs procedures)) inner.selected.now))
+    → AppendsPerforms chosen front (in_paragraph number
+    (each_performs (statement_performs procedures) inner.first.now))
+    → OnOk rest (AppendsPerforms front new (in_paragraph number
+    (each_performs (statement_performs procedures) inner.second.now)))
+    → OnOk rest (AppendsPerforms old new (in_paragraph number (statement_performs procedures one)))
+adds_lists old own chosen front new procedures number one inner rest is a b c d =
+    let performs = statement_performs procedures in
+    let itself = own_performs procedures (out-Statement one).verb in
+    let some = each_performs (selected_performs performs) inner.selected.now in
+    let first = each_performs performs inner.first.now in
+    let second = each_performs performs inner.second.now in
+    let same : statement_performs procedures one ≡ itself ++ (some ++ (first ++ second)) =
+    statement_is procedures one ∙ verb_is procedures performs (out-Statement one).verb
+    ∙ ap (λ (all : InnerLists Statement). itself ++ inner_performs procedures performs all) (sym is) in
     on_ok_weaker rest
-    (λ (more : AddsPhrase procedures number now new second).
-    adds_within number first (phrase_performs (statement_performs procedures) second) before more.added) after
-
--- a phrase that is absent, or its statements
-pub phrase_none : (procedures : List Procedure) (number : ℕ) (all : Performs) (phrase : Option (List Statement))
-    → phrase ≡ None → AddsPhrase procedures number all all phrase
-phrase_none procedures number all phrase is =
-    subst (AddsPhrase procedures number all all) (sym is) (record { added = adds_nothing all })
-
-pub phrase_some : {T E : Type 0} (procedures : List Procedure) (number : ℕ) (old new : Performs) (rest : Result T E)
-    (phrase : Option (List Statement)) (statements : List Statement)
-    → phrase ≡ Some statements → OnOk rest
-    (AppendsPerforms old new (in_paragraph number (each_performs (statement_performs procedures) statements)))
-    → OnOk rest (AddsPhrase procedures number old new phrase)
-phrase_some procedures number old new rest phrase statements is added =
-    on_ok_weaker rest
-    (λ (more :
-    AppendsPerforms old new (in_paragraph number (each_performs (statement_performs procedures) statements))).
-    subst (AddsPhrase procedures number old new) (sym is)
-    (let here : AddsPhrase procedures number old new (Some statements) = record { added = more } in here)) added
+    (λ (more : AppendsPerforms front new (in_paragraph number second)).
+    subst (λ (l : List Performance). AppendsPerforms old new (in_paragraph number l)) (sym same)
+    (adds_within number itself (some ++ (first ++ second)) a
+    (adds_within number some (first ++ second) b (adds_within number first second c more)))) d

@@ -1,9 +1,9 @@
 -- Statements as they are counted.
 use Rattle.std.proofs.Common.{◌≡◌, ℕ, zero, suc, ◌+◌, ◌-◌, ◌<◌, ◌≤◌, false, List, [], ◌∷◌, ◌++◌, None, Some, length}
-use Rattle.std.proofs.Common.{drop, get_or, refl, sym, ap, ◌∙◌, inl, inr, append_assoc, add-one, drop-cons, arith}
-use Rattle.std.specs.Prelude.{◌==◌, ◌⊎◌, map, slice_get, Option}
+use Rattle.std.proofs.Common.{drop, get_or, refl, sym, ap, ◌∙◌, append_assoc, add-one, drop-cons, arith}
+use Rattle.std.specs.Prelude.{◌==◌, map, slice_get, Option}
 use Rattle.std.specs.Option.{option_map}
-use Rattle.std.proofs.lemmas.List.{map-append, drop_all}
+use Rattle.std.proofs.lemmas.List.{append-nil, map-append, drop_all}
 use Rattle.lexical.specs.declared.place.Place.{Place}
 use Rattle.source_tree.specs.declared.arithmetic.Operation.{Operation}
 use Rattle.source_tree.specs.declared.condition.Condition.{Condition}
@@ -12,10 +12,7 @@ use Rattle.source_tree.specs.declared.string_statement.Sending.{Sending}
 use Rattle.source_tree.specs.declared.conditional_statement.ConditionalStatement.TheVariants.{If, Evaluate}
 use Rattle.source_tree.specs.declared.evaluate_statement.Subject.{Subject}
 use Rattle.source_tree.specs.declared.evaluate_statement.Selected.{Selected}
-use Rattle.source_tree.specs.declared.control_statement.ControlStatement.{ControlStatement}
 use Rattle.source_tree.specs.declared.file_statement.FileStatement.{FileStatement}
-use Rattle.source_tree.specs.declared.data_statement.DataStatement.{DataStatement}
-use Rattle.source_tree.specs.declared.text_statement.TextStatement.{TextStatement}
 use Rattle.source_tree.specs.declared.phrases.FilePhrases.{FilePhrases}
 use Rattle.source_tree.specs.declared.phrases.FilePhrases.TheVariants.{Absent, AtEnd, InvalidKey}
 use Rattle.source_tree.specs.declared.perform_statement.Performed.{Performed}
@@ -26,10 +23,12 @@ use Rattle.source_tree.specs.declared.statement.Verb.TheVariants as verb
 use Rattle.source_tree.specs.declared.statement.Statement.{Statement, out-Statement}
 use Rattle.source_tree.specs.declared.statement.Statement.TheFolds.{map-Statement, fold_out-Statement}
 use Rattle.source_tree.specs.Filing.{phrases_of}
-use Rattle.source_tree.specs.StatementCount.{in_phrase, in_file_phrases, in_selected, inside, each_place, places_layer}
-use Rattle.source_tree.specs.StatementCount.{statement_places}
+use Rattle.source_tree.specs.StatementCount.{in_phrase, in_file_phrases, in_performed, in_selected, inside, each_place}
+use Rattle.source_tree.specs.StatementCount.{places_layer, statement_places}
 use Rattle.check_rules.specs.declared.statement_count.Room.{Room}
+use Rattle.check_rules.specs.declared.inner_statements.InnerStatements.{InnerStatements}
 use Rattle.check_rules.specs.Counting.{room_for, after_one, room_after}
+use Rattle.check_rules.specs.InnerStatements.{InnerLists, file_phrases_lists, performed_lists, inner_lists, lists_in}
 use Rattle.declarations.proofs.FilingLayers.{mapped_phrases, filing_mapped, phrases_mapped}
 
 -- ---- the statements in a statement, where they are mapped
@@ -152,28 +151,49 @@ after_both room middle new xs ys first second =
     ∙ sym (after_append (each_place statement_places xs) (each_place statement_places ys) room)
     ∙ sym (ap (room_after room) (places_append statement_places xs ys))
 
--- a statement, and those in it
-pub after_inside : (one : Statement) (what : Verb Statement) (room first new : Room) → (out-Statement one).verb ≡ what
-    → first ≡ after_one room (out-Statement one).place
-    → new ≡ room_after first (each_place statement_places (inside what)) → new ≡ room_after room (statement_places one)
-after_inside one what room first new is before h =
-    h
-    ∙ ap (λ (r : Room). room_after r (each_place statement_places (inside what))) before
-    ∙ ap (λ (v : Verb Statement).
-    room_after (after_one room (out-Statement one).place) (each_place statement_places (inside v))) (sym is)
-    ∙ sym (ap (room_after room) (statement_is one))
+-- ---- a statement, and those in it
 
--- one without others in it
-pub after_alone : (one : Statement) (room first : Room)
-    → ((x : DataStatement) × ((out-Statement one).verb ≡ verb.DataStatement x))
-    ⊎ (((x : TextStatement) × ((out-Statement one).verb ≡ verb.TextStatement x))
-    ⊎ ((x : ControlStatement) × ((out-Statement one).verb ≡ verb.ControlStatement x)))
-    → first ≡ after_one room (out-Statement one).place → first ≡ room_after room (statement_places one)
-after_alone one room first (inl h) before = after_inside one (verb.DataStatement h.0) room first first h.1 before refl
-after_alone one room first (inr (inl h)) before =
-    after_inside one (verb.TextStatement h.0) room first first h.1 before refl
-after_alone one room first (inr (inr h)) before =
-    after_inside one (verb.ControlStatement h.0) room first first h.1 before refl
+module _ {S : Type 0} where
+  abbrev listed : InnerLists S → List S
+  listed all = in_selected all.selected ++ (all.first ++ all.second)
+
+  file_phrases_listed : (phrases : FilePhrases S) → in_file_phrases phrases ≡ listed (file_phrases_lists phrases)
+  file_phrases_listed Absent = refl
+  file_phrases_listed (AtEnd pair) = refl
+  file_phrases_listed (InvalidKey pair) = refl
+
+  performed_listed : (what : Performed S) → in_performed what ≡ listed (performed_lists what)
+  performed_listed (Procedures first last) = refl
+  performed_listed (Statements all) = sym (append-nil all)
+
+  inside_listed : (one : Verb S) → inside one ≡ listed (inner_lists one)
+  inside_listed (verb.DataStatement one) = refl
+  inside_listed (verb.Arithmetic one) = refl
+  inside_listed (verb.ConditionalStatement (If condition statements otherwise)) = refl
+  inside_listed (verb.ConditionalStatement (Evaluate one)) = refl
+  inside_listed (verb.PerformStatement one) = performed_listed one.performed
+  inside_listed (verb.TextStatement one) = refl
+  inside_listed (verb.StringStatement one) = refl
+  inside_listed (verb.FileStatement one) = file_phrases_listed (phrases_of one)
+  inside_listed (verb.ControlStatement one) = refl
+
+-- after the statement's own place, and then those of each list
+pub after_lists : (one : Statement) (inner : InnerStatements Statement) (room own chosen front new : Room)
+    → lists_in inner ≡ inner_lists (out-Statement one).verb → own ≡ after_one room (out-Statement one).place
+    → chosen ≡ room_after own (each_place statement_places (in_selected inner.selected.now))
+    → front ≡ room_after chosen (each_place statement_places inner.first.now)
+    → new ≡ room_after front (each_place statement_places inner.second.now)
+    → new ≡ room_after room (statement_places one)
+after_lists one inner room own chosen front new is at h k l =
+    let first = inner.first.now in
+    let second = inner.second.now in
+    after_both own chosen new (in_selected inner.selected.now) (first ++ second) h
+    (after_both chosen front new first second k l)
+    ∙ ap (λ (all : InnerLists Statement). room_after own (each_place statement_places (listed all))) is
+    ∙ ap (λ (all : List Statement). room_after own (each_place statement_places all))
+    (sym (inside_listed (out-Statement one).verb))
+    ∙ ap (λ (r : Room). room_after r (each_place statement_places (inside (out-Statement one).verb))) at
+    ∙ sym (ap (room_after room) (statement_is one))
 
 -- ---- one after another, by the places of each
 

@@ -1,4 +1,5 @@
 pub mod Told
+pub mod InOrder
 pub mod Parts
 pub mod Operations
 pub mod ConditionLayers
@@ -9,4 +10,6 @@ pub mod Counted
 pub mod PerformedRanges
 pub mod Back
 pub mod KeysFound
+pub mod InnerFalls
 pub mod StatementBreaches
+pub mod Varying

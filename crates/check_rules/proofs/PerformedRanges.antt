@@ -393,9 +393,8 @@ pub ranges_end : (count : ℕ) (ranges : List PerformedRange) → count < 2 ^ 64
     → All HasNext ranges
 ranges_end count ranges fits h k d lt = let last = (h k d lt).last in omega arith
 
-pub place_there : (program : Program) (all : Performs) (count number : ℕ) → IsCollected program all count
-    → number < length all.ranges.items → number < length all.places.items
-place_there program all count number h lt =
-    let a = ap length h.places ∙ length-map (performs program) (λ (one : Place × PerformedRange). one.0) in
-    let b = ap length h.ranges ∙ length-map (performs program) (λ (one : Place × PerformedRange). one.1) in
-    omega (arith, a, b)
+pub as_many : (program : Program) (all : Performs) (count : ℕ) → IsCollected program all count
+    → length all.places.items ≡ length all.ranges.items
+as_many program all count h =
+    ap length h.places ∙ length-map (performs program) (λ (one : Place × PerformedRange). one.0)
+    ∙ sym (ap length h.ranges ∙ length-map (performs program) (λ (one : Place × PerformedRange). one.1))

@@ -9,3 +9,5 @@ pub mod Performs
 pub mod Counting
 pub mod FiledKeys
 pub mod Filed
+pub mod InnerStatements
+pub mod OwnRules

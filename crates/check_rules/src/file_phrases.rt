@@ -9,7 +9,7 @@ ghost use Rattle.check_rules.specs.Filed as filed;
 
 use entry_rules::{BrokenRule, Rule};
 use records::Organization;
-use source_tree::{Access, FilePhrases, Place, Statement};
+use source_tree::{Access, FilePhrases, Place};
 
 pub(crate) fn is_sequential(organization: Organization) -> bool
     ensures { result ≡ spec.is_sequential_file organization }
@@ -36,23 +36,23 @@ pub(crate) fn is_in_sequence(access: Access, next: bool) -> bool
     matches!(access, Access::Sequential) || next
 }
 
-fn has_at_end(phrases: &FilePhrases<Statement>) -> bool
+fn has_at_end<S>(phrases: &FilePhrases<S>) -> bool
     ensures { result ≡ spec.has_at_end phrases.now }
 {
     matches!(phrases, FilePhrases::AtEnd(_))
 }
 
-fn has_invalid_key(phrases: &FilePhrases<Statement>) -> bool
+fn has_invalid_key<S>(phrases: &FilePhrases<S>) -> bool
     ensures { result ≡ spec.has_invalid_key phrases.now }
 {
     matches!(phrases, FilePhrases::InvalidKey(_))
 }
 
 /// Phrases of a statement that isn't READ: AT END stands nowhere, and INVALID KEY not on a sequential file.
-pub(crate) fn phrase_kind_rules(
+pub(crate) fn phrase_kind_rules<S>(
     place: Place,
     organization: Organization,
-    phrases: &FilePhrases<Statement>,
+    phrases: &FilePhrases<S>,
 ) -> Result<(), BrokenRule>
     ensures { IsFirstBreach result (filed.phrase_kind_rules place organization phrases.now) }
 {
@@ -61,10 +61,10 @@ pub(crate) fn phrase_kind_rules(
 }
 
 /// Phrases of READ: AT END stands at one in sequence alone, and INVALID KEY at one by a key.
-pub(crate) fn read_phrase_rules(
+pub(crate) fn read_phrase_rules<S>(
     place: Place,
     in_sequence: bool,
-    phrases: &FilePhrases<Statement>,
+    phrases: &FilePhrases<S>,
 ) -> Result<(), BrokenRule>
     ensures { IsFirstBreach result (filed.read_phrase_rules place in_sequence phrases.now) }
 {

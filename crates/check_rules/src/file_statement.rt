@@ -121,12 +121,12 @@ impl<'a> Checker<'a> {
     }
 
     /// A READ of a file that was found: with NEXT it has no random access.
-    fn read_file_rules(
+    fn read_file_rules<S>(
         &self,
         next: bool,
         file: &ProgramFile<'_>,
         place: Place,
-        phrases: &FilePhrases<Statement>,
+        phrases: &FilePhrases<S>,
     ) -> Result<(), BrokenRule>
         ensures { IsFirstBreach result (filed.read_file_rules place next phrases.now
             (file_in (items_in self.now.declarations.now) file.now)) }
@@ -137,14 +137,14 @@ impl<'a> Checker<'a> {
     }
 
     /// A READ of a file, which is named at that place.
-    fn read_found_rules(
+    fn read_found_rules<S>(
         &self,
         file: &ProgramFile<'_>,
         place: Place,
         next: bool,
         into: &Option<Reference>,
         key: &Option<Reference>,
-        phrases: &FilePhrases<Statement>,
+        phrases: &FilePhrases<S>,
     ) -> Result<(), BrokenRule>
         ensures { IsFirstBreach result (spec.read_rules (items_in self.now.declarations.now)
             (files_in self.now.declarations.now) place next into.now key.now phrases.now
@@ -155,13 +155,13 @@ impl<'a> Checker<'a> {
         self.into_rules(file, into)
     }
 
-    fn read_rules(
+    fn read_rules<S>(
         &self,
         name: &Name,
         next: bool,
         into: &Option<Reference>,
         key: &Option<Reference>,
-        phrases: &FilePhrases<Statement>,
+        phrases: &FilePhrases<S>,
     ) -> Result<(), BrokenRule>
         ensures { IsFirstBreach result (spec.file_named_rules (items_in self.now.declarations.now)
             (files_in self.now.declarations.now) name.now (spec.read_rules
@@ -173,12 +173,12 @@ impl<'a> Checker<'a> {
     }
 
     /// The 01 record of an FD. It is the item of that number, which has that area.
-    fn record_item_rules(
+    fn record_item_rules<S>(
         &self,
         place: Place,
         number: usize,
         area: u32,
-        phrases: &FilePhrases<Statement>,
+        phrases: &FilePhrases<S>,
     ) -> Result<(), BrokenRule>
         ensures { (one : LocatedItem)
             → slice_get (items_in self.now.declarations.now) number ≡ Some one → area ≡ one.area
@@ -191,10 +191,10 @@ impl<'a> Checker<'a> {
     }
 
     /// The record of WRITE and REWRITE: the 01 record of an FD, without a part.
-    fn record_named_rules(
+    fn record_named_rules<S>(
         &self,
         one: &Reference,
-        phrases: &FilePhrases<Statement>,
+        phrases: &FilePhrases<S>,
     ) -> Result<(), BrokenRule>
         ensures { IsFirstBreach result (named_rules (items_in self.now.declarations.now)
             (filed.whole_record (items_in self.now.declarations.now)
@@ -217,11 +217,11 @@ impl<'a> Checker<'a> {
         }
     }
 
-    fn record_rules(
+    fn record_rules<S>(
         &self,
         one: &Reference,
         from: &Option<Reference>,
-        phrases: &FilePhrases<Statement>,
+        phrases: &FilePhrases<S>,
     ) -> Result<(), BrokenRule>
         ensures { IsFirstBreach result (spec.record_rules (items_in self.now.declarations.now)
             (files_in self.now.declarations.now) one.now from.now phrases.now) }
@@ -231,7 +231,7 @@ impl<'a> Checker<'a> {
         self.from_rules(one, from)
     }
 
-    fn delete_rules(&self, name: &Name, phrases: &FilePhrases<Statement>) -> Result<(), BrokenRule>
+    fn delete_rules<S>(&self, name: &Name, phrases: &FilePhrases<S>) -> Result<(), BrokenRule>
         ensures { IsFirstBreach result (spec.file_named_rules
             (items_in self.now.declarations.now) (files_in self.now.declarations.now)
             name.now (spec.delete_rules (items_in self.now.declarations.now)
@@ -281,12 +281,12 @@ impl<'a> Checker<'a> {
     }
 
     /// A START of a file, which is named at that place.
-    fn start_found_rules(
+    fn start_found_rules<S>(
         &self,
         file: &ProgramFile<'_>,
         place: Place,
         key: &Option<StartKey>,
-        phrases: &FilePhrases<Statement>,
+        phrases: &FilePhrases<S>,
     ) -> Result<(), BrokenRule>
         ensures { IsFirstBreach result (spec.start_rules (items_in self.now.declarations.now)
             (files_in self.now.declarations.now) place key.now phrases.now
@@ -297,11 +297,11 @@ impl<'a> Checker<'a> {
         phrase_kind_rules(place, file.organization, phrases)
     }
 
-    fn start_rules(
+    fn start_rules<S>(
         &self,
         name: &Name,
         key: &Option<StartKey>,
-        phrases: &FilePhrases<Statement>,
+        phrases: &FilePhrases<S>,
     ) -> Result<(), BrokenRule>
         ensures { IsFirstBreach result (spec.file_named_rules
             (items_in self.now.declarations.now) (files_in self.now.declarations.now)

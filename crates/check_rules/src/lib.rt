@@ -12,6 +12,7 @@ mod file_phrases;
 mod file_statement;
 mod forms;
 mod initialize_statement;
+mod inner_statements;
 mod inspect_statement;
 mod move_statement;
 mod performs;

@@ -3,18 +3,16 @@
 ghost use Rattle.std.specs.Prelude.{◌≡◌, ◌+◌, ◌<◌, ◌^◌, [], ◌∷◌, length, IfOk, OnOk};
 ghost use Rattle.source_tree.specs.Procedures.{paragraphs_in, paragraphs_or_one, range_of};
 ghost use Rattle.source_tree.specs.Recursion as spec;
-ghost use Rattle.source_tree.specs.Filing.{phrases_of};
-ghost use Rattle.source_tree.specs.Recursion.{each_performs, file_phrases_performs, performs_from, phrases_performs, selected_performs};
+ghost use Rattle.source_tree.specs.Recursion.{each_performs, performs_from, selected_performs};
 ghost use Rattle.declarations.specs.Named.{procedures_in};
-ghost use Rattle.check_rules.specs.Performs.{AppendsPerforms, AddsPhrase, in_paragraph};
+ghost use Rattle.check_rules.specs.Performs.{AppendsPerforms, in_paragraph, named_performs, own_performs};
 
 use crate::checker::Checker;
+use crate::inner_statements::{InnerStatements, inner_statements};
 use perform_graph::PerformedRange;
 use source_tree::{
-    ConditionalStatement, Evaluate, FilePhrases, FileStatement, Name, Paragraph, Performed,
-    Phrases, Place, Section, Selected, Sentence, Statement, Verb,
+    Name, Paragraph, Performed, Place, Section, Selected, Sentence, Statement, Verb,
 };
-use sqlite_items::Items;
 use std::alloc::{AllocError, Global};
 
 /// What PERFORMs perform, in the order of the text, and where each names its first procedure.
@@ -69,7 +67,39 @@ impl<'a> Checker<'a> {
         all.push(first.place, performed)
     }
 
-    /// What the PERFORMs in a statement perform.
+    /// What a PERFORM of procedures performs.
+    fn named_performs<S>(
+        &self,
+        number: usize,
+        performed: &Performed<S>,
+        all: &mut Performs,
+    ) -> Result<(), AllocError>
+        ensures { OnOk result (AppendsPerforms all.old all.new (in_paragraph number
+            (named_performs (procedures_in self.now.declarations.now) performed.now))) }
+    {
+        match performed {
+            Performed::Procedures { first, last } => self.range_performs(number, first, last, all),
+            Performed::Statements(_) => Ok(()),
+        }
+    }
+
+    /// What a statement performs by itself.
+    fn own_performs<S>(
+        &self,
+        number: usize,
+        verb: &Verb<S>,
+        all: &mut Performs,
+    ) -> Result<(), AllocError>
+        ensures { OnOk result (AppendsPerforms all.old all.new (in_paragraph number
+            (own_performs (procedures_in self.now.declarations.now) verb.now))) }
+    {
+        match verb {
+            Verb::PerformStatement(one) => self.named_performs(number, &one.performed, all),
+            _ => Ok(()),
+        }
+    }
+
+    /// What the PERFORMs in a statement perform, and it by itself.
     #[cycle(performs)]
     fn statement_performs(
         &self,
@@ -80,29 +110,16 @@ impl<'a> Checker<'a> {
         ensures { OnOk result (AppendsPerforms all.old all.new (in_paragraph number
             (spec.statement_performs (procedures_in self.now.declarations.now) one.now))) }
     {
-        match &one.verb {
-            Verb::Arithmetic(arithmetic) => self.pair_performs(number, &arithmetic.phrases, all),
-            Verb::ConditionalStatement(
-                ConditionalStatement::If {
-                    statements,
-                    otherwise,
-                    ..
-                },
-            ) => {
-                self.statements_performs(number, statements.as_slice(), all)?;
-                self.phrase_performs(number, otherwise, all)
-            }
-            Verb::ConditionalStatement(ConditionalStatement::Evaluate(evaluate)) =>
-                self.evaluate_performs(number, evaluate, all),
-            Verb::PerformStatement(performing) => {
-                self.performed_performs(number, &performing.performed, all)
-            }
-            Verb::StringStatement(stringing) => {
-                self.pair_performs(number, &stringing.phrases, all)
-            }
-            Verb::FileStatement(filing) => self.filing_performs(number, filing, all),
-            Verb::DataStatement(_) | Verb::TextStatement(_) | Verb::ControlStatement(_) => Ok(()),
-        }
+        self.own_performs(number, &one.verb, all)?;
+        let InnerStatements {
+            subjects: _,
+            selected,
+            first,
+            second,
+        } = inner_statements(&one.verb);
+        self.selections_performs(number, selected, all)?;
+        self.statements_performs(number, first, all)?;
+        self.statements_performs(number, second, all)
     }
 
     /// Those of statements, in order.
@@ -122,109 +139,6 @@ impl<'a> Checker<'a> {
         Ok(())
     }
 
-    /// Those of the statements of a phrase, if it stands.
-    #[cycle(performs)]
-    fn phrase_performs(
-        &self,
-        number: usize,
-        phrase: &Option<Items<Statement>>,
-        all: &mut Performs,
-    ) -> Result<(), AllocError>
-        ensures { OnOk result (AddsPhrase (procedures_in self.now.declarations.now) number all.old
-            all.new phrase.now) }
-    {
-        match phrase {
-            None => Ok(()),
-            Some(inside) => self.statements_performs(number, inside.as_slice(), all),
-        }
-    }
-
-    /// Those of a phrase and its opposite.
-    #[cycle(performs)]
-    fn pair_performs(
-        &self,
-        number: usize,
-        pair: &Phrases<Statement>,
-        all: &mut Performs,
-    ) -> Result<(), AllocError>
-        ensures { OnOk
-            result (AppendsPerforms all.old all.new (in_paragraph number (phrases_performs
-            (spec.statement_performs (procedures_in self.now.declarations.now)) pair.now))) }
-    {
-        self.phrase_performs(number, &pair.arose, all)?;
-        self.phrase_performs(number, &pair.did_not, all)
-    }
-
-    /// Those of the phrases of a file statement.
-    #[cycle(performs)]
-    fn file_phrases_performs(
-        &self,
-        number: usize,
-        phrases: &FilePhrases<Statement>,
-        all: &mut Performs,
-    ) -> Result<(), AllocError>
-        ensures { OnOk result
-            (AppendsPerforms all.old all.new (in_paragraph number (file_phrases_performs
-            (spec.statement_performs (procedures_in self.now.declarations.now)) phrases.now))) }
-    {
-        match phrases {
-            FilePhrases::Absent => Ok(()),
-            FilePhrases::AtEnd(pair) => self.pair_performs(number, pair, all),
-            FilePhrases::InvalidKey(pair) => self.pair_performs(number, pair, all),
-        }
-    }
-
-    /// Those of a file statement.
-    #[cycle(performs)]
-    fn filing_performs(
-        &self,
-        number: usize,
-        one: &FileStatement<Statement>,
-        all: &mut Performs,
-    ) -> Result<(), AllocError>
-        ensures { OnOk result (AppendsPerforms all.old
-            all.new (in_paragraph number (file_phrases_performs (spec.statement_performs
-            (procedures_in self.now.declarations.now)) (phrases_of one.now)))) }
-    {
-        match one {
-            FileStatement::Open { .. } => Ok(()),
-            FileStatement::Close { .. } => Ok(()),
-            FileStatement::Read { phrases, .. } => self.file_phrases_performs(number, phrases, all),
-            FileStatement::Write { phrases, .. } => self.file_phrases_performs(
-                number, phrases, all,
-            ),
-            FileStatement::Rewrite { phrases, .. } => self.file_phrases_performs(
-                number, phrases, all,
-            ),
-            FileStatement::Delete { phrases, .. } => self.file_phrases_performs(
-                number, phrases, all,
-            ),
-            FileStatement::Start { phrases, .. } => self.file_phrases_performs(
-                number, phrases, all,
-            ),
-        }
-    }
-
-    /// What a PERFORM performs, or those of the statements in it.
-    #[cycle(performs)]
-    fn performed_performs(
-        &self,
-        number: usize,
-        performed: &Performed<Statement>,
-        all: &mut Performs,
-    ) -> Result<(), AllocError>
-        ensures { OnOk result (AppendsPerforms all.old all.new
-            (in_paragraph number (spec.performed_performs (procedures_in self.now.declarations.now)
-            (spec.statement_performs (procedures_in self.now.declarations.now)) performed.now))) }
-    {
-        match performed {
-            Performed::Procedures { first, last } => self.range_performs(number, first, last, all),
-            Performed::Statements(inside) => {
-                self.statements_performs(number, inside.as_slice(), all)
-            }
-        }
-    }
-
     /// Those of the statements after WHENs, in order.
     #[cycle(performs)]
     fn selections_performs(
@@ -241,22 +155,6 @@ impl<'a> Checker<'a> {
             self.statements_performs(number, one.statements.as_slice(), all)?;
         }
         Ok(())
-    }
-
-    /// Those of EVALUATE.
-    #[cycle(performs)]
-    fn evaluate_performs(
-        &self,
-        number: usize,
-        one: &Evaluate<Statement>,
-        all: &mut Performs,
-    ) -> Result<(), AllocError>
-        ensures { OnOk result
-            (AppendsPerforms all.old all.new (in_paragraph number (spec.evaluate_performs
-            (spec.statement_performs (procedures_in self.now.declarations.now)) one.now))) }
-    {
-        self.selections_performs(number, one.selected.as_slice(), all)?;
-        self.phrase_performs(number, &one.other, all)
     }
 
     /// Those of a paragraph, which has that number.

@@ -1,13 +1,13 @@
 //! Rule 54: no PERFORM leads back to the paragraph that it stands in (own choice; COBOL-85 leaves open what recursion does).
 
-ghost use Rattle.std.specs.Prelude.{◌≡◌, ◌+◌, ◌<◌, ◌^◌, [], All, IfErr, OnOk, MatchBool, MatchOption};
-ghost use Rattle.perform_graph.specs.Order.{marks};
+ghost use Rattle.std.specs.Prelude.{◌≡◌, [], length, All, IfErr, OnOk, MatchBool, MatchOption};
+ghost use Rattle.perform_graph.specs.Order.{IsRange, marks};
 ghost use Rattle.source_tree.specs.Recursion.{HasOrder};
 ghost use Rattle.source_tree.specs.Rules.{sections_rules, all_permitted};
 ghost use Rattle.entry_rules.specs.Checks.{fault_of};
 ghost use Rattle.declarations.specs.Named.{Declares, scope_in};
 ghost use Rattle.check_rules.specs.Refusals.{IsBack};
-ghost use Rattle.check_rules.specs.Performs.{PerformsWithin, HasNext, IsFirstWithin};
+ghost use Rattle.check_rules.specs.Performs.{AreOrdered, IsBackAmong, PerformsWithin, HasNext, IsFirstWithin};
 
 use crate::checker::Checker;
 use crate::performs::Performs;
@@ -28,17 +28,28 @@ impl<'a> Checker<'a> {
     {
         let mut all = Performs::new(alloc);
         let count = self.sections_performs(program.sections.as_slice(), &mut all)?;
-        let marked = match order_of(alloc, count, &all.ranges)? {
-            Order::Ranks(_) => return Ok(()),
-            Order::Recursive(marked) => marked,
-        };
-        match first_back(marked.as_slice(), &all.ranges) {
-            None => unreachable!(),
-            Some(number) => Err(CheckError::Refused(BrokenRule {
-                rule: Rule::Recursion,
-                place: all.places[number],
-            })),
-        }
+        order_rules(alloc, count, &all)
+    }
+}
+
+/// The paragraphs, of which there are so many, have an order by what PERFORMs perform. Where they have none, the answer is at the first
+/// PERFORM that leads back.
+fn order_rules(alloc: Global, count: usize, all: &Performs) -> Result<(), CheckError>
+    requires ranges { All (IsRange count) all.now.ranges.items }
+    requires places { length all.now.places.items ≡ length all.now.ranges.items }
+    ensures order { OnOk result (AreOrdered count all.now.ranges.items) }
+    ensures back { IfErr result (λ e. IsBackAmong all.now (fault_of e)) }
+{
+    let marked = match order_of(alloc, count, &all.ranges)? {
+        Order::Ranks(_) => return Ok(()),
+        Order::Recursive(marked) => marked,
+    };
+    match first_back(marked.as_slice(), &all.ranges) {
+        None => unreachable!(),
+        Some(number) => Err(CheckError::Refused(BrokenRule {
+            rule: Rule::Recursion,
+            place: all.places[number],
+        })),
     }
 }
 

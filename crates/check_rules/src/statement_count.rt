@@ -2,18 +2,14 @@
 
 ghost use Rattle.std.specs.Prelude.{◌≡◌};
 ghost use Rattle.entry_rules.specs.Checks.{IsFirstBreach};
-ghost use Rattle.source_tree.specs.Filing.{phrases_of};
 ghost use Rattle.source_tree.specs.StatementCount as spec;
 ghost use Rattle.source_tree.specs.StatementCount.{each_place, statement_places};
 ghost use Rattle.check_rules.specs.Counting as counting;
 ghost use Rattle.check_rules.specs.Counting.{room_after};
 
+use crate::inner_statements::{InnerStatements, inner_statements};
 use entry_rules::{BrokenRule, Rule};
-use source_tree::{
-    ConditionalStatement, FilePhrases, FileStatement, Paragraph, Performed, Phrases, Place,
-    Program, Section, Selected, Sentence, Statement, Verb,
-};
-use sqlite_items::Items;
+use source_tree::{Paragraph, Place, Program, Section, Selected, Sentence, Statement};
 
 /// The most statements of a program (own choice).
 const MOST_STATEMENTS: usize = 50_000;
@@ -68,15 +64,16 @@ impl Room {
 fn after_statement(room: Room, one: &Statement) -> Room
     ensures { result ≡ room_after room (statement_places one.now) }
 {
+    let InnerStatements {
+        subjects: _,
+        selected,
+        first,
+        second,
+    } = inner_statements(&one.verb);
     let room = room.after(one.place);
-    match &one.verb {
-        Verb::Arithmetic(arithmetic) => after_phrases(room, &arithmetic.phrases),
-        Verb::ConditionalStatement(branching) => after_branching(room, branching),
-        Verb::PerformStatement(performing) => after_performed(room, &performing.performed),
-        Verb::StringStatement(stringing) => after_phrases(room, &stringing.phrases),
-        Verb::FileStatement(filing) => after_filing(room, filing),
-        Verb::DataStatement(_) | Verb::TextStatement(_) | Verb::ControlStatement(_) => room,
-    }
+    let room = after_selected(room, selected);
+    let room = after_statements(room, first);
+    after_statements(room, second)
 }
 
 /// After statements, in order.
@@ -91,68 +88,6 @@ fn after_statements(room: Room, all: &[Statement]) -> Room
     so_far
 }
 
-/// After those of a phrase, if it stands.
-#[cycle(count)]
-fn after_phrase(room: Room, phrase: &Option<Items<Statement>>) -> Room
-    ensures { result ≡ room_after room (each_place statement_places (spec.in_phrase phrase.now)) }
-{
-    match phrase {
-        None => room,
-        Some(inside) => after_statements(room, inside.as_slice()),
-    }
-}
-
-/// After those of a phrase and its opposite.
-#[cycle(count)]
-fn after_phrases(room: Room, pair: &Phrases<Statement>) -> Room
-    ensures { result ≡ room_after room (each_place statement_places (spec.in_phrases pair.now)) }
-{
-    let room = after_phrase(room, &pair.arose);
-    after_phrase(room, &pair.did_not)
-}
-
-/// After those of the phrases of a file statement.
-#[cycle(count)]
-fn after_file_phrases(room: Room, phrases: &FilePhrases<Statement>) -> Room
-    ensures { result
-        ≡ room_after room (each_place statement_places (spec.in_file_phrases phrases.now)) }
-{
-    match phrases {
-        FilePhrases::Absent => room,
-        FilePhrases::AtEnd(pair) => after_phrases(room, pair),
-        FilePhrases::InvalidKey(pair) => after_phrases(room, pair),
-    }
-}
-
-/// After those in a file statement.
-#[cycle(count)]
-fn after_filing(room: Room, one: &FileStatement<Statement>) -> Room
-    ensures { result ≡ room_after room
-        (each_place statement_places (spec.in_file_phrases (phrases_of one.now))) }
-{
-    match one {
-        FileStatement::Open { .. } => room,
-        FileStatement::Close { .. } => room,
-        FileStatement::Read { phrases, .. } => after_file_phrases(room, phrases),
-        FileStatement::Write { phrases, .. } => after_file_phrases(room, phrases),
-        FileStatement::Rewrite { phrases, .. } => after_file_phrases(room, phrases),
-        FileStatement::Delete { phrases, .. } => after_file_phrases(room, phrases),
-        FileStatement::Start { phrases, .. } => after_file_phrases(room, phrases),
-    }
-}
-
-/// After those that a PERFORM has in it.
-#[cycle(count)]
-fn after_performed(room: Room, performed: &Performed<Statement>) -> Room
-    ensures { result
-        ≡ room_after room (each_place statement_places (spec.in_performed performed.now)) }
-{
-    match performed {
-        Performed::Procedures { .. } => room,
-        Performed::Statements(inside) => after_statements(room, inside.as_slice()),
-    }
-}
-
 /// After those of the WHENs of an EVALUATE.
 #[cycle(count)]
 fn after_selected(room: Room, all: &[Selected<Statement>]) -> Room
@@ -163,27 +98,6 @@ fn after_selected(room: Room, all: &[Selected<Statement>]) -> Room
         so_far = after_statements(so_far, one.statements.as_slice());
     }
     so_far
-}
-
-/// After those in an IF or an EVALUATE.
-#[cycle(count)]
-fn after_branching(room: Room, one: &ConditionalStatement<Statement>) -> Room
-    ensures { result ≡ room_after room (each_place statement_places (spec.in_branching one.now)) }
-{
-    match one {
-        ConditionalStatement::If {
-            statements,
-            otherwise,
-            ..
-        } => {
-            let room = after_statements(room, statements.as_slice());
-            after_phrase(room, otherwise)
-        }
-        ConditionalStatement::Evaluate(one) => {
-            let room = after_selected(room, one.selected.as_slice());
-            after_phrase(room, &one.other)
-        }
-    }
 }
 
 /// After those of sentences.

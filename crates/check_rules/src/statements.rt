@@ -1,23 +1,20 @@
 //! The rules of statements, one after another and those in one, and of what they stand in.
 
-ghost use Rattle.std.specs.Prelude.{◌≡◌, ◌++◌};
 ghost use Rattle.entry_rules.specs.Checks.{IsFirstBreach};
 ghost use Rattle.source_tree.specs.Broken.{each};
 ghost use Rattle.source_tree.specs.EvaluateRules.{selected_rules};
-ghost use Rattle.source_tree.specs.Filing.{phrases_of};
-ghost use Rattle.source_tree.specs.FilingRules.{filing_rules};
 ghost use Rattle.source_tree.specs.Rules as spec;
 ghost use Rattle.source_tree.specs.Rules.{all_permitted};
-ghost use Rattle.declarations.specs.Named.{files_in, items_in, scope_in};
+ghost use Rattle.declarations.specs.Named.{items_in, procedures_in, scope_in};
+ghost use Rattle.check_rules.specs.OwnRules as own;
 
 use crate::checker::Checker;
+use crate::inner_statements::{InnerStatements, inner_statements};
 use entry_rules::BrokenRule;
 use source_tree::{
-    ConditionalStatement, DataStatement, Evaluate, FilePhrases, FileStatement, Paragraph,
-    PerformStatement, Performed, Phrases, Section, Selected, Sentence, Statement, Subject,
-    TextStatement, Verb,
+    ConditionalStatement, DataStatement, Paragraph, PerformStatement, Performed, Section, Selected,
+    Sentence, Statement, Subject, TextStatement, Verb,
 };
-use sqlite_items::Items;
 
 impl<'a> Checker<'a> {
     fn moving_rules(&self, one: &DataStatement) -> Result<(), BrokenRule>
@@ -47,48 +44,70 @@ impl<'a> Checker<'a> {
         }
     }
 
+    /// The procedures that a PERFORM names.
+    fn named_range_rules<S>(&self, performed: &Performed<S>) -> Result<(), BrokenRule>
+        ensures { IsFirstBreach result
+            (own.named_range (procedures_in self.now.declarations.now) performed.now) }
+    {
+        match performed {
+            Performed::Procedures { first, last } => self.range_rules(first, last),
+            Performed::Statements(_) => Ok(()),
+        }
+    }
+
+    /// How often a PERFORM turns, and the procedures that it names.
+    fn performing_rules<S>(&self, one: &PerformStatement<S>) -> Result<(), BrokenRule>
+        ensures { IsFirstBreach result
+            (own.own_performing (scope_in self.now.declarations.now) one.now) }
+    {
+        self.turns_rules(&one.turns)?;
+        self.named_range_rules(&one.performed)
+    }
+
+    /// The condition of an IF, or the subjects of an EVALUATE.
+    fn branching_rules<S>(&self, one: &ConditionalStatement<S>) -> Result<(), BrokenRule>
+        ensures { IsFirstBreach result
+            (own.own_branching (items_in self.now.declarations.now) one.now) }
+    {
+        match one {
+            ConditionalStatement::If { condition, .. } => self.condition_rules(condition),
+            ConditionalStatement::Evaluate(one) => self.subjects_rules(one.subjects.as_slice()),
+        }
+    }
+
+    /// A statement without those in it.
+    fn own_rules(&self, verb: &Verb<Statement>) -> Result<(), BrokenRule>
+        ensures { IsFirstBreach result
+            (own.own_rules (scope_in self.now.declarations.now) verb.now) }
+    {
+        match verb {
+            Verb::DataStatement(moving) => self.moving_rules(moving),
+            Verb::Arithmetic(arithmetic) => self.operation_rules(&arithmetic.operation),
+            Verb::ConditionalStatement(branching) => self.branching_rules(branching),
+            Verb::PerformStatement(performing) => self.performing_rules(performing),
+            Verb::TextStatement(text) => self.text_rules(text),
+            Verb::StringStatement(stringing) => self.string_rules(stringing),
+            Verb::FileStatement(filing) => self.filing_rules(filing),
+            Verb::ControlStatement(_) => Ok(()),
+        }
+    }
+
     /// A statement, with those in it.
     #[cycle(statement)]
-    #[tactic(auto, using(declarations::proofs::RuleLayers::statement_is))]
     pub fn statement_rules(&self, one: &Statement) -> Result<(), BrokenRule>
         ensures { IsFirstBreach result
             (spec.statement_rules (scope_in self.now.declarations.now) all_permitted one.now) }
     {
-        match &one.verb {
-            Verb::DataStatement(moving) => self.moving_rules(moving),
-            Verb::Arithmetic(arithmetic) => {
-                self.operation_rules(&arithmetic.operation)?;
-                self.opposite_rules(&arithmetic.phrases)
-            }
-            Verb::ConditionalStatement(
-                ConditionalStatement::If {
-                    condition,
-                    statements,
-                    otherwise,
-                },
-            ) => {
-                self.condition_rules(condition)?;
-                self.statements_rules(statements.as_slice())?;
-                self.phrase_rules(otherwise)
-            }
-            Verb::ConditionalStatement(ConditionalStatement::Evaluate(one)) => self.evaluate_rules(
-                one,
-            ),
-            Verb::PerformStatement(PerformStatement { performed, turns }) => {
-                self.turns_rules(turns)?;
-                match performed {
-                    Performed::Procedures { first, last } => self.range_rules(first, last),
-                    Performed::Statements(inside) => self.statements_rules(inside.as_slice()),
-                }
-            }
-            Verb::TextStatement(text) => self.text_rules(text),
-            Verb::StringStatement(stringing) => {
-                self.string_rules(stringing)?;
-                self.opposite_rules(&stringing.phrases)
-            }
-            Verb::FileStatement(filing) => self.file_statement_rules(filing),
-            Verb::ControlStatement(_) => Ok(()),
-        }
+        self.own_rules(&one.verb)?;
+        let InnerStatements {
+            subjects,
+            selected,
+            first,
+            second,
+        } = inner_statements(&one.verb);
+        self.selections_rules(subjects, selected)?;
+        self.statements_rules(first)?;
+        self.statements_rules(second)
     }
 
     /// Statements, in order.
@@ -101,69 +120,6 @@ impl<'a> Checker<'a> {
             self.statement_rules(one)?;
         }
         Ok(())
-    }
-
-    /// The statements of a phrase, if it stands.
-    #[cycle(statement)]
-    fn phrase_rules(&self, phrase: &Option<Items<Statement>>) -> Result<(), BrokenRule>
-        ensures { IsFirstBreach result (spec.phrase_rules
-            (spec.statement_rules (scope_in self.now.declarations.now) all_permitted) phrase.now) }
-    {
-        match phrase {
-            None => Ok(()),
-            Some(inside) => self.statements_rules(inside.as_slice()),
-        }
-    }
-
-    /// The statements of a phrase and its opposite.
-    #[cycle(statement)]
-    fn opposite_rules(&self, pair: &Phrases<Statement>) -> Result<(), BrokenRule>
-        ensures { IsFirstBreach result (spec.phrases_rules
-            (spec.statement_rules (scope_in self.now.declarations.now) all_permitted) pair.now) }
-    {
-        self.phrase_rules(&pair.arose)?;
-        self.phrase_rules(&pair.did_not)
-    }
-
-    /// Those of the phrases of a file statement.
-    #[cycle(statement)]
-    fn file_phrases_rules(&self, phrases: &FilePhrases<Statement>) -> Result<(), BrokenRule>
-        ensures { IsFirstBreach result (spec.file_phrases_rules
-            (spec.statement_rules (scope_in self.now.declarations.now) all_permitted) phrases.now) }
-    {
-        match phrases {
-            FilePhrases::Absent => Ok(()),
-            FilePhrases::AtEnd(pair) => self.opposite_rules(pair),
-            FilePhrases::InvalidKey(pair) => self.opposite_rules(pair),
-        }
-    }
-
-    /// The statements in a file statement.
-    #[cycle(statement)]
-    fn filed_rules(&self, one: &FileStatement<Statement>) -> Result<(), BrokenRule>
-        ensures { IsFirstBreach result (spec.file_phrases_rules (spec.statement_rules
-            (scope_in self.now.declarations.now) all_permitted) (phrases_of one.now)) }
-    {
-        match one {
-            FileStatement::Open { .. } => Ok(()),
-            FileStatement::Close { .. } => Ok(()),
-            FileStatement::Read { phrases, .. } => self.file_phrases_rules(phrases),
-            FileStatement::Write { phrases, .. } => self.file_phrases_rules(phrases),
-            FileStatement::Rewrite { phrases, .. } => self.file_phrases_rules(phrases),
-            FileStatement::Delete { phrases, .. } => self.file_phrases_rules(phrases),
-            FileStatement::Start { phrases, .. } => self.file_phrases_rules(phrases),
-        }
-    }
-
-    /// A file statement, with those in its phrases.
-    #[cycle(statement)]
-    fn file_statement_rules(&self, one: &FileStatement<Statement>) -> Result<(), BrokenRule>
-        ensures { IsFirstBreach result (filing_rules (items_in self.now.declarations.now) (files_in
-            self.now.declarations.now) one.now ++ spec.file_phrases_rules (spec.statement_rules
-            (scope_in self.now.declarations.now) all_permitted) (phrases_of one.now)) }
-    {
-        self.filing_rules(one)?;
-        self.filed_rules(one)
     }
 
     /// WHENs, and the statements after them.
@@ -198,57 +154,26 @@ impl<'a> Checker<'a> {
         Ok(())
     }
 
-    /// EVALUATE: its subjects, its WHENs with their statements, and those of OTHER.
-    #[cycle(statement)]
-    fn evaluate_rules(&self, one: &Evaluate<Statement>) -> Result<(), BrokenRule>
-        ensures { IsFirstBreach result (spec.evaluate_rules (items_in self.now.declarations.now)
-            (spec.statement_rules (scope_in self.now.declarations.now) all_permitted) one.now) }
-    {
-        let subjects = one.subjects.as_slice();
-        self.subjects_rules(subjects)?;
-        self.selections_rules(subjects, one.selected.as_slice())?;
-        self.phrase_rules(&one.other)
-    }
-
-    fn sentence_rules(&self, one: &Sentence) -> Result<(), BrokenRule>
-        ensures { IsFirstBreach result
-            (spec.sentence_rules (scope_in self.now.declarations.now) all_permitted one.now) }
-    {
-        self.statements_rules(one.statements.as_slice())
-    }
-
+    /// The statements of sentences, in order.
     fn sentences_rules(&self, all: &[Sentence]) -> Result<(), BrokenRule>
         ensures { IsFirstBreach result (each
             (spec.sentence_rules (scope_in self.now.declarations.now) all_permitted) all.now) }
     {
         for one in all {
-            self.sentence_rules(one)?;
+            self.statements_rules(one.statements.as_slice())?;
         }
         Ok(())
     }
 
-    fn paragraph_rules(&self, one: &Paragraph) -> Result<(), BrokenRule>
-        ensures { IsFirstBreach result
-            (spec.paragraph_rules (scope_in self.now.declarations.now) all_permitted one.now) }
-    {
-        self.sentences_rules(one.sentences.as_slice())
-    }
-
+    /// The statements of paragraphs, in order.
     fn paragraphs_rules(&self, all: &[Paragraph]) -> Result<(), BrokenRule>
         ensures { IsFirstBreach result (each
             (spec.paragraph_rules (scope_in self.now.declarations.now) all_permitted) all.now) }
     {
         for one in all {
-            self.paragraph_rules(one)?;
+            self.sentences_rules(one.sentences.as_slice())?;
         }
         Ok(())
-    }
-
-    fn section_rules(&self, one: &Section) -> Result<(), BrokenRule>
-        ensures { IsFirstBreach result
-            (spec.section_rules (scope_in self.now.declarations.now) all_permitted one.now) }
-    {
-        self.paragraphs_rules(one.paragraphs.as_slice())
     }
 
     /// The statements of sections, in order.
@@ -257,7 +182,7 @@ impl<'a> Checker<'a> {
             (spec.sections_rules (scope_in self.now.declarations.now) all_permitted all.now) }
     {
         for one in all {
-            self.section_rules(one)?;
+            self.paragraphs_rules(one.paragraphs.as_slice())?;
         }
         Ok(())
     }

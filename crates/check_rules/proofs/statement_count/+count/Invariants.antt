@@ -13,31 +13,13 @@ abbrev pub invariant-after_selected-loop-one : goal.invariant-after_selected-loo
 invariant-after_selected-loop-one l =
     room_after l.fn.room (selected_places l.all) ≡ room_after l.so_far (selected_places (drop l.one-index l.all))
 
--- Each goes down by the depth of the statements in it; a phrase, and what stands around phrases, stand above the
--- statements that they have.
+-- Each goes down by the depth of the statements in it; the WHENs of an EVALUATE are above the statements that they
+-- have.
 abbrev pub decreases-after_statement : goal.decreases-after_statement
 decreases-after_statement l = 8 * goal.size-after_statement l
 
 abbrev pub decreases-after_statements : goal.decreases-after_statements
 decreases-after_statements l = 8 * goal.size-after_statements l + 1
 
-abbrev pub decreases-after_phrase : goal.decreases-after_phrase
-decreases-after_phrase l = 8 * goal.size-after_phrase l + 2
-
-abbrev pub decreases-after_performed : goal.decreases-after_performed
-decreases-after_performed l = 8 * goal.size-after_performed l + 2
-
 abbrev pub decreases-after_selected : goal.decreases-after_selected
 decreases-after_selected l = 8 * goal.size-after_selected l + 2
-
-abbrev pub decreases-after_phrases : goal.decreases-after_phrases
-decreases-after_phrases l = 8 * goal.size-after_phrases l + 3
-
-abbrev pub decreases-after_branching : goal.decreases-after_branching
-decreases-after_branching l = 8 * goal.size-after_branching l + 3
-
-abbrev pub decreases-after_file_phrases : goal.decreases-after_file_phrases
-decreases-after_file_phrases l = 8 * goal.size-after_file_phrases l + 4
-
-abbrev pub decreases-after_filing : goal.decreases-after_filing
-decreases-after_filing l = 8 * goal.size-after_filing l + 5

@@ -16,34 +16,16 @@ invariant-selections_rules-loop-one l =
     ≡ each (selected_rules (items_in l.self.declarations.now)
     (statement_rules (scope_in l.self.declarations.now) all_permitted) l.subjects) (drop l.one-index l.all)
 
--- Each goes down by the depth of the statements in it; a phrase and the WHENs of an EVALUATE stand above the statements
--- that they have.
+-- Each goes down by the depth of the statements in it; the WHENs of an EVALUATE are above the statements that they
+-- have.
 abbrev pub decreases-statement_rules : goal.decreases-statement_rules
 decreases-statement_rules l = 8 * goal.size-statement_rules l
 
 abbrev pub decreases-statements_rules : goal.decreases-statements_rules
 decreases-statements_rules l = 8 * goal.size-statements_rules l + 1
 
-abbrev pub decreases-phrase_rules : goal.decreases-phrase_rules
-decreases-phrase_rules l = 8 * goal.size-phrase_rules l + 2
-
-abbrev pub decreases-opposite_rules : goal.decreases-opposite_rules
-decreases-opposite_rules l = 8 * goal.size-opposite_rules l + 3
-
-abbrev pub decreases-file_phrases_rules : goal.decreases-file_phrases_rules
-decreases-file_phrases_rules l = 8 * goal.size-file_phrases_rules l + 4
-
-abbrev pub decreases-filed_rules : goal.decreases-filed_rules
-decreases-filed_rules l = 8 * goal.size-filed_rules l + 5
-
-abbrev pub decreases-file_statement_rules : goal.decreases-file_statement_rules
-decreases-file_statement_rules l = 8 * goal.size-file_statement_rules l + 6
-
 abbrev pub decreases-selected_rules : goal.decreases-selected_rules
 decreases-selected_rules l = 8 * goal.size-selected_rules l + 2
 
 abbrev pub decreases-selections_rules : goal.decreases-selections_rules
 decreases-selections_rules l = 8 * goal.size-selections_rules l + 3
-
-abbrev pub decreases-evaluate_rules : goal.decreases-evaluate_rules
-decreases-evaluate_rules l = 8 * goal.size-evaluate_rules l + 4

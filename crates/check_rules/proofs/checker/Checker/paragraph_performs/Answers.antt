@@ -3,7 +3,7 @@ use Rattle.source_tree.specs.declared.statement.Statement.{Statement}
 use Rattle.source_tree.specs.Recursion.{each_performs, statement_performs, sentence_performs}
 use Rattle.declarations.specs.Named.{procedures_in}
 use Rattle.check_rules.specs.Performs.{AppendsPerforms, in_paragraph}
-use Rattle.check_rules.proofs.Adding.{adds_next}
+use Rattle.check_rules.proofs.Adding.{adds_next, adds_all}
 use Rattle.check_rules.proofs.checker.Checker.paragraph_performs.Goals as goal
 
 pub loop-one-preserved : goal.loop-one-preserved
@@ -15,3 +15,8 @@ loop-one-preserved c =
     (subst (λ (l : List Statement). AppendsPerforms c.loop-one.all c.statements_performs.new.all
     (in_paragraph c.args.number (each_performs (statement_performs procedures) l)))
     c.as_slice.ensures c.in_ok-statements_performs.ensures)
+
+pub returns : goal.returns
+returns c =
+    adds_all (sentence_performs (procedures_in c.args.self.now.declarations.now)) c.args.number c.args.sentences.now
+    c.loop-one.one-index c.loop-one-test.false c.loop-one.invariant

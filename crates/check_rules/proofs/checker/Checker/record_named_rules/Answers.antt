@@ -12,7 +12,7 @@ use Rattle.check_rules.proofs.Parts.{shape_refused, shape_kept, record_kept}
 use Rattle.check_rules.proofs.checker.Checker.record_named_rules.Goals as goal
 
 pub returns-in_err-shape_rules : goal.returns-in_err-shape_rules
-returns-in_err-shape_rules c =
+returns-in_err-shape_rules g c =
     let p =
     err_from_is_err_and c.from_residual-in_err-shape_rules.result c.from_residual-in_err-shape_rules.ensures.1 in
     let items = items_in c.args.self.now.declarations.now in
@@ -23,7 +23,7 @@ returns-in_err-shape_rules c =
     (broken_of c.in_err-shape_rules.field-0.0) c.in_err-shape_rules.ensures)
 
 pub returns-in_err-no_part_rules : goal.returns-in_err-no_part_rules
-returns-in_err-no_part_rules c =
+returns-in_err-no_part_rules g c =
     let p = err_from_is_err_and c.from_residual-in_err-no_part_rules.result
     c.from_residual-in_err-no_part_rules.ensures.1 in
     let items = items_in c.args.self.now.declarations.now in
@@ -38,7 +38,7 @@ returns-in_err-no_part_rules c =
     c.in_err-no_part_rules.ensures))
 
 pub returns : goal.returns
-returns c =
+returns g c =
     let named = c.in_ok-number.ensures in
     record_kept (items_in c.args.self.now.declarations.now) (files_in c.args.self.now.declarations.now)
     c.args.phrases.now c.args.one.now named.0 c.in_ok-number.found.now c.record_item_rules.result named.1 named.2

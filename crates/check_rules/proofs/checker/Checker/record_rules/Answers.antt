@@ -10,7 +10,7 @@ use Rattle.declarations.proofs.Firsts.{first_front}
 use Rattle.check_rules.proofs.checker.Checker.record_rules.Goals as goal
 
 pub returns-in_err-record_named_rules : goal.returns-in_err-record_named_rules
-returns-in_err-record_named_rules c =
+returns-in_err-record_named_rules g c =
     let p = err_from_is_err_and c.from_residual.result c.from_residual.ensures.1 in
     let items = items_in c.args.self.now.declarations.now in
     let files = files_in c.args.self.now.declarations.now in

@@ -9,7 +9,7 @@ use Rattle.declarations.proofs.Firsts.{first_front, first_back}
 use Rattle.check_rules.proofs.checker.Checker.start_found_rules.Goals as goal
 
 pub returns-in_err-start_file_rules : goal.returns-in_err-start_file_rules
-returns-in_err-start_file_rules c =
+returns-in_err-start_file_rules g c =
     let p = err_from_is_err_and c.from_residual.result c.from_residual.ensures.1 in
     let items = items_in c.args.self.now.declarations.now in
     let files = files_in c.args.self.now.declarations.now in
@@ -21,7 +21,7 @@ returns-in_err-start_file_rules c =
     (first_front own keys broken c.in_err-start_file_rules.ensures))
 
 pub returns-in_err-start_key_rules : goal.returns-in_err-start_key_rules
-returns-in_err-start_key_rules c =
+returns-in_err-start_key_rules g c =
     let p = err_from_is_err_and c.from_residual-in_err-start_key_rules.result
     c.from_residual-in_err-start_key_rules.ensures.1 in
     let items = items_in c.args.self.now.declarations.now in
