@@ -2,16 +2,16 @@
 use Rattle.std.proofs.Common.{◌≡◌, ◌≢◌, ◌<◌, ◌≤◌, ◌+◌, ◌-◌, ◌^◌, ◌++◌, ℕ, zero, suc, List, [], ◌∷◌, length, take, drop}
 use Rattle.std.proofs.Common.{refl, sym, ap, subst, ◌∙◌, arith}
 use Rattle.std.specs.Prelude.{Option}
-use Rattle.std.proofs.lemmas.List.{length-drop}
+use Rattle.std.proofs.lemmas.List.{length-append, length-drop}
 use Rattle.byteorder.specs.Endian.{big_bytes, big_number}
 use Rattle.byteorder.specs.Numbers.{big_number-reads_back}
 use Rattle.station.specs.Disk.{Sector}
-use Rattle.btree.specs.Entries.{Entry}
+use Rattle.btree.specs.Entries.{Entry, HasLengths}
 use Rattle.chains.specs.Chain.{chain_bytes, pages_for, with_zeros}
 use Rattle.chains.specs.Rows.{HasChain, chain_of, chains_of, unrolled_entry}
 use Rattle.volume_format.specs.Chained.{form_of}
 use Rattle.btree_pages.specs.declared.row_layout.RowLayout.{RowLayout}
-use Rattle.row_trees.specs.RowTree.{whole_length, FitsForm}
+use Rattle.row_trees.specs.RowTree.{ChainedTree, HasWholeLengths, whole_length, value_length, FitsForm}
 
 -- the entry of a key and a value
 abbrev pub pair : List ℕ → List ℕ → Entry
@@ -127,3 +127,19 @@ pub rest_is : (two value rest : List ℕ) → take (length two - 4) (drop 4 two)
     → drop 4 value ≡ rest
 rest_is two value rest is same =
     ap (drop 4) (sym same) ∙ sym (take_all (length two - 4) (drop 4 two) (sym (length-drop 4 two))) ∙ is
+
+-- The lengths of a row with its whole record.
+pub lengths_short : (view self : ChainedTree) (row : Entry) → view ≡ self → view.record_bytes ≡ 0
+    → HasLengths view.tree.layout row → HasWholeLengths self row
+lengths_short view self row same short lengths = subst (λ (t : ChainedTree). HasWholeLengths t row) same
+    (lengths.0, lengths.1 ∙ sym (ap (λ (n : ℕ). whole_length n view.tree.layout.value_length) short))
+
+pub lengths_long : (view self : ChainedTree) (row : Entry) (bytes made : List ℕ) → view ≡ self
+    → view.record_bytes ≢ 0 → FitsForm view.record_bytes view.tree.layout → HasLengths view.tree.layout row
+    → length bytes ≡ view.record_bytes → made ≡ bytes ++ drop 4 row.value → HasWholeLengths self (pair row.key made)
+lengths_long view self row bytes made same long fits lengths many is =
+    let counted = ap (λ (l : List ℕ). length l) is ∙ length-append bytes (drop 4 row.value) in
+    let whole = whole_long view.record_bytes view.tree.layout.value_length long in
+    let rest = length-drop 4 row.value in
+    let value : length made ≡ value_length view = omega (arith, counted, whole, rest, many, lengths.1) in
+    subst (λ (t : ChainedTree). HasWholeLengths t (pair row.key made)) same (lengths.0, value)
