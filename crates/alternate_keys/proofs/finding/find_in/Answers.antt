@@ -10,8 +10,8 @@ use Rattle.records.specs.Stores.{spec_of}
 use Rattle.alternate_keys.specs.Listed.{IsListed}
 use Rattle.alternate_keys.proofs.Present.{absent, present_by}
 use Rattle.alternate_keys.specs.Faults.{IsReadFault}
-use Rattle.alternate_keys.proofs.Passing.{memory_is_read, never_ok, passed}
-use Rattle.alternate_keys.proofs.Faults.{never_spent, refused_by_call}
+use Rattle.alternate_keys.proofs.Passing.{if_refused, memory_is_read, never_ok, passed, reads_where}
+use Rattle.alternate_keys.proofs.Faults.{never_damaged, never_device, never_spent, refused_by_call}
 use Rattle.alternate_keys.proofs.finding.find_in.Goals as goal
 
 pub returns-in_err-entry-clause-damaged : goal.returns-in_err-entry-clause-damaged
@@ -81,3 +81,37 @@ returns-then-says-clause-spent g c = λ is. never_ok is
 
 pub returns-clause-spent : goal.returns-clause-spent
 returns-clause-spent g c = λ is. never_ok is
+
+-- The device was only read, and a listing or memory that is missing is no damage.
+pub returns-in_err-entry-clause-only : goal.returns-in_err-entry-clause-only
+returns-in_err-entry-clause-only g c = reads_where g.D.Device _ _ _ _
+    (refused_by_call c.in_err-entry.was c.from_residual.ensures.1) c.find_listing.ensures.only
+
+pub returns-in_err-spec-clause-only : goal.returns-in_err-spec-clause-only
+returns-in_err-spec-clause-only g c = reads_where g.D.Device _ _ _ _
+    (λ is. absurd (never_device c.spell_description.result c.spell_description.ensures.memory (refused_by_call
+    c.in_err-spec.was c.from_residual-in_err-spec.ensures.1 is))) c.find_listing.ensures.only
+
+pub returns-in-None-clause-only : goal.returns-in-None-clause-only
+returns-in-None-clause-only g c =
+    reads_where g.D.Device _ _ _ _ (λ is. never_ok is) c.find_listing.ensures.only
+
+pub returns-then-says-clause-only : goal.returns-then-says-clause-only
+returns-then-says-clause-only g c =
+    reads_where g.D.Device _ _ _ _ (λ is. never_ok is) c.find_listing.ensures.only
+
+pub returns-clause-only : goal.returns-clause-only
+returns-clause-only g c = reads_where g.D.Device _ _ _ _ (λ is. never_ok is) c.find_listing.ensures.only
+
+pub returns-in_err-spec-clause-damaged : goal.returns-in_err-spec-clause-damaged
+returns-in_err-spec-clause-damaged g c = λ honest agrees files holds is.
+    never_damaged c.spell_description.result c.spell_description.ensures.memory
+    (refused_by_call c.in_err-spec.was c.from_residual-in_err-spec.ensures.1 is)
+
+pub returns-in_err-entry-clause-presence : goal.returns-in_err-entry-clause-presence
+returns-in_err-entry-clause-presence g c =
+    λ honest agrees files holds. if_refused _ _ c.from_residual.ensures.1 _
+
+pub returns-in_err-spec-clause-presence : goal.returns-in_err-spec-clause-presence
+returns-in_err-spec-clause-presence g c =
+    λ honest agrees files holds. if_refused _ _ c.from_residual-in_err-spec.ensures.1 _

@@ -10,13 +10,15 @@ use Rattle.records.specs.Spec.{Spec}
 use Rattle.volume_format.specs.Catalog.{catalog_value}
 use Rattle.volume_format.specs.Forest.{TreeLevels}
 use Rattle.volume_format.specs.Volume.{listing_of}
-use Rattle.volume_format.proofs.Faults.{damaged_back}
+use Rattle.volume_format.proofs.Faults.{damaged_back, device_back}
+use Rattle.volume_format.proofs.Looks.{looks_blamed, looks_nowhere}
 use Rattle.alternate_keys.specs.Listed.{root_in}
 use Rattle.alternate_keys.specs.Placed.{HasTrees}
 use Rattle.alternate_keys.specs.Seen.{HasRows, row_tree_of}
-use Rattle.alternate_keys.proofs.Faults.{refused_by_call}
+use Rattle.alternate_keys.proofs.Faults.{never_damaged, never_device, never_spent, refused_by_call}
 use Rattle.alternate_keys.proofs.FileTrees.{good_spec}
 use Rattle.alternate_keys.proofs.Migrating.{rows_there, rows_counted}
+use Rattle.alternate_keys.proofs.Passing.{damaged_not_device, if_refused, reads_where, same_error}
 use Rattle.alternate_keys.proofs.ThereSeen.{rows_stand}
 use Rattle.alternate_keys.proofs.second_mark.counted_value.Given.{Over}
 use Rattle.alternate_keys.proofs.second_mark.counted_value.Goals as goal
@@ -73,3 +75,38 @@ returns-in-Err-clause-damaged g c = λ honest agrees spec named generation left 
     let told : c.to_fault.result ≡ Damaged = cc in
     let fault : c.in-Err.error ≡ pages.Damaged = damaged_back c.in-Err.error (sym c.to_fault.ensures ∙ told) in
     c.in-Err.ensures.damaged honest agrees (ap Err fault) there.planted.levels (rows_stand there)
+
+-- The device was only read.
+pub returns-in_err-rows-clause-looks : goal.returns-in_err-rows-clause-looks
+returns-in_err-rows-clause-looks g c = looks_blamed g.D.Device ⊥ _ _ _ _ _
+    (λ is. damaged_not_device (ap Err (sym c.in_err-rows.ensures.cause) ∙ sym c.in_err-rows.was
+    ∙ refused_by_call c.in_err-rows.was c.from_residual.ensures.1 is)) (looks_nowhere g.D.Device _ _)
+
+pub returns-in-Ok-clause-looks : goal.returns-in-Ok-clause-looks
+returns-in-Ok-clause-looks g c = record {
+  only = reads_where g.D.Device _ _ _ _
+      (λ is. absurd (never_device c.spell_value.result c.spell_value.ensures.memory is)) c.count.ensures.only;
+  unchanged = c.count.ensures.unchanged;
+  agrees = c.count.ensures.agrees;
+}
+
+pub returns-in-Err-clause-looks : goal.returns-in-Err-clause-looks
+returns-in-Err-clause-looks g c = record {
+  only = reads_where g.D.Device _ _ _ _
+      (λ is. c.in-Err.is ∙ ap Err (device_back c.in-Err.error (sym c.to_fault.ensures ∙ same_error is)))
+      c.count.ensures.only;
+  unchanged = c.count.ensures.unchanged;
+  agrees = c.count.ensures.agrees;
+}
+
+pub returns-in-Ok-clause-damaged : goal.returns-in-Ok-clause-damaged
+returns-in-Ok-clause-damaged g c = λ honest agrees spec named generation left right has is.
+    never_damaged c.spell_value.result c.spell_value.ensures.memory is
+
+pub returns-in-Ok-clause-spent : goal.returns-in-Ok-clause-spent
+returns-in-Ok-clause-spent g c =
+    λ is. absurd (never_spent c.spell_value.result c.spell_value.ensures.memory is)
+
+pub returns-in_err-rows-clause-value : goal.returns-in_err-rows-clause-value
+returns-in_err-rows-clause-value g c =
+    λ honest agrees spec named generation left right has. if_refused _ _ c.from_residual.ensures.1 _
