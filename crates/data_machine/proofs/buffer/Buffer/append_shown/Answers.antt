@@ -1,4 +1,5 @@
 use Rattle.std.proofs.Common.{List, ℕ, length, ap, arith}
+use Rattle.std.proofs.lemmas.Grind.{common_steps}
 use Rattle.std.proofs.lemmas.List.{length-take-le}
 use Rattle.data_machine.specs.Filled.{BufferView}
 use Rattle.data_machine.proofs.buffer.Buffer.append_shown.Goals as goal
@@ -10,3 +11,6 @@ put_shown-requires-clause-room c =
     let room = ap (λ (b : BufferView). b.room) c.self.view_is in
     let same = ap (λ (xs : List ℕ). length xs) c.as_mut_slice.ensures.value in
     omega (arith, front, bytes, room, same, c.requires.room)
+
+pub returns : goal.returns
+returns c = grind (arith, common_steps)

@@ -1,4 +1,5 @@
-use Rattle.std.proofs.Common.{ℕ, List, length, ap, ◌∙◌}
+use Rattle.std.proofs.Common.{ℕ, List, length, ap, ◌∙◌, arith}
+use Rattle.std.proofs.lemmas.Grind.{common_steps}
 use Rattle.source_tree.specs.Computed.{ArithmeticValue}
 use Rattle.data_instructions.specs.Tables.{item_place}
 use Rattle.data_instructions.proofs.Lengths.{padded_long}
@@ -21,3 +22,6 @@ returns-clause-does c =
     (c.bytes.ensures ∙ ap (λ (f : BufferView). f.bytes) c.fit.ensures) c.convert_item.ensures.stores
     (ap (λ (f : BufferView). f.bytes) c.clear.ensures)
     (ap (λ (h : StackView ArithmeticValue). h.newest_first) c.leave.ensures)
+
+pub returns-clause-keeps : goal.returns-clause-keeps
+returns-clause-keeps c = grind (arith, common_steps)

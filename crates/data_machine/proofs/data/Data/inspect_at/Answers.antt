@@ -1,4 +1,5 @@
 use Rattle.std.proofs.Common.{◌≡◌, ◌+◌, length, drop, ◌++◌, ◌∙◌, ap, arith}
+use Rattle.std.proofs.lemmas.Grind.{common_steps}
 use Rattle.std.specs.Prelude.{reverse}
 use Rattle.source_tree.specs.Computed.{ArithmeticValue}
 use Rattle.data_instructions.specs.declared.place.Place.{Place}
@@ -66,3 +67,9 @@ returns-clause-does c =
     c.bytes-text.ensures c.inspect.ensures.text c.add_and_store-done.ensures.adds
     (ap (λ (f : BufferView). f.bytes) c.clear.ensures) (places_left (goal.at.returns-clause-does c).After-leave-2)
     (ap (λ (h : StackView ArithmeticValue). h.newest_first) c.leave.ensures)
+
+pub returns-clause-keeps : goal.returns-clause-keeps
+returns-clause-keeps c = grind (arith, common_steps)
+
+pub inspect-requires-clause-size : goal.inspect-requires-clause-size
+inspect-requires-clause-size c = grind (arith, common_steps)

@@ -4,7 +4,23 @@ use Rattle.data_instructions.specs.declared.tables.DataItem.{DataItem}
 use Rattle.data_instructions.specs.Tables.{shortened_item}
 use Rattle.data_machine.specs.Data.{scratch_of}
 use Rattle.data_machine.proofs.Strings.{strung_as}
+use Rattle.data_machine.proofs.Newest.{item_within, next_finds}
 use Rattle.data_machine.proofs.data.Data.string_from_pointer.Goals as goal
+
+pub item_of-to-requires : goal.item_of-to-requires
+item_of-to-requires c =
+    item_within c.args.tables.now c.args.self.now.areas c.args.self.now.places.newest_first c.requires.pointer
+    c.pop-pointer.result c.pop-pointer.new.self.newest_first c.pop-pointer.ensures.newest
+
+pub item_of-one-requires : goal.item_of-one-requires
+item_of-one-requires c =
+    let tables = c.args.tables.now in
+    let areas = c.args.self.now.areas in
+    let rest = c.pop-pointer.new.self.newest_first in
+    item_within tables areas rest
+    (next_finds tables areas c.args.self.now.places.newest_first c.pop-pointer.result rest c.pop-pointer.ensures.newest
+    c.requires.receiver)
+    c.pop-place.result c.pop-place.new.self.newest_first c.pop-place.ensures.newest
 
 pub returns-clause-does : goal.returns-clause-does
 returns-clause-does c =

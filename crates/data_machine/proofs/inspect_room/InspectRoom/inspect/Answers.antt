@@ -1,4 +1,5 @@
 use Rattle.std.proofs.Common.{◌≡◌, ℕ, List, length, map, sym, ap, subst, ◌∙◌, arith}
+use Rattle.std.proofs.lemmas.Grind.{common_steps}
 use Rattle.std.specs.Prelude.{reverse, slice_index}
 use Rattle.std.proofs.lemmas.List.{length-map, with_items_is}
 use Rattle.text_ops.specs.declared.entry.Entry.{Entry}
@@ -36,3 +37,12 @@ returns-clause-counts c = λ k h.
     (c.count_each.auto.counts ∙ c.as_mut_slice-2.ensures.len))
     ∙ c.count_each.ensures k (omega (arith, long, h))
     ∙ ap (λ (xs : List Entry). tally c.args.texts.now xs c.args.subject.now k) entries_are
+
+pub returns-clause-room : goal.returns-clause-room
+returns-clause-room c = grind (arith, common_steps)
+
+pub replace-requires-clause-progress : goal.replace-requires-clause-progress
+replace-requires-clause-progress c = grind (arith, common_steps)
+
+pub measured-replacing-requires-clause-value : goal.measured-replacing-requires-clause-value
+measured-replacing-requires-clause-value c = grind (arith, common_steps)
