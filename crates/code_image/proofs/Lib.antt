@@ -2,6 +2,7 @@
 pub mod Forms
 pub mod Images
 mod InstructionKinds
+mod Shapes
 pub mod Soundness
 pub mod Completeness
 -- The machine's table: what stands where, what is known there, one end of a run, and that there is one

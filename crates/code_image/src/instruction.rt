@@ -1,13 +1,13 @@
 //! The machine's instructions.
 
-ghost use Rattle.std.specs.Prelude.{◌≡◌, ◌↔◌, ◌++◌, ◌∷◌, [], IsTrue, OnOk};
+ghost use Rattle.std.specs.Prelude.{◌≡◌, ◌==◌, ◌↔◌, ◌++◌, ◌∷◌, [], IsTrue, OnOk, if◌then◌else◌};
 ghost use Rattle.answers.specs.Answer.{Gives};
 ghost use Rattle.data_image.specs.Faults.{fault_of};
 ghost use Rattle.data_image.specs.Spelling.{count_bytes, short_bytes, IsByte, IsCount, FitsFourBytes};
 ghost use Rattle.code_image.specs.Demands.{NamesData, NamesCounter, NamesParagraph, NamesFile};
 ghost use Rattle.file_image.specs.Spelling.{class_byte, verb_bytes, IsVerbSpelled};
 ghost use Rattle.code_image.specs.Spelling.{instruction_bytes, needs_second, HasNumbers};
-ghost use Rattle.code_image.specs.Reading.{tick_at, count_instruction_at, turn_at, branch_at, jump_at, perform_at, back_at, count_number_at, file_instruction_at, test_status_at, instruction_at};
+ghost use Rattle.code_image.specs.Reading.{tick_at, perform_at, file_instruction_at, test_status_at, instruction_at};
 
 use crate::counter::CounterIndex;
 use crate::paragraph::ParagraphIndex;
@@ -297,39 +297,6 @@ fn read_tick(bytes: &[u8]) -> Result<(Instruction, &[u8]), ImageError>
     Ok((Instruction::Tick { line }, rest))
 }
 
-fn read_count_instruction(bytes: &[u8]) -> Result<(Instruction, &[u8]), ImageError>
-    ensures { Gives (λ x. (x.0, x.1.now)) fault_of result (count_instruction_at bytes.now) }
-{
-    let (number, rest) = read_count(bytes)?;
-    let (turns, rest) = read_count(rest)?;
-    let counter = CounterIndex { number };
-    let turns = turns as u64;
-    Ok((Instruction::Count { counter, turns }, rest))
-}
-
-fn read_turn(bytes: &[u8]) -> Result<(Instruction, &[u8]), ImageError>
-    ensures { Gives (λ x. (x.0, x.1.now)) fault_of result (turn_at bytes.now) }
-{
-    let (number, rest) = read_count(bytes)?;
-    let (to, rest) = read_count(rest)?;
-    let counter = CounterIndex { number };
-    Ok((Instruction::Turn { counter, to }, rest))
-}
-
-fn read_branch(bytes: &[u8]) -> Result<(Instruction, &[u8]), ImageError>
-    ensures { Gives (λ x. (x.0, x.1.now)) fault_of result (branch_at bytes.now) }
-{
-    let (to, rest) = read_count(bytes)?;
-    Ok((Instruction::Branch { to }, rest))
-}
-
-fn read_jump(bytes: &[u8]) -> Result<(Instruction, &[u8]), ImageError>
-    ensures { Gives (λ x. (x.0, x.1.now)) fault_of result (jump_at bytes.now) }
-{
-    let (to, rest) = read_count(bytes)?;
-    Ok((Instruction::Jump { to }, rest))
-}
-
 fn read_perform(bytes: &[u8]) -> Result<(Instruction, &[u8]), ImageError>
     ensures { Gives (λ x. (x.0, x.1.now)) fault_of result (perform_at bytes.now) }
 {
@@ -339,22 +306,6 @@ fn read_perform(bytes: &[u8]) -> Result<(Instruction, &[u8]), ImageError>
     let first = ParagraphIndex { number: first };
     let last = ParagraphIndex { number: last };
     Ok((Instruction::Perform { line, first, last }, rest))
-}
-
-fn read_back(bytes: &[u8]) -> Result<(Instruction, &[u8]), ImageError>
-    ensures { Gives (λ x. (x.0, x.1.now)) fault_of result (back_at bytes.now) }
-{
-    let (number, rest) = read_count(bytes)?;
-    let paragraph = ParagraphIndex { number };
-    Ok((Instruction::Back { paragraph }, rest))
-}
-
-fn read_count_number(bytes: &[u8]) -> Result<(Instruction, &[u8]), ImageError>
-    ensures { Gives (λ x. (x.0, x.1.now)) fault_of result (count_number_at bytes.now) }
-{
-    let (number, rest) = read_count(bytes)?;
-    let counter = CounterIndex { number };
-    Ok((Instruction::CountNumber { counter }, rest))
 }
 
 fn read_file(bytes: &[u8]) -> Result<(Instruction, &[u8]), ImageError>
@@ -371,6 +322,82 @@ fn read_test_status(bytes: &[u8]) -> Result<(Instruction, &[u8]), ImageError>
 {
     let (class, rest) = read_class(bytes)?;
     Ok((Instruction::TestStatus { class }, rest))
+}
+
+/// The instruction with a counter and a number whose first byte this is: `turn` where it is not the other one.
+fn counting_instruction(byte: u8, counter: CounterIndex, number: usize) -> Instruction
+    ensures { result ≡ if byte == 4 then Instruction.Count counter number
+        else Instruction.Turn counter number }
+{
+    if byte == COUNT {
+        Instruction::Count {
+            counter,
+            turns: number as u64,
+        }
+    } else {
+        Instruction::Turn {
+            counter,
+            to: number,
+        }
+    }
+}
+
+/// The instruction with an address, a code paragraph or a counter whose first byte this is: `count number` where it is no other.
+fn leading_instruction(byte: u8, number: usize) -> Instruction
+    ensures { result ≡ if byte == 8 then Instruction.Branch number
+        else if byte == 9 then Instruction.Jump number
+        else if byte == 12 then Instruction.Back (record { number = number })
+        else Instruction.CountNumber (record { number = number }) }
+{
+    match byte {
+        BRANCH => Instruction::Branch { to: number },
+        JUMP => Instruction::Jump { to: number },
+        BACK => Instruction::Back {
+            paragraph: ParagraphIndex { number },
+        },
+        _ => Instruction::CountNumber {
+            counter: CounterIndex { number },
+        },
+    }
+}
+
+/// The instruction whose first byte this is, with the bytes after it, and those from it on.
+#[tactic(auto, unfolding(crate::specs::Reading::instruction_at))]
+fn read_from<'a>(
+    alloc: Global,
+    byte: u8,
+    rest: &'a [u8],
+    bytes: &'a [u8],
+) -> Result<(Instruction, &'a [u8]), ImageError>
+    requires { bytes.now ≡ byte ∷ rest.now }
+    ensures { Gives (λ x. (x.0, x.1.now)) fault_of result (instruction_at (byte ∷ rest.now)) }
+{
+    match byte {
+        TICK => read_tick(rest),
+        SHOW => Ok((Instruction::Show, rest)),
+        STOP => Ok((Instruction::Stop, rest)),
+        COUNT | TURN => {
+            let (number, rest) = read_count(rest)?;
+            let counter = CounterIndex { number };
+            let (number, rest) = read_count(rest)?;
+            Ok((counting_instruction(byte, counter, number), rest))
+        }
+        ACCEPT => Ok((Instruction::Accept, rest)),
+        DATE => Ok((Instruction::Date, rest)),
+        BRANCH | JUMP | BACK | COUNT_NUMBER => {
+            let (number, rest) = read_count(rest)?;
+            Ok((leading_instruction(byte, number), rest))
+        }
+        JOIN => Ok((Instruction::Join, rest)),
+        PERFORM => read_perform(rest),
+        FILE => read_file(rest),
+        TEST_STATUS => read_test_status(rest),
+        UNHEARD => Ok((Instruction::Unheard, rest)),
+        _ => {
+            let (one, rest) = DataInstruction::read(alloc, bytes)?;
+            Ok((Instruction::Data(one), rest))
+        }
+    }
 }
 
 impl TableEntry for Instruction {
@@ -408,26 +435,7 @@ impl TableEntry for Instruction {
     fn read(alloc: Global, bytes: &[u8]) -> Result<(Instruction, &[u8]), ImageError> {
         match bytes {
             [] => Err(ImageError::Refused(ImageFault::Length)),
-            [TICK, rest @ ..] => read_tick(rest),
-            [SHOW, rest @ ..] => Ok((Instruction::Show, rest)),
-            [STOP, rest @ ..] => Ok((Instruction::Stop, rest)),
-            [COUNT, rest @ ..] => read_count_instruction(rest),
-            [TURN, rest @ ..] => read_turn(rest),
-            [ACCEPT, rest @ ..] => Ok((Instruction::Accept, rest)),
-            [DATE, rest @ ..] => Ok((Instruction::Date, rest)),
-            [BRANCH, rest @ ..] => read_branch(rest),
-            [JUMP, rest @ ..] => read_jump(rest),
-            [JOIN, rest @ ..] => Ok((Instruction::Join, rest)),
-            [PERFORM, rest @ ..] => read_perform(rest),
-            [BACK, rest @ ..] => read_back(rest),
-            [COUNT_NUMBER, rest @ ..] => read_count_number(rest),
-            [FILE, rest @ ..] => read_file(rest),
-            [TEST_STATUS, rest @ ..] => read_test_status(rest),
-            [UNHEARD, rest @ ..] => Ok((Instruction::Unheard, rest)),
-            [_, ..] => {
-                let (one, rest) = DataInstruction::read(alloc, bytes)?;
-                Ok((Instruction::Data(one), rest))
-            }
+            [byte, rest @ ..] => read_from(alloc, *byte, rest, bytes),
         }
     }
 }

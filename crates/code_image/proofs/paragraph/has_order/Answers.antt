@@ -1,4 +1,5 @@
-use Rattle.std.proofs.Common.{◌≡◌, All, ap, length, subst, ◌∙◌}
+use Rattle.std.proofs.Common.{◌≡◌, All, ap, length, subst, ◌∙◌, arith}
+use Rattle.std.proofs.lemmas.Grind.{common_steps}
 use Rattle.perform_graph.specs.Order.{IsRange, IsOrder}
 use Rattle.code_image.specs.Demands.{performed_by_code}
 use Rattle.code_image.proofs.Exclusion.{order_is}
@@ -19,3 +20,6 @@ returns c =
     let same = order_is code found (subst (λ m. All (IsRange m) all) count ranges)
     (subst (λ m. IsOrder m all found) count order) in
     (λ e. same.0 (c.has_ranks.ensures.0 e), λ has. c.has_ranks.ensures.1 (same.1 has))
+
+pub returns-then-not-are_ranges : goal.returns-then-not-are_ranges
+returns-then-not-are_ranges c = grind (arith, common_steps)

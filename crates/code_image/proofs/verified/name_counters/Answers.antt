@@ -1,4 +1,5 @@
 use Rattle.std.proofs.Common.{All, subst, refl, arith}
+use Rattle.std.proofs.lemmas.Grind.{common_steps}
 use Rattle.std.proofs.lemmas.List.{take_all}
 use Rattle.std.proofs.lemmas.List.Elements.{All-more}
 use Rattle.code_image.specs.Demands.{NamesCounter}
@@ -15,3 +16,6 @@ returns c = (
       (omega arith)) c.loop-instruction.invariant,
   λ _. refl,
 )
+
+pub returns-then-not-names_counter : goal.returns-then-not-names_counter
+returns-then-not-names_counter c = grind (arith, common_steps)

@@ -1,4 +1,5 @@
 use Rattle.std.proofs.Common.{All, subst, refl, arith}
+use Rattle.std.proofs.lemmas.Grind.{common_steps}
 use Rattle.std.proofs.lemmas.List.{take_all}
 use Rattle.std.proofs.lemmas.List.Elements.{All-more}
 use Rattle.file_image.specs.Files.{NamesPlaces}
@@ -16,3 +17,6 @@ returns c = (
       c.loop-file.invariant,
   λ _. refl,
 )
+
+pub returns-then-not-names_places : goal.returns-then-not-names_places
+returns-then-not-names_places c = grind (arith, common_steps)

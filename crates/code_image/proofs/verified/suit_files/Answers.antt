@@ -1,4 +1,5 @@
 use Rattle.std.proofs.Common.{All, subst, refl, arith}
+use Rattle.std.proofs.lemmas.Grind.{common_steps}
 use Rattle.std.proofs.lemmas.List.{take_all}
 use Rattle.std.proofs.lemmas.List.Elements.{All-more}
 use Rattle.file_image.specs.Files.{entries_of}
@@ -19,3 +20,6 @@ returns c =
           (omega arith)) c.loop-instruction.invariant,
       λ _. refl,
     )
+
+pub returns-then-not-suits_file : goal.returns-then-not-suits_file
+returns-then-not-suits_file c = grind (arith, common_steps)
