@@ -5,6 +5,7 @@ use Rattle.std.proofs.Common.{sym, ap, subst, ⊎_elim, arith, true, true≢fals
 use Rattle.std.proofs.Common.{get_or-drop, take-append-drop}
 use Rattle.std.specs.Prelude.{Result, Ok, Err, OnOk, OnErr}
 use Rattle.std.proofs.lemmas.Bool.{cases_lt}
+use Rattle.std.proofs.lemmas.List.{take_all}
 use Rattle.std.proofs.lemmas.List.Elements.{Contains-push_cases, recursion_from_All}
 use Rattle.station.specs.Disk.{Disk, Sector, sector_at, IsCrashImage}
 use Rattle.station.specs.State.{State, state_after_sync, MayHaveWritten, Nothing, Kept, Wrote}
@@ -37,6 +38,21 @@ hidden_now first history state hidden ends =
     = ap (λ (l : List State). get_or l (length ends.earlier) state) ends.is ∙ at_end ends.earlier state state in
     subst (λ (s : State). HidesRoot s.disk) here
     (hidden.2 (length ends.earlier) state (omega (arith, hidden.1, count)) (omega (arith, count)))
+
+-- it is so from now on
+pub hidden_from : (first history : List State) (state : State) → first ≡ history → EndsIn history state
+    → HidesRoot state.disk → IsHiddenSince first history
+hidden_from first history state same ends here =
+    let count : length history ≡ length ends.earlier + 1 =
+    ap length ends.is ∙ length-append ends.earlier (state ∷ []) in
+    subst (λ (f : List State). IsHiddenSince f history) (sym same) (
+      take_all (length history) history (omega arith),
+      omega arith,
+      λ n d from lt. subst (λ (k : ℕ). HidesRoot (get_or history k d).disk)
+          (sym (let at : n ≡ length ends.earlier = omega (arith, from, lt, count) in at))
+          (subst (λ (l : List State). HidesRoot (get_or l (length ends.earlier) d).disk) (sym ends.is)
+          (subst (λ (s : State). HidesRoot s.disk) (sym (at_end ends.earlier state d)) here)),
+    )
 
 hidden_then : (first history : List State) (state : State) → IsHiddenSince first history → HidesRoot state.disk
     → IsHiddenSince first (history ++ state ∷ [])

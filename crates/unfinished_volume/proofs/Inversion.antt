@@ -1,9 +1,13 @@
 -- What calls do to a device whose sector 0 is inverted.
-use Rattle.std.proofs.Common.{◌≡◌, ℕ, zero, suc, List, [], ◌∷◌, ◌++◌, map, set, refl, ◌∙◌, ap, ap₂}
+use Rattle.std.proofs.Common.{◌≡◌, ◌+◌, ◌≤◌, ◌-◌, ◌^◌, ℕ, zero, suc, Bool, true, false, List, [], ◌∷◌, ◌++◌, map, set}
+use Rattle.std.proofs.Common.{refl}
+use Rattle.std.proofs.Common.{◌∙◌, ap, ap₂, inl, inr, ⊎_elim, arith}
 use Rattle.std.proofs.Common.{◌≢◌}
 use Rattle.std.specs.Prelude.{Result, Ok, Err, OnOk}
 use Rattle.std.proofs.lemmas.List.{map-append}
 use Rattle.station.specs.Disk.{Sector}
+use Rattle.station.specs.Failures.{Blames}
+use Rattle.unfinished_volume.specs.Refusals.{refusals}
 use Rattle.station.specs.State.{State, wrote, state_after_failed_write, MayHaveWritten, Nothing, Kept, Wrote}
 use Rattle.station.specs.History.{Moves, Stays, Goes}
 use Rattle.unfinished_volume.specs.Inverted.{inverted_sector, stored_for, inverted_image, inverted_write}
@@ -64,3 +68,23 @@ on_ok (Err e) from here = tt
 pub stored_other : (i : ℕ) (bytes : Sector) → i ≢ 0 → stored_for i bytes ≡ bytes
 stored_other zero bytes ne = absurd (ne refl)
 stored_other (suc i) bytes ne = refl
+
+-- failures that are counted with the refused writes
+pub with_refusals : (A : Type 0) (old new : ℕ) (refused : Bool) → Blames A old new
+    → Blames A (old + refusals refused) (new + refusals refused)
+with_refusals A old new refused blames = record {
+  no_fewer = let fewer = blames.no_fewer in omega (arith, fewer);
+  failed =
+      λ blamed. ⊎_elim (λ rose. inl (omega (arith, rose))) (λ most. inr (omega (arith, most))) (blames.failed blamed);
+}
+
+few_refusals : (refused : Bool) → refusals refused ≤ 2 ^ 64 - 1
+few_refusals true = omega arith
+few_refusals false = omega arith
+
+pub once_refused : (A : Type 0) (count : ℕ) (refused : Bool)
+    → Blames A (count + refusals refused) (count + refusals true)
+once_refused A count refused = record {
+  no_fewer = let few = few_refusals refused in omega (arith, few);
+  failed = λ blamed. inr (omega arith);
+}
