@@ -8,7 +8,8 @@ use crate::moments::{first_lines, line_after};
 use crate::row::{DAY, Part, Row};
 use crate::told::{ONE_LINE, files_left, noted};
 use crate::volume::{Layout, Volume, first_volume};
-use run_unit::{Ended, Refusal, compile, run_image};
+use compiler::compile;
+use run_unit::{Ended, Refusal, run_image};
 use station::MemoryStation;
 use std::alloc::{AllocError, Global};
 

@@ -1,6 +1,7 @@
 //! How a run ends, in the words of a row.
 
-use run_unit::{CompileError, CompileFault, Ended};
+use compiler::{CompileError, CompileFault};
+use run_unit::Ended;
 use std::alloc::{AllocError, Global};
 
 /// What came of a source text.

@@ -6,8 +6,9 @@ use crate::row::{DAY, Part, Row};
 use crate::volume::Layout;
 use alternate_keys::PagedStore;
 use code_image::{Verified, from_bytes, verify};
+use compiler::compile;
 use records::StoreFault;
-use run_unit::{Ended, Refusal, compile, run_image, run_over, run_source};
+use run_unit::{Ended, Refusal, run_image, run_over, run_source};
 use station::MemoryStation;
 use std::alloc::Global;
 

@@ -2,12 +2,12 @@
 use Rattle.std.specs.Prelude.{ℕ}
 use Rattle.data_instructions.specs.Faults as program
 use Rattle.run_unit.specs.Ends as run
-use Rattle.run_unit.specs.Faults as source
+use Rattle.compiler.specs.Faults as source
 use Rattle.run_unit.specs.declared.ended.Ended.{Ended}
 use Rattle.run_unit.specs.declared.ended.Ended.TheVariants as ended
 use Rattle.run_unit.specs.declared.ended.Refusal.TheVariants as refusal
-use Rattle.run_unit.specs.declared.fault.CompileError.{CompileError}
-use Rattle.run_unit.specs.declared.fault.CompileError.TheVariants as compiling
+use Rattle.compiler.specs.declared.fault.CompileError.{CompileError}
+use Rattle.compiler.specs.declared.fault.CompileError.TheVariants as compiling
 use Rattle.cobol.specs.declared.verdict.Verdict.{Verdict}
 use Rattle.cobol.specs.declared.verdict.Verdict.TheVariants.{Done, SourceFault, Reported, WrongCommand, NotText, Refused, Budget, ProgramFault}
 

@@ -1,8 +1,8 @@
 //! `compile SOURCE IMAGE`.
 
 use crate::verdict::Verdict;
+use compiler::compile;
 use host::{read_source, write_image};
-use run_unit::compile;
 use std::rt::Files;
 
 /// Compiles the source at one path and writes its image to the other. The image is complete before its file is opened, so a

@@ -5,7 +5,8 @@ ghost use Rattle.std.specs.IoError.{error_kind};
 ghost use Rattle.volume_commands.specs.Faults.{number_of};
 ghost use Rattle.cobol.specs.Status.{status_of, verdict_after, verdict_refusing};
 
-use run_unit::{CompileError, Ended, Refusal};
+use compiler::CompileError;
+use run_unit::{Ended, Refusal};
 use station::DeviceError;
 use std::io::ErrorKind;
 use std::{fmt, io};

@@ -1,39 +1,19 @@
--- Images and their one code.
-use Rattle.std.proofs.Common.{◌≡◌, ◌∙◌, ℕ, List, [], ◌∷◌, length, Vec, Result, Ok, Err, refl, subst, ap, arith, inl}
-use Rattle.std.proofs.Common.{inr}
-use Rattle.std.specs.Prelude.{IfOk, OnOk}
-use Rattle.std.specs.declared.alloc.AllocError.{AllocError}
-use Rattle.std.specs.declared.alloc.Global.{Global}
-use Rattle.source_tree.specs.declared.program.Program.{Program}
-use Rattle.source_tree.specs.Given.{RunInput}
-use Rattle.source_tree.specs.Meaning.{meaning}
+-- An image is never refused, and bytes are never refused for damage.
+use Rattle.std.proofs.Common.{◌≡◌, ℕ, List, [], ◌∷◌, length, Result, Ok, Err, refl, subst, ap, arith, inl, inr}
+use Rattle.code_image.specs.declared.code.Code.{Code}
 use Rattle.code_image.specs.Demands.{IsVerified, RefusesCode}
+use Rattle.code_image.specs.Reading.{code_at}
 use Rattle.data_image.specs.declared.fault.ImageFault.{ImageFault}
 use Rattle.data_image.specs.declared.fault.ImageFault.TheVariants as in_image
+use Rattle.compiler.specs.Images.{IsImageOf}
+use Rattle.compiler.proofs.Images.{OneSpelling, read_again}
+use Rattle.compiler.proofs.Results.{value}
 use Rattle.run_unit.specs.Ends.{ForImage, IsCauseOf, IsEndOfImage}
-use Rattle.run_unit.specs.declared.ended.Refusal.{Refusal}
-use Rattle.run_unit.specs.declared.ended.Refusal.TheVariants.{Image, Device, Full, Damaged, Memory, Old}
+use Rattle.run_unit.specs.Images.{IsImage, RefusesImage}
 use Rattle.run_unit.specs.declared.ended.Ended.{Ended}
 use Rattle.run_unit.specs.declared.ended.Ended.TheVariants.{Stopped, Budget, Faulted, Refused}
-use Rattle.file_image.specs.Files.{entries_of}
-use Rattle.code_image.specs.declared.code.Code.{Code}
-use Rattle.code_image.specs.Spelling.{code_bytes, HasSpelling}
-use Rattle.code_image.specs.Reading.{code_at}
-use Rattle.code_image.specs.Table.{Runs}
-use Rattle.run_unit.specs.Images.{IsImageOf, IsImage, RefusesImage, MeansAs, entries_of_tree}
-use Rattle.run_unit.proofs.Results.{value}
-
--- what `spelling_law` says
-abbrev pub OneSpelling : Type 0
-OneSpelling = (code : Code) → HasSpelling code → code_at (code_bytes code) ≡ Ok code
-
-pub read_again : OneSpelling → (image : List ℕ) (code : Code) → IsImageOf image code → code_at image ≡ Ok code
-read_again spelt image code is = ap code_at is.bytes ∙ spelt code is.spelt
-
--- an image is of one code
-pub one_code : OneSpelling → (image : List ℕ) (code other : Code) → IsImageOf image code → IsImageOf image other
-    → code ≡ other
-one_code spelt image code other a b = value (read_again spelt image code a) (read_again spelt image other b)
+use Rattle.run_unit.specs.declared.ended.Refusal.{Refusal}
+use Rattle.run_unit.specs.declared.ended.Refusal.TheVariants.{Image, Device, Full, Damaged, Memory, Old}
 
 -- verified code breaks no demand
 keeps_demands : (code : Code) (fault : ImageFault) → IsVerified code → RefusesCode code fault → ⊥
@@ -67,23 +47,6 @@ end_of_image spelt image (Refused Full) is for = tt
 end_of_image spelt image (Refused Damaged) is for = tt
 end_of_image spelt image (Refused Memory) is for = tt
 end_of_image spelt image (Refused Old) is for = tt
-
--- what is written of a tree's code is an image that means the same
-pub made : (tree : Program) (code : Code) (written : Result (Vec ℕ Global) AllocError)
-    → ((given : RunInput) → Runs code given (meaning tree given))
-    → length code.files ≡ length tree.selects → entries_of code.tables code.files ≡ entries_of_tree tree
-    → IsVerified code
-    → IfOk written (λ bytes. bytes.items ≡ code_bytes code) → OnOk written (HasSpelling code)
-    → IfOk written (λ image. MeansAs tree image.items)
-made tree code (Ok image) ends files entries verified bytes spelt =
-    record {
-      code = code;
-      is = record { bytes = bytes; spelt = spelt; verified = verified };
-      files = files;
-      entries = entries;
-      runs = ends;
-    }
-made tree code (Err e) ends files entries verified bytes spelt = tt
 
 -- of two lists of one length both are empty, or none
 pub none_too : {A B : Type 0} (xs : List A) (ys : List B) → length xs ≡ length ys → ys ≡ [] → xs ≡ []

@@ -1,8 +1,4 @@
--- What a result holds
-pub mod Results
--- From a source text to its tree
-pub mod Stages
--- From an image to its code
+-- An image is never refused
 pub mod Images
 -- Moments and ends of a run
 pub mod Moments
@@ -10,7 +6,5 @@ pub mod Moments
 pub mod Connecting
 -- A volume that is opened
 pub mod Opening
--- At most one tree, and at most one run
-pub mod Uniqueness
 -- What a call promises of a run, of an image and of a source text
 pub mod Runs

@@ -10,8 +10,8 @@ use Rattle.code_image.specs.declared.code.Code.{Code}
 use Rattle.file_image.specs.Files.{entries_of}
 use Rattle.code_image.specs.Table.{Runs}
 use Rattle.machine.specs.Ends.{LacksForChange}
-use Rattle.run_unit.specs.Trees.{IsTreeOf}
-use Rattle.run_unit.specs.Images.{MeansAs, IsCompiled}
+use Rattle.compiler.specs.Trees.{IsTreeOf}
+use Rattle.compiler.specs.Images.{MeansAs, IsCompiled}
 use Rattle.run_unit.specs.Alone.{RunsAlone}
 use Rattle.run_unit.specs.Ends.{ForImage, IsEndOfImage}
 use Rattle.run_unit.specs.Volume.{RunsOnVolume, RunsOnHalves, IsOfHalves, lacks_either}
@@ -19,7 +19,8 @@ use Rattle.run_unit.specs.Runs.{Call, given_alone, given_files, RunsAsMeant, Ima
 use Rattle.run_unit.specs.declared.ended.Refusal.TheVariants.{Damaged}
 use Rattle.run_unit.specs.declared.ended.Ended.{Ended}
 use Rattle.run_unit.specs.declared.ended.Ended.TheVariants.{Refused}
-use Rattle.run_unit.proofs.Images.{OneSpelling, end_of_image}
+use Rattle.compiler.proofs.Images.{OneSpelling}
+use Rattle.run_unit.proofs.Images.{end_of_image}
 
 -- ---- the code of an image that was loaded
 

@@ -14,7 +14,7 @@ use Rattle.code_image.specs.declared.code.Code.{Code}
 use Rattle.code_image.specs.declared.verified.Verified.{Verified}
 use Rattle.machine.specs.Ends as run
 use Rattle.run_unit.specs.Images.{IsImage, RefusesImage}
-use Rattle.run_unit.specs.declared.fault.CompileError.{CompileError}
+use Rattle.compiler.specs.declared.fault.CompileError.{CompileError}
 use Rattle.run_unit.specs.declared.ended.Refusal.{Refusal}
 use Rattle.run_unit.specs.declared.ended.Refusal.TheVariants.{Image, Device, Full, Damaged, Memory, Old}
 use Rattle.run_unit.specs.declared.ended.Ended.{Ended}

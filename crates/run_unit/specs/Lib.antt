@@ -1,12 +1,9 @@
-pub mod Faults
-pub mod Trees
-pub mod Stages
 pub mod Images
 pub mod Ends
 pub mod Course
 pub mod Alone
 pub mod Volume
 pub mod Runs
-pub use Rattle.answers.specs.Answer
 pub use Rattle.source_tree.specs.Meaning
+pub use Rattle.compiler.specs.Trees
 pub use Rattle.machine.specs.Prefix

@@ -14,11 +14,11 @@ use Rattle.code_image.specs.declared.code.Code.{Code}
 use Rattle.file_image.specs.Files.{entries_of}
 use Rattle.code_image.specs.Table.{Runs}
 use Rattle.machine.specs.Ends.{LacksForChange}
-use Rattle.run_unit.specs.Trees.{IsTreeOf}
-use Rattle.run_unit.specs.Images.{IsImageOf, entries_of_tree}
+use Rattle.compiler.specs.Trees.{IsTreeOf}
+use Rattle.compiler.specs.Images.{IsImageOf, entries_of_tree}
 use Rattle.run_unit.specs.Alone.{RunsAlone}
 use Rattle.run_unit.specs.Volume.{IsDamageFound, RunsOnVolume, RunsOnHalves, IsOfHalves, lacks_either}
-use Rattle.run_unit.specs.declared.fault.CompileError.{CompileError}
+use Rattle.compiler.specs.declared.fault.CompileError.{CompileError}
 use Rattle.run_unit.specs.declared.ended.Refusal.TheVariants.{Damaged}
 use Rattle.run_unit.specs.declared.ended.Ended.{Ended}
 use Rattle.run_unit.specs.declared.ended.Ended.TheVariants.{Refused}

@@ -2,7 +2,8 @@
 
 ghost use Rattle.std.specs.Prelude.{◌≡◌, ◌↔◌, ℕ, List, All};
 ghost use Rattle.machine.specs.Ends.{IsDigit};
-ghost use Rattle.run_unit.specs.Images.{IsCompiled, IfImageWithoutFiles};
+ghost use Rattle.compiler.specs.Images.{IsCompiled};
+ghost use Rattle.run_unit.specs.Images.{IfImageWithoutFiles};
 ghost use Rattle.run_unit.specs.Ends.{HasCause, ForImage, IfUnbegun, IsEndOfImage};
 ghost use Rattle.run_unit.specs.Runs.{TextRuns, call_on, DamagedOnlyIfFound};
 

@@ -3,7 +3,8 @@
 ghost use Rattle.std.specs.Prelude.{◌≡◌, ◌↔◌, All, IfOk, IfErr};
 ghost use Rattle.code_image.specs.declared.code.Code.{Code};
 ghost use Rattle.machine.specs.Ends.{IsDigit};
-ghost use Rattle.run_unit.specs.Images.{IsImageOf, IfImageWithoutFiles};
+ghost use Rattle.compiler.specs.Images.{IsImageOf};
+ghost use Rattle.run_unit.specs.Images.{IfImageWithoutFiles};
 ghost use Rattle.run_unit.specs.Ends.{HasCause, IsCauseOf, ForImage, IfUnbegun, IsLoaded};
 ghost use Rattle.run_unit.specs.Runs.{ImageRuns, call_on, DamagedOnlyIfFound};
 

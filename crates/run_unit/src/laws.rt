@@ -1,33 +1,15 @@
-//! What holds of every source text and image.
+//! What holds of every image that was compiled from a source text.
 
-ghost use Rattle.std.specs.Prelude.{◌≡◌, ℕ, List};
+ghost use Rattle.std.specs.Prelude.{ℕ, List};
 ghost use Rattle.source_tree.specs.declared.program.Program.{Program};
-ghost use Rattle.source_tree.specs.Given.{RunInput};
-ghost use Rattle.source_tree.specs.Meaning.{Run};
-ghost use Rattle.run_unit.specs.Trees.{IsTreeOf};
-ghost use Rattle.run_unit.specs.Images.{HasRun, MeansAs, IsCompiled};
+ghost use Rattle.compiler.specs.Trees.{IsTreeOf};
+ghost use Rattle.compiler.specs.Images.{MeansAs, IsCompiled};
 ghost use Rattle.run_unit.specs.Ends.{ForImage, IsEndOfImage};
 ghost use Rattle.run_unit.specs.Runs.{Call, ImageRuns, TextRuns};
 ghost use Rattle.run_unit.specs.declared.ended.Ended.{Ended};
 
-use code_image::{run_law, spelling_law};
-use divisions::one_tree;
-use source_lines::reference_format;
-use tokens::laws;
-
-/// A source text has at most one tree, and an image at most one run with what it is given.
-pub fn one_meaning()
-    ensures tree { (source : List ℕ) (tree other : Program) →
-        IsTreeOf source tree → IsTreeOf source other → tree ≡ other }
-    ensures run { (image : List ℕ) (given : RunInput) (run other : Run) →
-        HasRun image given run → HasRun image given other → run ≡ other }
-{
-    reference_format();
-    laws();
-    one_tree();
-    run_law();
-    spelling_law();
-}
+use code_image::spelling_law;
+use compiler::one_meaning;
 
 /// The law of two commands. A call compiles a source text to bytes, and a later call runs these bytes, wherever they were kept between
 /// the two: what the later call promises of the image is what the text means.

@@ -3,16 +3,15 @@
 ghost use Rattle.std.specs.Prelude.{◌≡◌, ◌↔◌, All, Ok, OnErr, IfOk, IfErr};
 ghost use Rattle.source_tree.specs.declared.program.Program.{Program};
 ghost use Rattle.machine.specs.Ends.{IsDigit};
-ghost use Rattle.run_unit.specs.Trees.{IsTreeOf, HasTree, IfTextWithoutFiles};
+ghost use Rattle.compiler.specs.Trees.{IsTreeOf, HasTree, IfTextWithoutFiles};
 ghost use Rattle.run_unit.specs.Ends.{IsEndOfImage, ForSource};
 ghost use Rattle.run_unit.specs.Runs.{DamagedOnlyIfFound, RunsUnlessRefused};
-ghost use Rattle.run_unit.specs.declared.fault.CompileError.TheVariants.{Memory};
+ghost use Rattle.compiler.specs.declared.fault.CompileError.TheVariants.{Memory};
 
-use crate::compiling::compile;
 use crate::ended::{Ended, Refusal};
-use crate::fault::CompileError;
 use crate::image::run_image;
 use crate::laws::compiled_bytes;
+use compiler::{CompileError, compile};
 use station::Station;
 use std::alloc::Global;
 

@@ -2,7 +2,7 @@
 use Rattle.std.proofs.Common.{◌≡◌, Option, Result, Ok, Err, subst, sym}
 use Rattle.std.specs.Prelude.{IfOk}
 use Rattle.std.specs.declared.alloc.AllocError.{AllocError}
-use Rattle.run_unit.specs.declared.fault.CompileFault.{CompileFault}
+use Rattle.compiler.specs.declared.fault.CompileFault.{CompileFault}
 use Rattle.source_commands.specs.declared.check.CheckReport.{CheckReport}
 
 abbrev pub HasFault : Option CompileFault → Result CheckReport AllocError → Type 0

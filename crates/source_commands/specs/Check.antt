@@ -1,8 +1,8 @@
 -- What `check` shows of a source text.
 use Rattle.std.specs.Prelude.{◌≡◌, ℕ, List, All, Option, None, Some}
 use Rattle.std.specs.List.{flat_map}
-use Rattle.run_unit.specs.declared.fault.CompileFault.{CompileFault}
-use Rattle.run_unit.specs.Faults.{number_of, place_of}
+use Rattle.compiler.specs.declared.fault.CompileFault.{CompileFault}
+use Rattle.compiler.specs.Faults.{number_of, place_of}
 use Rattle.source_advice.specs.Advice.{AreLines, HasLines}
 use Rattle.source_advice.specs.declared.paragraph_warnings.Warning.{Warning}
 use Rattle.source_commands.specs.declared.check.CheckReport.{CheckReport}

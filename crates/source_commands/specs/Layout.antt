@@ -25,8 +25,8 @@ use Rattle.source_tree.specs.Records.{storage_areas, file_places}
 use Rattle.layout.specs.declared.placed.PlacedItem.{PlacedItem}
 use Rattle.layout.specs.Placing.{placed_item}
 use Rattle.declarations.specs.Entries.{items_among}
-use Rattle.run_unit.specs.declared.fault.CompileError.{CompileError}
-use Rattle.run_unit.specs.declared.fault.CompileError.TheVariants.{Memory, Refused}
+use Rattle.compiler.specs.declared.fault.CompileError.{CompileError}
+use Rattle.compiler.specs.declared.fault.CompileError.TheVariants.{Memory, Refused}
 use Rattle.source_commands.specs.Report.{line_feed}
 
 abbrev pub heading : List ℕ

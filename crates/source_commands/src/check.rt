@@ -2,14 +2,14 @@
 
 ghost use Rattle.std.specs.Prelude.{◌≡◌, None, Some, IfOk, IfSome};
 ghost use Rattle.source_tree.specs.declared.program.Program.{Program};
-ghost use Rattle.run_unit.specs.Faults.{stage_fault};
-ghost use Rattle.run_unit.specs.Trees.{IsTreeOf};
-ghost use Rattle.run_unit.specs.Stages.{IsFaultOf};
+ghost use Rattle.compiler.specs.Faults.{stage_fault};
+ghost use Rattle.compiler.specs.Trees.{IsTreeOf};
+ghost use Rattle.compiler.specs.Stages.{IsFaultOf};
 ghost use Rattle.source_commands.specs.Check as spec;
 ghost use Rattle.source_commands.specs.Check.{IsReportOf, IsReportText};
 
 use crate::report::{Source, push_report};
-use run_unit::{CompileError, CompileFault, compile};
+use compiler::{CompileError, CompileFault, compile};
 use source_advice::{Warning, advise, warnings};
 use std::alloc::{AllocError, Global};
 

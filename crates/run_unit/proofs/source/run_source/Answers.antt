@@ -1,8 +1,8 @@
 use Rattle.std.proofs.Common.{Ok, refl, sym, subst}
 use Rattle.std.proofs.lemmas.Result.{err_from_is_err_and}
-use Rattle.run_unit.specs.Images.{IsCompiled}
-use Rattle.run_unit.proofs.Results.{value}
-use Rattle.run_unit.proofs.Stages.{memory_alone}
+use Rattle.compiler.specs.Images.{IsCompiled}
+use Rattle.compiler.proofs.Results.{value}
+use Rattle.compiler.proofs.Stages.{memory_alone}
 use Rattle.run_unit.proofs.Images.{none_too}
 use Rattle.run_unit.proofs.source.run_source.Goals as goal
 

@@ -1,10 +1,10 @@
 use Rattle.std.proofs.Common.{◌≡◌, Option, None, Some, subst}
 use Rattle.std.specs.Prelude.{IfSome}
 use Rattle.source_tree.specs.declared.program.Program.{Program}
-use Rattle.run_unit.specs.declared.fault.CompileFault.{CompileFault}
-use Rattle.run_unit.specs.Faults.{fault_of, stage_fault}
-use Rattle.run_unit.specs.Stages.{IsFaultOf}
-use Rattle.run_unit.specs.Trees.{IsTreeOf}
+use Rattle.compiler.specs.declared.fault.CompileFault.{CompileFault}
+use Rattle.compiler.specs.Faults.{fault_of, stage_fault}
+use Rattle.compiler.specs.Stages.{IsFaultOf}
+use Rattle.compiler.specs.Trees.{IsTreeOf}
 use Rattle.source_commands.specs.declared.check.CheckReport.{CheckReport}
 use Rattle.source_commands.specs.Check.{IsReportText}
 use Rattle.source_commands.proofs.Reports.{of_fault, anyway}

@@ -1,6 +1,6 @@
 use Rattle.std.specs.Prelude.{IfOk}
 use Rattle.std.proofs.lemmas.Result.{IfOk-weaker}
-use Rattle.run_unit.specs.Trees.{broken_rules}
+use Rattle.compiler.specs.Trees.{broken_rules}
 use Rattle.source_commands.proofs.source_layout.read_layout.Goals as goal
 
 pub returns : goal.returns

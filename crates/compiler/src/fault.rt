@@ -1,7 +1,7 @@
 //! Why a source text isn't compiled.
 
 ghost use Rattle.std.specs.Prelude.{◌≡◌};
-ghost use Rattle.run_unit.specs.Faults.{number_of, place_of, from_lines, from_tokens, from_tree, from_rules};
+ghost use Rattle.compiler.specs.Faults.{number_of, place_of, from_lines, from_tokens, from_tree, from_rules};
 
 use check_rules::CheckError;
 use divisions::ParseError;
@@ -61,7 +61,7 @@ pub enum CompileError {
 
 impl From<SourceError> for CompileError {
     ghost use Rattle.std.specs.Prelude.{◌≡◌};
-    ghost use Rattle.run_unit.specs.Faults.{from_lines};
+    ghost use Rattle.compiler.specs.Faults.{from_lines};
 
     ghost from_gives = { λ fault e. e ≡ from_lines fault };
 
@@ -75,7 +75,7 @@ impl From<SourceError> for CompileError {
 
 impl From<TokenError> for CompileError {
     ghost use Rattle.std.specs.Prelude.{◌≡◌};
-    ghost use Rattle.run_unit.specs.Faults.{from_tokens};
+    ghost use Rattle.compiler.specs.Faults.{from_tokens};
 
     ghost from_gives = { λ fault e. e ≡ from_tokens fault };
 
@@ -89,7 +89,7 @@ impl From<TokenError> for CompileError {
 
 impl From<ParseError> for CompileError {
     ghost use Rattle.std.specs.Prelude.{◌≡◌};
-    ghost use Rattle.run_unit.specs.Faults.{from_tree};
+    ghost use Rattle.compiler.specs.Faults.{from_tree};
 
     ghost from_gives = { λ fault e. e ≡ from_tree fault };
 
@@ -103,7 +103,7 @@ impl From<ParseError> for CompileError {
 
 impl From<CheckError> for CompileError {
     ghost use Rattle.std.specs.Prelude.{◌≡◌};
-    ghost use Rattle.run_unit.specs.Faults.{from_rules};
+    ghost use Rattle.compiler.specs.Faults.{from_rules};
 
     ghost from_gives = { λ fault e. e ≡ from_rules fault };
 
@@ -117,7 +117,7 @@ impl From<CheckError> for CompileError {
 
 impl From<AllocError> for CompileError {
     ghost use Rattle.std.specs.Prelude.{◌≡◌};
-    ghost use Rattle.run_unit.specs.declared.fault.CompileError.TheVariants.{Memory};
+    ghost use Rattle.compiler.specs.declared.fault.CompileError.TheVariants.{Memory};
 
     ghost from_gives = { λ _ e. e ≡ Memory };
 

@@ -1,8 +1,8 @@
 use Rattle.std.proofs.Common.{subst}
 use Rattle.std.proofs.lemmas.Result.{err_from_is_err_and}
-use Rattle.run_unit.specs.Images.{MeansAs}
-use Rattle.run_unit.proofs.Stages.{rules_refusal, rules_fault}
-use Rattle.run_unit.proofs.compiling.image_of_tree.Goals as goal
+use Rattle.compiler.specs.Images.{MeansAs}
+use Rattle.compiler.proofs.Stages.{rules_refusal, rules_fault}
+use Rattle.compiler.proofs.compiling.image_of_tree.Goals as goal
 
 pub returns-in_err-checked-clause-only : goal.returns-in_err-checked-clause-only
 returns-in_err-checked-clause-only c =

@@ -1,5 +1,5 @@
-use Rattle.run_unit.proofs.Images.{made}
-use Rattle.run_unit.proofs.compiling.make_image.Goals as goal
+use Rattle.compiler.proofs.Images.{made}
+use Rattle.compiler.proofs.compiling.make_image.Goals as goal
 
 pub returns : goal.returns
 returns c =

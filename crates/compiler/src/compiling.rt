@@ -7,10 +7,10 @@ ghost use Rattle.source_tree.specs.Recursion.{HasOrder};
 ghost use Rattle.source_tree.specs.Meaning.{meaning};
 ghost use Rattle.entry_rules.specs.Checks as rules;
 ghost use Rattle.check_rules.specs.Refusals.{IsFirstFault};
-ghost use Rattle.run_unit.specs.Faults.{fault_of};
-ghost use Rattle.run_unit.specs.Trees.{IsReadFrom, IsTreeOf, broken_rules};
-ghost use Rattle.run_unit.specs.Stages.{IsTreeAnswer, IsReported, IsFaultOf, tree_with_rules, tree_of};
-ghost use Rattle.run_unit.specs.Images.{MeansAs, IsCompiled, IsImageAnswer};
+ghost use Rattle.compiler.specs.Faults.{fault_of};
+ghost use Rattle.compiler.specs.Trees.{IsReadFrom, IsTreeOf, broken_rules};
+ghost use Rattle.compiler.specs.Stages.{IsTreeAnswer, IsReported, IsFaultOf, tree_with_rules, tree_of};
+ghost use Rattle.compiler.specs.Images.{MeansAs, IsCompiled, IsImageAnswer};
 
 use crate::fault::CompileError;
 use check_rules::{CheckError, Checked, check};

@@ -4,8 +4,8 @@ use Rattle.tokens.specs.Tokens.{TokensOf}
 use Rattle.statements.specs.Spelling.{max_nesting}
 use Rattle.divisions.specs.Spelling.{SpellsProgram}
 use Rattle.divisions.specs.Faults.{parse_of}
-use Rattle.run_unit.proofs.Stages.{spelled_by, tokens_refusal, tree_refusal, rules_left}
-use Rattle.run_unit.proofs.compiling.read_tree.Goals as goal
+use Rattle.compiler.proofs.Stages.{spelled_by, tokens_refusal, tree_refusal, rules_left}
+use Rattle.compiler.proofs.compiling.read_tree.Goals as goal
 
 pub returns-in_err-tokens-clause-only : goal.returns-in_err-tokens-clause-only
 returns-in_err-tokens-clause-only c =

@@ -9,10 +9,10 @@ use Rattle.statements.specs.Spelling.{max_nesting}
 use Rattle.divisions.specs.Spelling.{SpellsProgram}
 use Rattle.code_image.specs.declared.code.Code.{Code}
 use Rattle.code_image.specs.Table.{Runs}
-use Rattle.run_unit.specs.Trees.{IsTreeOf}
-use Rattle.run_unit.specs.Images.{HasRun}
-use Rattle.run_unit.proofs.Stages.{OneFormat, OneScan, spelled_by}
-use Rattle.run_unit.proofs.Images.{OneSpelling, one_code}
+use Rattle.compiler.specs.Trees.{IsTreeOf}
+use Rattle.compiler.specs.Images.{HasRun}
+use Rattle.compiler.proofs.Stages.{OneFormat, OneScan, spelled_by}
+use Rattle.compiler.proofs.Images.{OneSpelling, one_code}
 
 -- what `one_tree` says
 abbrev pub OneTree : Type 0

@@ -29,15 +29,15 @@ use Rattle.check_rules.specs.Refusals.{IsBroken, IsFirstFault}
 use Rattle.entry_rules.specs.Checks as rules
 use Rattle.entry_rules.specs.declared.rule.CheckError.{CheckError}
 use Rattle.entry_rules.specs.declared.rule.CheckError.TheVariants as in_rules
-use Rattle.run_unit.specs.Faults as compiling
-use Rattle.run_unit.specs.Faults.{StageFault, OfLines, OfTokens, OfTree, OfRules, from_tokens, from_tree, from_rules}
-use Rattle.run_unit.specs.Trees.{IsReadFrom, broken_rules}
-use Rattle.run_unit.specs.Stages.{IsTreeAnswer, IsRecursion, IsReported, IsFaultOf, then_read, tree_by, tree_with_rules}
-use Rattle.run_unit.specs.Stages.{tree_in_tokens, tree_in_characters, tree_of}
-use Rattle.run_unit.specs.Images.{IsImageAnswer}
-use Rattle.run_unit.specs.declared.fault.CompileError.{CompileError}
-use Rattle.run_unit.specs.declared.fault.CompileError.TheVariants.{Memory, Refused}
-use Rattle.run_unit.proofs.Results.{value}
+use Rattle.compiler.specs.Faults as compiling
+use Rattle.compiler.specs.Faults.{StageFault, OfLines, OfTokens, OfTree, OfRules, from_tokens, from_tree, from_rules}
+use Rattle.compiler.specs.Trees.{IsReadFrom, broken_rules}
+use Rattle.compiler.specs.Stages.{IsTreeAnswer, IsRecursion, IsReported, IsFaultOf, then_read, tree_by, tree_with_rules}
+use Rattle.compiler.specs.Stages.{tree_in_tokens, tree_in_characters, tree_of}
+use Rattle.compiler.specs.Images.{IsImageAnswer}
+use Rattle.compiler.specs.declared.fault.CompileError.{CompileError}
+use Rattle.compiler.specs.declared.fault.CompileError.TheVariants.{Memory, Refused}
+use Rattle.compiler.proofs.Results.{value}
 
 -- what `reference_format` and `laws` say
 abbrev pub OneFormat : Type 0

@@ -8,10 +8,10 @@ use Rattle.source_tree.specs.declared.program.Program.{Program}
 use Rattle.source_tree.specs.Broken.{RuleBreach}
 use Rattle.check_rules.specs.Refusals.{Recurses}
 use Rattle.divisions.specs.Faults.{parse_of}
-use Rattle.run_unit.specs.Faults.{StageFault, OfLines, OfTokens, OfTree, OfRules}
-use Rattle.run_unit.specs.Trees.{broken_rules}
-use Rattle.run_unit.specs.declared.fault.CompileError.{CompileError}
-use Rattle.run_unit.specs.declared.fault.CompileError.TheVariants.{Memory, Refused}
+use Rattle.compiler.specs.Faults.{StageFault, OfLines, OfTokens, OfTree, OfRules}
+use Rattle.compiler.specs.Trees.{broken_rules}
+use Rattle.compiler.specs.declared.fault.CompileError.{CompileError}
+use Rattle.compiler.specs.declared.fault.CompileError.TheVariants.{Memory, Refused}
 
 abbrev pub then_read : {A B F : Type 0} → Result A F → (F → StageFault) → (A → Result B StageFault) → Result B StageFault
 then_read (Ok a) fault next = next a

@@ -17,10 +17,10 @@ use Rattle.source_tree.specs.Broken.{RuleBreach}
 use Rattle.entry_rules.specs.Checks as rules
 use Rattle.entry_rules.specs.declared.rule.CheckError.{CheckError}
 use Rattle.entry_rules.specs.declared.rule.CheckError.TheVariants as in_rules
-use Rattle.run_unit.specs.declared.fault.CompileFault.{CompileFault}
-use Rattle.run_unit.specs.declared.fault.CompileFault.TheVariants.{Lines, Tokens, Tree, Rules}
-use Rattle.run_unit.specs.declared.fault.CompileError.{CompileError}
-use Rattle.run_unit.specs.declared.fault.CompileError.TheVariants.{Memory, Refused}
+use Rattle.compiler.specs.declared.fault.CompileFault.{CompileFault}
+use Rattle.compiler.specs.declared.fault.CompileFault.TheVariants.{Lines, Tokens, Tree, Rules}
+use Rattle.compiler.specs.declared.fault.CompileError.{CompileError}
+use Rattle.compiler.specs.declared.fault.CompileError.TheVariants.{Memory, Refused}
 
 abbrev pub number_of : CompileFault → ℕ
 number_of (Lines fault) = lines.number_of fault.kind

@@ -1,11 +1,11 @@
 use Rattle.std.proofs.Common.{◌≡◌, [], sym, subst}
 use Rattle.std.proofs.lemmas.Result.{err_from_is_err_and}
 use Rattle.source_tree.specs.Recursion.{HasOrder}
-use Rattle.run_unit.specs.Faults.{fault_of}
-use Rattle.run_unit.specs.Trees.{broken_rules}
-use Rattle.run_unit.specs.Images.{IsImageAnswer}
-use Rattle.run_unit.proofs.Stages.{image_refusal, stage_failed, result_fault}
-use Rattle.run_unit.proofs.compiling.compile.Goals as goal
+use Rattle.compiler.specs.Faults.{fault_of}
+use Rattle.compiler.specs.Trees.{broken_rules}
+use Rattle.compiler.specs.Images.{IsImageAnswer}
+use Rattle.compiler.proofs.Stages.{image_refusal, stage_failed, result_fault}
+use Rattle.compiler.proofs.compiling.compile.Goals as goal
 
 pub returns-in_err-tree-clause-only : goal.returns-in_err-tree-clause-only
 returns-in_err-tree-clause-only c =

@@ -1,5 +1,5 @@
-use Rattle.run_unit.proofs.Uniqueness.{one_tree, one_run}
-use Rattle.run_unit.proofs.laws.one_meaning.Goals as goal
+use Rattle.compiler.proofs.Uniqueness.{one_tree, one_run}
+use Rattle.compiler.proofs.laws.one_meaning.Goals as goal
 
 pub returns-clause-tree : goal.returns-clause-tree
 returns-clause-tree c = one_tree c.reference_format.ensures.only c.laws.ensures.only c.one_tree.ensures
