@@ -6,17 +6,15 @@ use Rattle.source_tree.specs.declared.entry.Entry.{Entry}
 use Rattle.source_tree.specs.declared.program.Program.{Program}
 use Rattle.source_tree.specs.declared.program.Section.{Section}
 use Rattle.source_tree.specs.declared.select.FileDescription.{FileDescription}
-use Rattle.source_tree.specs.declared.select.Select.{Select}
 use Rattle.source_tree.specs.EntryRules.{entry_rules}
 use Rattle.source_tree.specs.FileRules.{descriptions_rules}
-use Rattle.source_tree.specs.Records.{program_areas}
 use Rattle.source_tree.specs.Rules.{all_permitted, sections_rules}
 use Rattle.source_tree.specs.Setting.{Scope, scope}
 use Rattle.code_image.specs.declared.code.Code.{Code}
 use Rattle.declarations.specs.declared.declarations.Declarations.{Declarations}
-use Rattle.declarations.specs.Named.{Declares, data_in, files_in, items_in, scope_in}
+use Rattle.declarations.specs.Named.{Declares, data_in, items_in, scope_in}
 use Rattle.declarations.proofs.Declared.{same_scope}
-use Rattle.codegen.specs.Layout.{code_of, storage_code, storage_with}
+use Rattle.codegen.specs.Layout.{code_of}
 use Rattle.condition_codegen.proofs.ConditionValues.{descriptions_kept}
 
 module _ (program : Program) (all : Declarations) (h : Declares program all) where

@@ -1,6 +1,6 @@
 //! The table of files of code.
 
-ghost use Rattle.std.specs.Prelude.{◌≡◌, IfOk};
+ghost use Rattle.std.specs.Prelude.{◌≡◌, [], IfOk, OnOk};
 ghost use Rattle.std.specs.Option.{option_map};
 ghost use Rattle.declarations.specs.Named.{items_in, files_in};
 ghost use Rattle.statement_codegen.specs.FileCode as spec;
@@ -14,19 +14,20 @@ use file_image::CodeFile;
 use sqlite_items::Items;
 use std::alloc::{AllocError, Global};
 
-/// The files, in the order of their SELECTs.
-pub(crate) fn code_files(
+/// The files, in the order of their SELECTs, where there are none yet.
+pub(crate) fn put_files(
     alloc: Global,
     declarations: &Declarations<'_>,
-) -> Result<Items<CodeFile>, AllocError>
-    ensures { IfOk result (λ files. files ≡ spec.code_files (items_in declarations.now)
+    files: &mut Items<CodeFile>,
+) -> Result<(), AllocError>
+    requires { files.old ≡ [] }
+    ensures { OnOk result (files.new ≡ spec.code_files (items_in declarations.now)
         declarations.now.selects.now (files_in declarations.now)) }
 {
-    let mut files = Items::new(alloc);
-    for file in &declarations.files.files {
+    for file in declarations.files.files.as_slice() {
         files.push(code_file(alloc, file)?)?;
     }
-    Ok(files)
+    Ok(())
 }
 
 /// The item of a clause, by its number.

@@ -1,48 +1,62 @@
 //! What code has before the first statement: the bytes of all areas at the start, the items, and what READ INTO sends of each file.
 
-ghost use Rattle.std.specs.Prelude.{◌≡◌, [], map, IfOk};
-ghost use Rattle.source_tree.specs.EntryRules.{entry_rules};
-ghost use Rattle.source_tree.specs.Records.{program_areas};
+ghost use Rattle.std.specs.Prelude.{◌≡◌, [], map, IfOk, OnOk};
 ghost use Rattle.data_instructions.specs.Codes.{data_item};
 ghost use Rattle.file_descriptions.specs.Files.{file_in};
-ghost use Rattle.declarations.specs.Named.{Declares, items_in, files_in};
+ghost use Rattle.declarations.specs.Named.{items_in, files_in};
+ghost use Rattle.condition_codegen.specs.Fragments.{empty_code, no_tables};
 ghost use Rattle.statement_codegen.specs.FileCode as files;
 ghost use Rattle.codegen.specs.Layout as spec;
 ghost use Rattle.codegen.specs.Sent.{edits, first_editing};
 
-use crate::file_table::code_files;
-use answers::beside;
+use crate::file_table::put_files;
 use code_image::Code;
 use data_instructions::{DataItem, DataTables};
 use declarations::Declarations;
 use file_descriptions::ProgramFile;
-use initial_storage::InitialStorage;
 use items::Kind;
 use layout::PlacedItem;
 use picture::Picture;
-use source_tree::Program;
 use sqlite_items::Items;
 use std::alloc::{AllocError, Global};
 
-/// The code before the first statement of the program that declares this.
-pub(crate) fn storage_code(
-    alloc: Global,
-    program: &Program,
-    declarations: &Declarations<'_>,
-) -> Result<Code, AllocError>
-    requires program { Declares program.now declarations.now }
-    requires rules { entry_rules program.now.storage ≡ [] }
-    ensures { IfOk result (λ code. code ≡ spec.storage_with (program_areas program.now)
-        (items_in declarations.now) declarations.now.selects.now (files_in declarations.now)) }
+/// Code that has these areas, and nothing else yet.
+pub(crate) fn code_with(alloc: Global, areas: Items<Items<u8>>) -> Code
+    ensures { result ≡ record empty_code { tables = record no_tables { areas = areas } } }
 {
-    let files = code_files(alloc, declarations)?;
-    let (files, tables) = beside(files, storage_tables(alloc, program, declarations))?;
-    Ok(Code {
-        tables,
-        files,
+    Code {
+        tables: DataTables {
+            areas,
+            items: Items::new(alloc),
+            numbers: Items::new(alloc),
+            senders: Items::new(alloc),
+            texts: Items::new(alloc),
+            inspections: Items::new(alloc),
+        },
+        files: Items::new(alloc),
         starts: Items::new(alloc),
         instructions: Items::new(alloc),
-    })
+    }
+}
+
+/// The items and the files, where the code has none yet.
+pub(crate) fn put_storage(
+    alloc: Global,
+    declarations: &Declarations<'_>,
+    code: &mut Code,
+) -> Result<(), AllocError>
+    requires items { code.old.tables.items ≡ [] }
+    requires files { code.old.files ≡ [] }
+    ensures { OnOk result (code.new ≡ record code.old {
+      tables = record code.old.tables {
+        items = spec.storage_items (items_in declarations.now) (files_in declarations.now);
+      };
+      files = files.code_files (items_in declarations.now) declarations.now.selects.now
+          (files_in declarations.now);
+    }) }
+{
+    put_items(declarations, &mut code.tables.items)?;
+    put_files(alloc, declarations, &mut code.files)
 }
 
 fn editing_of(one: &PlacedItem) -> Result<Option<Picture>, AllocError>
@@ -72,14 +86,14 @@ fn data_item(one: &PlacedItem) -> Result<DataItem, AllocError>
 }
 
 /// The items of working storage and of records.
-fn data_items(alloc: Global, declarations: &Declarations<'_>) -> Result<Items<DataItem>, AllocError>
-    ensures { IfOk result (λ items. items ≡ map data_item (items_in declarations.now)) }
+fn put_data(declarations: &Declarations<'_>, items: &mut Items<DataItem>) -> Result<(), AllocError>
+    requires { items.old ≡ [] }
+    ensures { OnOk result (items.new ≡ map data_item (items_in declarations.now)) }
 {
-    let mut items = Items::new(alloc);
     for one in declarations.layout.items.as_slice() {
         items.push(data_item(one)?)?;
     }
-    Ok(items)
+    Ok(())
 }
 
 /// Both are edited, in the same way.
@@ -139,39 +153,14 @@ fn sent_entry(
 }
 
 /// The items, and after them what READ INTO sends of each file.
-fn storage_items(
-    alloc: Global,
-    declarations: &Declarations<'_>,
-) -> Result<Items<DataItem>, AllocError>
-    ensures { IfOk result (λ items. items
+fn put_items(declarations: &Declarations<'_>, items: &mut Items<DataItem>) -> Result<(), AllocError>
+    requires { items.old ≡ [] }
+    ensures { OnOk result (items.new
         ≡ spec.storage_items (items_in declarations.now) (files_in declarations.now)) }
 {
-    let mut items = data_items(alloc, declarations)?;
-    for file in &declarations.files.files {
+    put_data(declarations, items)?;
+    for file in declarations.files.files.as_slice() {
         items.push(sent_entry(declarations, file)?)?;
     }
-    Ok(items)
-}
-
-/// The tables before the first statement of the program that declares this.
-fn storage_tables(
-    alloc: Global,
-    program: &Program,
-    declarations: &Declarations<'_>,
-) -> Result<DataTables, AllocError>
-    requires program { Declares program.now declarations.now }
-    requires rules { entry_rules program.now.storage ≡ [] }
-    ensures { IfOk result (λ tables. tables ≡ spec.tables_with (program_areas program.now)
-        (items_in declarations.now) (files_in declarations.now)) }
-{
-    let initial = InitialStorage::of(alloc, program)?;
-    let (initial, items) = beside(initial, storage_items(alloc, declarations))?;
-    Ok(DataTables {
-        areas: initial.areas,
-        items,
-        numbers: Items::new(alloc),
-        senders: Items::new(alloc),
-        texts: Items::new(alloc),
-        inspections: Items::new(alloc),
-    })
+    Ok(())
 }

@@ -4,7 +4,7 @@ use Rattle.data_instructions.specs.Codes.{data_item}
 use Rattle.file_descriptions.specs.Files.{file_in}
 use Rattle.declarations.specs.Named.{items_in}
 use Rattle.statement_codegen.specs.FileCode.{sent_entry}
-use Rattle.codegen.proofs.storage.storage_items.Given as goal
+use Rattle.codegen.proofs.storage.put_items.Given as goal
 
 abbrev pub invariant-loop-file : goal.invariant-loop-file
 invariant-loop-file l =

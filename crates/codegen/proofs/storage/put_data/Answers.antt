@@ -1,7 +1,7 @@
 use Rattle.std.proofs.Common.{◌∙◌}
 use Rattle.declarations.specs.Named.{items_in}
 use Rattle.codegen.proofs.StorageItems.{items_more}
-use Rattle.codegen.proofs.storage.data_items.Goals as goal
+use Rattle.codegen.proofs.storage.put_data.Goals as goal
 
 pub loop-one-preserved : goal.loop-one-preserved
 loop-one-preserved c =
