@@ -1,5 +1,4 @@
 use Rattle.std.proofs.Common.{rules, ◌≡◌, ◌+◌, List, [], ◌∷◌, length, map, refl, sym, ap, arith, ◌∙◌}
-use Rattle.std.proofs.lemmas.Grind.{common_steps}
 use Rattle.source_tree.specs.declared.condition.Condition.{Condition, the_lemmas}
 use Rattle.source_tree.specs.Broken.{each}
 use Rattle.source_tree.specs.ConditionRules.{condition_rules}
@@ -19,7 +18,7 @@ use Rattle.condition_codegen.proofs.ConditionLayers.{name_rules, relation_kept, 
 use Rattle.condition_codegen.proofs.ConditionLayers.{all_rules, any_rules, all_parts, any_parts}
 use Rattle.condition_codegen.proofs.Kept.{front_kept, back_kept, one_kept}
 use Rattle.condition_codegen.proofs.Meeting.{meeting}
-use Rattle.condition_codegen.proofs.Fragments.{joined_nothing}
+use Rattle.condition_codegen.proofs.Fragments.{joined_nothing, goes_on, is_done}
 use Rattle.condition_codegen.proofs.Sequences.{is_so, ends_so, on_ok}
 use Rattle.condition_codegen.proofs.WayEnds.{branch_within, both_within}
 use Rattle.condition_codegen.proofs.emitter.Emitter.+condition.Goals as goal
@@ -255,10 +254,32 @@ emit_each_or-emit_or-requires t c =
     (search (rules, the_lemmas), (c.requires.entries, r))
 
 pub emit_each_and-loop-one-preserved : goal.emit_each_and-loop-one-preserved
-emit_each_and-loop-one-preserved t c = grind (arith, common_steps)
+emit_each_and-loop-one-preserved t c =
+    let items = items_in c.args.self.now.declarations.now in
+    let piece = λ (one : Condition). and_fragment (condition_fragment items one) in
+    let old = c.loop-one.code in
+    goes_on piece c.args.more.now c.loop-one.one-index c.one-item.result old c.emit_and.new.code _ c.loop-one-test.true
+    (c.in_ok-emit_and.ensures ∙ ap (λ (one : Condition). append old (piece one old)) c.one-item.is) c.loop-one.invariant
+
+pub emit_each_and-returns : goal.emit_each_and-returns
+emit_each_and-returns t c =
+    let items = items_in c.args.self.now.declarations.now in
+    is_done (λ (one : Condition). and_fragment (condition_fragment items one)) c.args.more.now c.loop-one.one-index
+    c.loop-one.code _ c.loop-one-test.false c.loop-one.invariant
 
 pub emit_each_or-loop-one-preserved : goal.emit_each_or-loop-one-preserved
-emit_each_or-loop-one-preserved t c = grind (arith, common_steps)
+emit_each_or-loop-one-preserved t c =
+    let items = items_in c.args.self.now.declarations.now in
+    let piece = λ (one : Condition). or_fragment (condition_fragment items one) in
+    let old = c.loop-one.code in
+    goes_on piece c.args.more.now c.loop-one.one-index c.one-item.result old c.emit_or.new.code _ c.loop-one-test.true
+    (c.in_ok-emit_or.ensures ∙ ap (λ (one : Condition). append old (piece one old)) c.one-item.is) c.loop-one.invariant
+
+pub emit_each_or-returns : goal.emit_each_or-returns
+emit_each_or-returns t c =
+    let items = items_in c.args.self.now.declarations.now in
+    is_done (λ (one : Condition). or_fragment (condition_fragment items one)) c.args.more.now c.loop-one.one-index
+    c.loop-one.code _ c.loop-one-test.false c.loop-one.invariant
 
 pub emit_and-returns : goal.emit_and-returns
 emit_and-returns t c =

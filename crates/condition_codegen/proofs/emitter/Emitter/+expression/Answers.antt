@@ -1,10 +1,11 @@
-use Rattle.std.proofs.Common.{rules, ◌≡◌, List, [], ◌++◌, sym, ap, ◌∙◌, arith}
-use Rattle.std.proofs.lemmas.Grind.{common_steps}
+use Rattle.std.proofs.Common.{rules, ◌≡◌, List, [], ◌++◌, sym, ap, ◌∙◌}
 use Rattle.source_tree.specs.declared.expression.Operator.{Operator}
 use Rattle.source_tree.specs.declared.expression.Expression.{Expression, the_lemmas}
 use Rattle.source_tree.specs.Broken.{each}
 use Rattle.source_tree.specs.ArithmeticRules.{expression_rules}
 use Rattle.data_instructions.specs.declared.calculation.Calculation.TheVariants as calculation
+use Rattle.data_instructions.specs.ArithmeticCodes.{operator_code}
+use Rattle.data_instructions.specs.declared.instruction.DataInstruction.{DataInstruction}
 use Rattle.data_instructions.specs.declared.instruction.DataInstruction.TheVariants as i
 use Rattle.declarations.specs.Named.{items_in}
 use Rattle.declarations.specs.Chains.{further_rules}
@@ -14,7 +15,8 @@ use Rattle.condition_codegen.specs.DataCode.{work_fragment}
 use Rattle.condition_codegen.specs.ArithmeticCode.{value_fragment, expression_fragment}
 use Rattle.condition_codegen.proofs.ExpressionForms.{link_piece, operand_is, negated_is, chain_is}
 use Rattle.condition_codegen.proofs.Kept.{front_kept, back_kept, one_kept}
-use Rattle.condition_codegen.proofs.Sequences.{is_so, ends_so, on_ok}
+use Rattle.condition_codegen.proofs.Fragments.{goes_on, is_done}
+use Rattle.condition_codegen.proofs.Sequences.{then_piece, is_so, ends_so, on_ok}
 use Rattle.condition_codegen.proofs.emitter.Emitter.+expression.Goals as goal
 
 pub emit_chain-emit_expression-requires : goal.emit_chain-emit_expression-requires
@@ -100,4 +102,21 @@ emit_expression-returns-in_ok-emit_expression-in-Chain t c =
     ∙ sym (ap (λ (e : Expression). expression_fragment items e old) c.in-Chain.is)))
 
 pub emit_chain-loop-operator-preserved : goal.emit_chain-loop-operator-preserved
-emit_chain-loop-operator-preserved t c = grind (arith, common_steps)
+emit_chain-loop-operator-preserved t c =
+    let items = items_in c.args.self.now.declarations.now in
+    let old = c.loop-operator.code in
+    let valued = c.emit_expression.new.code in
+    let one = c.loop-operator-item.result in
+    goes_on (link_piece items) c.args.all.now c.loop-operator.operator-index one old c.emit_work.new.code _
+    c.loop-operator-test.true
+    (then_piece (expression_fragment items one.1) (work_fragment (operator_code one.0)) old valued c.emit_work.new.code
+    c.in_ok-emit_expression.ensures
+    (c.in_ok-emit_work.ensures
+    ∙ ap (λ (work : DataInstruction). append valued (work_fragment work valued)) c.operator_code.ensures)
+    ∙ ap (λ (link : Operator × Expression). append old (link_piece items link old)) c.loop-operator-item.is)
+    c.loop-operator.invariant
+
+pub emit_chain-returns : goal.emit_chain-returns
+emit_chain-returns t c =
+    is_done (link_piece (items_in c.args.self.now.declarations.now)) c.args.all.now c.loop-operator.operator-index
+    c.loop-operator.code _ c.loop-operator-test.false c.loop-operator.invariant

@@ -9,7 +9,7 @@ use Rattle.data_instructions.specs.declared.instruction.DataInstruction.TheVaria
 use Rattle.condition_codegen.specs.Fragments.{append, in_order}
 use Rattle.condition_codegen.specs.DataCode.{work_fragment}
 use Rattle.condition_codegen.specs.ArithmeticCode.{added_fragment, value_fragment}
-use Rattle.condition_codegen.proofs.Fragments.{goes_on}
+use Rattle.condition_codegen.proofs.Fragments.{goes_on, is_done}
 use Rattle.condition_codegen.proofs.Sequences.{then_piece}
 use Rattle.condition_codegen.proofs.emitter.Emitter.emit_all_added.Goals as goal
 
@@ -36,3 +36,8 @@ loop-one-preserved k =
     (k.in_ok-emit_work.ensures
     ∙ ap (λ (work : DataInstruction). append valued (work_fragment work valued)) k.operator_code.ensures)
     ∙ ap (λ (one : Operand). append old (added one old)) k.one-item.is) k.loop-one.invariant
+
+pub returns : goal.returns
+returns k =
+    is_done (added_fragment (items_in k.args.self.now.declarations.now)) k.args.all.now k.loop-one.one-index
+    k.loop-one.code _ k.loop-one-test.false k.loop-one.invariant
