@@ -43,7 +43,7 @@ pub fn emit_update(
 {
     emitter.emit_taking(code, DataInstruction::Push, item)?;
     emit_works(code, &[duplicate(1), operator_code(operator)])?;
-    emit_store(emitter, code, keep, rounded, item)
+    emitter.emit_taking(code, DataInstruction::Store { rounded, keep }, item)
 }
 
 /// An arithmetic statement, after its `tick` and before its phrases. `keep`: there is an ON SIZE ERROR phrase.
@@ -83,22 +83,6 @@ fn emit_subtracted(code: &mut Code, scale: u8, keep: bool) -> Result<(), AllocEr
         );
     }
     emit_works(code, &[truncate, multiply, subtract])
-}
-
-/// The newest number, stored. `keep`: there is an ON SIZE ERROR phrase.
-fn emit_store(
-    emitter: &Emitter<'_>,
-    code: &mut Code,
-    keep: bool,
-    rounded: bool,
-    item: &Reference,
-) -> Result<(), AllocError>
-    requires rules { number_rules_of (items_in emitter.now.declarations.now) item.now ≡ [] }
-    ensures { OnOk result
-        (code.new ≡ append code.old (spec.store_fragment (items_in emitter.now.declarations.now)
-        keep (record { item = item.now; rounded = rounded }) code.old)) }
-{
-    emitter.emit_taking(code, DataInstruction::Store { rounded, keep }, item)
 }
 
 fn emit_updates(
@@ -146,7 +130,8 @@ fn emit_give(
         (spec.give_fragment (items_in emitter.now.declarations.now) keep one.now code.old)) }
 {
     emit_work(code, duplicate(0))?;
-    emit_store(emitter, code, keep, one.rounded, &one.item)
+    let rounded = one.rounded;
+    emitter.emit_taking(code, DataInstruction::Store { rounded, keep }, &one.item)
 }
 
 fn emit_gives(
@@ -198,35 +183,20 @@ fn emit_difference(
     emit_works(code, &[discard(), discard()])
 }
 
-/// Receivers become the product of the two newest numbers, which are taken.
-fn emit_product(
+/// Receivers become what an operator makes of the two newest numbers, which are taken.
+fn emit_computed(
     emitter: &Emitter<'_>,
     code: &mut Code,
     keep: bool,
+    operator: Operator,
     all: &Items<Receiver>,
 ) -> Result<(), AllocError>
     requires rules { given_rules (items_in emitter.now.declarations.now) all.now ≡ [] }
     ensures { OnOk result (code.new ≡ append code.old
-        (sequence (work_fragment (i.Calculate c.Multiply)) (sequence (spec.gives_fragment
+        (sequence (work_fragment (codes.operator_code operator)) (sequence (spec.gives_fragment
         (items_in emitter.now.declarations.now) keep all.now) parts.discard_fragment) code.old)) }
 {
-    emit_work(code, operator_code(Operator::Multiply))?;
-    emit_giving(emitter, code, keep, all)
-}
-
-/// Receivers become the quotient of the two newest numbers, which are taken.
-fn emit_quotient(
-    emitter: &Emitter<'_>,
-    code: &mut Code,
-    keep: bool,
-    all: &Items<Receiver>,
-) -> Result<(), AllocError>
-    requires rules { given_rules (items_in emitter.now.declarations.now) all.now ≡ [] }
-    ensures { OnOk result (code.new ≡ append
-        code.old (sequence (work_fragment (i.Calculate c.Divide)) (sequence (spec.gives_fragment
-        (items_in emitter.now.declarations.now) keep all.now) parts.discard_fragment) code.old)) }
-{
-    emit_work(code, operator_code(Operator::Divide))?;
+    emit_work(code, operator_code(operator))?;
     emit_giving(emitter, code, keep, all)
 }
 
@@ -244,10 +214,10 @@ fn emit_quotient_giving(
         (items_in emitter.now.declarations.now) keep all.now) parts.discard_fragment)) code.old)) }
 {
     match order {
-        DivisionOrder::By => emit_quotient(emitter, code, keep, all),
+        DivisionOrder::By => emit_computed(emitter, code, keep, Operator::Divide, all),
         DivisionOrder::Into => {
             emit_work(code, duplicate(1))?;
-            emit_quotient(emitter, code, keep, all)?;
+            emit_computed(emitter, code, keep, Operator::Divide, all)?;
             emit_work(code, discard())
         }
     }
@@ -384,7 +354,9 @@ fn emit_results(
         Operation::Multiply { receivers, .. } => {
             emit_updating(emitter, code, keep, Operator::Multiply, receivers)
         }
-        Operation::MultiplyGiving { receivers, .. } => emit_product(emitter, code, keep, receivers),
+        Operation::MultiplyGiving { receivers, .. } => {
+            emit_computed(emitter, code, keep, Operator::Multiply, receivers)
+        }
         Operation::Divide { receivers, .. } => {
             emit_updating(emitter, code, keep, Operator::Divide, receivers)
         }

@@ -125,29 +125,6 @@ fn emit_source(
     }
 }
 
-/// A literal that replaces a text of this size: a figurative constant is as long as that.
-fn emit_replacing_literal(
-    emitter: &Emitter<'_>,
-    code: &mut Code,
-    line: &mut TextLine,
-    size: u32,
-    one: &LiteralValue,
-) -> Result<Span, AllocError>
-    ensures { IfOk result (λ span. spec.TextMade (items_in emitter.now.declarations.now)
-        (layout.replacing_literal size one.now) code.old code.new line.old line.new span) }
-{
-    match one {
-        LiteralValue::Figurative(constant) => {
-            emit_characters(
-                code,
-                line,
-                repeated(emitter.alloc, figurative(*constant), size)?,
-            )
-        }
-        value => emit_characters(code, line, literal_text(emitter.alloc, value)?),
-    }
-}
-
 /// What replaces a text of this size.
 fn emit_by(
     emitter: &Emitter<'_>,
@@ -163,7 +140,11 @@ fn emit_by(
     match one {
         Operand::Item(reference) => emit_bytes(emitter, code, line, reference),
         Operand::Literal(literal) => {
-            emit_replacing_literal(emitter, code, line, size, &literal.value)
+            emit_characters(
+                code,
+                line,
+                replacing_literal(emitter.alloc, size, &literal.value)?,
+            )
         }
     }
 }
@@ -542,6 +523,17 @@ fn repeated(alloc: Global, byte: u8, size: u32) -> Result<Items<u8>, AllocError>
         bytes.push(byte)?;
     }
     Ok(bytes)
+}
+
+/// The characters of a literal that replaces a text of this size: a figurative constant is as long as that.
+fn replacing_literal(alloc: Global, size: u32, one: &LiteralValue) -> Result<Items<u8>, AllocError>
+    ensures { IfOk result
+        (λ bytes. layout.Characters bytes ≡ layout.replacing_literal size one.now) }
+{
+    match one {
+        LiteralValue::Figurative(constant) => repeated(alloc, figurative(*constant), size),
+        value => literal_text(alloc, value),
+    }
 }
 
 /// Characters that are known.

@@ -5,7 +5,7 @@ use Rattle.source_tree.specs.NameRules.{number_rules_of}
 use Rattle.source_tree.specs.ArithmeticRules.{number_receiver}
 use Rattle.condition_codegen.specs.Fragments.{append}
 use Rattle.condition_codegen.specs.ArithmeticCode.{give_fragment}
-use Rattle.condition_codegen.proofs.Fragments.{goes_on}
+use Rattle.condition_codegen.proofs.Fragments.{goes_on, is_done}
 use Rattle.condition_codegen.proofs.Kept.{receiver_kept}
 use Rattle.statement_codegen.proofs.arithmetic.emit_gives.Goals as goal
 
@@ -27,3 +27,8 @@ loop-one-preserved c =
     c.loop-one-test.true
     (c.in_ok-emit_give.ensures ∙ ap (λ (one : Receiver). append code (piece one code)) c.one-item.is)
     c.loop-one.invariant
+
+pub returns : goal.returns
+returns c =
+    is_done (give_fragment (items_in c.args.emitter.now.declarations.now) c.args.keep) c.args.all.now
+    c.loop-one.one-index c.loop-one.code _ c.loop-one-test.false c.loop-one.invariant

@@ -13,12 +13,12 @@ pub returns : goal.returns
 returns c =
     let items = items_in c.args.emitter.now.declarations.now in
     let taken = c.emit_taking.new.code in
-    three_so c.emit_store.result (take_fragment items i.Push c.args.item.now)
+    three_so c.emit_taking-2.result (take_fragment items i.Push c.args.item.now)
     (works_fragment (duplicate 1 ∷ operator_code c.args.operator ∷ []))
     (store_fragment items c.args.keep (record { item = c.args.item.now; rounded = c.args.rounded })) c.args.code.now
-    taken c.emit_works.new.code c.emit_store.new.code c.in_ok-emit_taking.ensures
+    taken c.emit_works.new.code c.emit_taking-2.new.code c.in_ok-emit_taking.ensures
     (c.in_ok-emit_works.ensures
     ∙ ap (λ (one : DataInstruction). append taken (works_fragment (one ∷ c.operator_code.result ∷ []) taken))
     c.duplicate.ensures
     ∙ ap (λ (one : DataInstruction). append taken (works_fragment (duplicate 1 ∷ one ∷ []) taken))
-    c.operator_code.ensures) c.emit_store.ensures
+    c.operator_code.ensures) c.emit_taking-2.ensures

@@ -1,5 +1,4 @@
 use Rattle.std.proofs.Common.{◌≡◌, [], ◌∷◌, sym, ap, ◌∙◌}
-use Rattle.source_tree.specs.declared.reference.Reference.{Reference}
 use Rattle.source_tree.specs.declared.expression.Operand.TheVariants.{Item}
 use Rattle.source_tree.specs.Broken.{each}
 use Rattle.source_tree.specs.FilingRules.{from_rules}

@@ -4,7 +4,7 @@ use Rattle.source_tree.specs.NameRules.{reference_rules, any_item}
 use Rattle.source_tree.specs.declared.reference.Reference.{Reference}
 use Rattle.condition_codegen.specs.Fragments.{append}
 use Rattle.condition_codegen.specs.PatternCode.{initialize_fragment}
-use Rattle.condition_codegen.proofs.Fragments.{goes_on}
+use Rattle.condition_codegen.proofs.Fragments.{goes_on, is_done}
 use Rattle.condition_codegen.proofs.Kept.{one_kept}
 use Rattle.statement_codegen.proofs.initialize_statement.emit_initializes.Goals as goal
 
@@ -23,3 +23,8 @@ loop-one-preserved c =
     c.loop-one-test.true
     (c.in_ok-emit_initialize.ensures ∙ ap (λ (one : Reference). append code (piece one code)) c.one-item.is)
     c.loop-one.invariant
+
+pub returns : goal.returns
+returns c =
+    is_done (initialize_fragment (items_in c.args.emitter.now.declarations.now)) c.args.all.now
+    c.loop-one.one-index c.loop-one.code _ c.loop-one-test.false c.loop-one.invariant

@@ -5,7 +5,7 @@ use Rattle.data_instructions.specs.declared.instruction.DataInstruction.TheVaria
 use Rattle.declarations.specs.Named.{items_in}
 use Rattle.condition_codegen.specs.Fragments.{append}
 use Rattle.condition_codegen.specs.DataCode.{take_fragment}
-use Rattle.condition_codegen.proofs.Fragments.{goes_on}
+use Rattle.condition_codegen.proofs.Fragments.{goes_on, is_done}
 use Rattle.condition_codegen.proofs.Kept.{one_kept}
 use Rattle.statement_codegen.proofs.move_statement.emit_receivers.Goals as goal
 
@@ -25,3 +25,8 @@ loop-one-preserved c =
     c.loop-one-test.true
     (c.in_ok-emit_taking.ensures ∙ ap (λ (one : Reference). append code (piece one code)) c.one-item.is)
     c.loop-one.invariant
+
+pub returns : goal.returns
+returns c =
+    is_done (take_fragment (items_in c.args.emitter.now.declarations.now) i.Move) c.args.all.now
+    c.loop-one.one-index c.loop-one.code _ c.loop-one-test.false c.loop-one.invariant

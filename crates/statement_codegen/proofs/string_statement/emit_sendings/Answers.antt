@@ -4,7 +4,7 @@ use Rattle.source_tree.specs.Broken.{each}
 use Rattle.source_tree.specs.StringRules.{sent_rules, delimiter_rules, sending_rules}
 use Rattle.condition_codegen.proofs.Kept.{front_kept, back_kept, one_kept}
 use Rattle.condition_codegen.specs.Fragments.{append}
-use Rattle.condition_codegen.proofs.Fragments.{goes_on}
+use Rattle.condition_codegen.proofs.Fragments.{goes_on, is_done}
 use Rattle.source_tree.specs.declared.string_statement.Sending.{Sending}
 use Rattle.statement_codegen.specs.StringCode.{sender_fragment}
 use Rattle.statement_codegen.proofs.string_statement.emit_sendings.Goals as goal
@@ -33,3 +33,8 @@ loop-one-preserved c =
     c.loop-one-test.true
     (c.in_ok-emit_sending.ensures ∙ ap (λ (one : Sending). append code (piece one code)) c.one-item.is)
     c.loop-one.invariant
+
+pub returns : goal.returns
+returns c =
+    is_done (sender_fragment (items_in c.args.emitter.now.declarations.now)) c.args.all.now
+    c.loop-one.one-index c.loop-one.code _ c.loop-one-test.false c.loop-one.invariant

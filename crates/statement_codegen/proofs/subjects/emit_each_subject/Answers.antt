@@ -5,7 +5,7 @@ use Rattle.declarations.specs.Named.{items_in}
 use Rattle.condition_codegen.specs.Fragments.{append, in_order}
 use Rattle.statement_codegen.specs.SubjectCode.{subject_fragment}
 use Rattle.condition_codegen.proofs.Kept.{one_kept}
-use Rattle.condition_codegen.proofs.Fragments.{goes_on}
+use Rattle.condition_codegen.proofs.Fragments.{goes_on, is_done}
 use Rattle.statement_codegen.proofs.subjects.emit_each_subject.Goals as goal
 
 pub emit_subject-requires-clause-rules : goal.emit_subject-requires-clause-rules
@@ -22,3 +22,8 @@ loop-one-preserved c =
     (append c.args.code.now (in_order piece c.args.all.now c.args.code.now)) c.loop-one-test.true
     (c.in_ok-emit_subject.ensures ∙ ap (λ (one : Subject). append old (piece one old)) c.one-item.is)
     c.loop-one.invariant
+
+pub returns : goal.returns
+returns c =
+    is_done (subject_fragment (items_in c.args.emitter.now.declarations.now)) c.args.all.now
+    c.loop-one.one-index c.loop-one.code _ c.loop-one-test.false c.loop-one.invariant
