@@ -5,8 +5,9 @@ ghost use Rattle.grammar.specs.Reading.{Reads};
 ghost use Rattle.statements.specs.Spelling.{max_nesting};
 ghost use Rattle.divisions.specs.Reading as spec;
 
+use crate::listed::listed;
 use crate::paragraphs::{Paragraphs, Sentences, begins_paragraph};
-use grammar::{ReadFault, Tokens, any, several};
+use grammar::{ReadFault, Tokens, any, beside, several};
 use source_tree::Paragraph;
 use sqlite_items::Items;
 use statements::begins_statement;
@@ -32,12 +33,10 @@ fn opening(alloc: Global, tokens: &mut Tokens<'_>) -> Result<Items<Paragraph>, R
     ensures { Reads (spec.first_paragraphs_reader max_nesting tokens.old) result tokens.new }
 {
     let sentences = several(&Sentences, alloc, tokens)?;
-    let more = any(&Paragraphs, alloc, tokens)?;
-    let mut found = Items::new(alloc);
-    found.push(Paragraph {
+    let (sentences, more) = beside(sentences, any(&Paragraphs, alloc, tokens))?;
+    let first = Paragraph {
         name: None,
         sentences,
-    })?;
-    found.append(more)?;
-    Ok(found)
+    };
+    listed(alloc, first, more)
 }

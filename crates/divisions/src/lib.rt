@@ -5,6 +5,7 @@ mod body;
 mod environment;
 mod fault;
 mod identification;
+mod listed;
 mod paragraphs;
 mod program;
 mod sections;

@@ -9,6 +9,7 @@ ghost use Rattle.divisions.specs.Reading as spec;
 ghost use Rattle.divisions.specs.Spelling as rule;
 
 use crate::body::body;
+use crate::listed::listed;
 use crate::paragraphs::begins_paragraph;
 use grammar::{Part, ReadFault, Tokens, begins_name, is_word, name, several};
 use source_tree::{Paragraph, Section};
@@ -112,13 +113,11 @@ fn outside(
     ensures { Gives (λ (all : List Section). all) halt_of result
         (Ok (spec.outside paragraphs ∷ more)) }
 {
-    let mut found = Items::new(alloc);
-    found.push(Section {
+    let first = Section {
         name: None,
         paragraphs,
-    })?;
-    found.append(more)?;
-    Ok(found)
+    };
+    listed(alloc, first, more)
 }
 
 /// The sections after what belongs to none. They follow sentences alone.
