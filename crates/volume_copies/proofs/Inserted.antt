@@ -1,5 +1,6 @@
 -- What a new row does to its file.
-use Rattle.std.proofs.Common.{◌≡◌, ◌≤◌, ◌+◌, ◌||◌, Bool, true, false, cond, ℕ, List, [], ◌∷◌, map, refl, ap, arith}
+use Rattle.std.proofs.Common.{◌≡◌, ◌≤◌, ◌<◌, ⊎_elim, ◌+◌, ◌||◌, Bool, true, false, cond, ℕ, List, [], ◌∷◌, map, refl}
+use Rattle.std.proofs.Common.{ap, arith}
 use Rattle.std.specs.Prelude.{max, min}
 use Rattle.std.specs.Ordering.{is_lt}
 use Rattle.std.proofs.lemmas.Bool.{cond_both}
@@ -13,6 +14,7 @@ use Rattle.records.specs.Changes.{new_number, new_row, insertion}
 use Rattle.records.specs.Stores.{IsNewNumber, is_change}
 use Rattle.volume_copies.specs.Loaded.{greatest_number, number_among, next_number, IsNext, following_number}
 use Rattle.volume_copies.specs.Loaded.{file_change}
+use Rattle.volume_copies.specs.OneLine.{IsPast}
 
 -- numbers that aren't past the greatest
 same_number : (n m : ℕ) → n ≤ 999999999 → min n 1000000000 ≡ min m 1000000000 → n ≡ m
@@ -123,3 +125,15 @@ next_after number bytes file is_new next =
     (λ (c : FileChange). is_change c.outcome ≡ true → IsNext (following_number file.spec.organization number) c.file)
     (λ e. cc)
     (λ _. next_by file.spec.organization number file.next_arrival (row bytes file) file.rows is_new next refl)
+
+-- a number that is past the greatest, and is the next one
+past_among : (o : Organization) (number : ℕ) (rows : List Row) → IsPast o number
+    → min number 1000000000 ≡ min (number_among o rows) 1000000000 → 999999999 < number_among o rows
+past_among Sequential number rows past same = absurd past
+past_among Relative number rows past same =
+    ⊎_elim (λ zero. omega (arith, zero, same)) (λ far. omega (arith, far, same)) past
+past_among (Indexed place) number rows past same = absurd past
+
+pub past_next : (number : ℕ) (file : File) → IsPast file.spec.organization number → IsNext number file
+    → 999999999 < next_number file
+past_next number file past next = past_among file.spec.organization number file.rows past next

@@ -11,3 +11,4 @@ pub mod LoadsOfVolumes
 pub mod Unloads
 pub mod LoadedAgain
 pub mod Publishing
+pub mod Blaming

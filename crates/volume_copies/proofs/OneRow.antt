@@ -7,8 +7,10 @@ use Rattle.station.specs.Blocks.{CrashLeaves}
 use Rattle.station.specs.Disk.{Sector}
 use Rattle.station.specs.History.{Through}
 use Rattle.station.specs.declared.device.Device.{Ghosts as Devices}
-use Rattle.station.proofs.Spans.{weakens}
+use Rattle.station.proofs.Spans.{stays, weakens}
+use Rattle.station.specs.Disk.{Disk, IsCrashImage}
 use Rattle.records.specs.declared.fault.StoreFault.{StoreFault}
+use Rattle.records.specs.declared.fault.StoreFault.TheVariants.{Damaged, Memory}
 use Rattle.records.specs.declared.file_spec.FileSpec.{FileSpec}
 use Rattle.records.specs.declared.keeps.Keeps.{Ghosts as Stores}
 use Rattle.records.specs.declared.answer.Outcome.{Outcome}
@@ -21,7 +23,9 @@ use Rattle.records.specs.Calls.{Represents, ChangesFiles}
 use Rattle.records.proofs.Maps.{found_again}
 use Rattle.volume_copies.specs.Record.{record_of}
 use Rattle.volume_copies.specs.Loaded.{IsNext, following_number, file_change, AddsLine}
-use Rattle.volume_copies.specs.OneLine.{WithOrWithout, IsAdded, AddsOne}
+use Rattle.volume_copies.specs.Loads.{IsLineEnd}
+use Rattle.volume_copies.specs.OneLine.{WithOrWithout, IsAdded, AddsOne, StaysUnless}
+use Rattle.volume_copies.specs.declared.load_end.LoadEnd.{LoadEnd}
 use Rattle.volume_copies.specs.declared.load_end.LoadEnd.TheVariants.{Rejected}
 use Rattle.volume_copies.proofs.Inserted.{not_added, same_insertion, same_spec_after, next_after}
 
@@ -128,3 +132,24 @@ module _ (spec : FileSpec) (number : ℕ) (line bytes : List ℕ) (before : File
           why = record { bytes = bytes; reads = of_file; rejected = not_added bytes file refused };
           stays = row_refused s d store device store' device' (Ok outcome) turns refused;
         }
+
+-- a line that is refused before anything is written
+pub line_stays : {S : Type 0} (s : Stores S) {D : Type 0} (d : Devices D) (spec : FileSpec) (number : ℕ)
+    (line : List ℕ) (before : Files) (file : File) (store : S) (device : D)
+    → ((disk : Disk) (image : List Sector) (files : Files) → s.stands store disk files → IsCrashImage disk image
+    → s.holds image files)
+    → Represents s d store device before → (end : LoadEnd) → IsLineEnd end file line
+    → StaysUnless s d end before store device
+    → AddsOne s d (Err end) spec number line before file device store device
+line_stays s d spec number line before file store device held stands end why left = record {
+  moments = stays (d.history device) (d.state device) _ (record {
+    events = refl;
+    images = λ image crash. inl (held (d.state device).disk image before stands.there crash);
+  });
+  added = tt;
+  why = why;
+  stays = left;
+}
+
+pub memory_not_damaged : Memory ≡ Damaged → ⊥
+memory_not_damaged is = cc
