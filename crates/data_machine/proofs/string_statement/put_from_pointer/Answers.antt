@@ -1,4 +1,5 @@
-use Rattle.std.proofs.Common.{◌≡◌, ◌∙◌, sym, ap, false, rules, FitsSigned}
+use Rattle.std.proofs.Common.{◌≡◌, ◌∙◌, sym, ap, false, rules, FitsSigned, arith}
+use Rattle.std.proofs.lemmas.Grind.{common_steps}
 use Rattle.std.specs.Int.{w128}
 use Rattle.std.specs.Prelude.{Ok, pos}
 use Rattle.std.proofs.lemmas.Int.{to_z-of_z}
@@ -34,3 +35,9 @@ returns-clause-puts c =
     (part_long c.args.one.now c.args.areas.now c.args.offset c.requires.stands) within.1 within.2
     c.string_into-next.ensures.stores c.string_into-next.ensures.next c.string_into-next.ensures.overflow number_is
     (c.in_ok-store.ensures.stores false)
+
+pub returns-in_err-store-clause-puts : goal.returns-in_err-store-clause-puts
+returns-in_err-store-clause-puts c = grind (arith, common_steps)
+
+pub returns-clause-lengths : goal.returns-clause-lengths
+returns-clause-lengths c = grind (arith, common_steps)

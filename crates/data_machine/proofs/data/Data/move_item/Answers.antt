@@ -1,4 +1,5 @@
-use Rattle.std.proofs.Common.{◌≡◌, [], ◌∷◌, ◌∙◌, sym, ap, subst, Some}
+use Rattle.std.proofs.Common.{◌≡◌, [], ◌∷◌, ◌∙◌, sym, ap, subst, Some, arith}
+use Rattle.std.proofs.lemmas.Grind.{common_steps}
 use Rattle.std.specs.Prelude.{slice_get}
 use Rattle.std.proofs.lemmas.Option.{slice_get_within}
 use Rattle.data_instructions.specs.declared.instruction.DataInstruction.TheVariants as i
@@ -80,3 +81,6 @@ returns-clause-does c =
     (at_first c.receive_from.result (scratch_of c.receive_from.new.self) c.args.tables.now c.args.to
     c.item_of-one.result.now move_step (scratch_of c.take_at.new.self) c.item_of-one.ensures
     c.receive_from.ensures.does)
+
+pub returns-clause-keeps : goal.returns-clause-keeps
+returns-clause-keeps c = grind (arith, common_steps)

@@ -1,4 +1,5 @@
-use Rattle.std.proofs.Common.{◌∷◌, ◌∙◌, ap, List}
+use Rattle.std.proofs.Common.{◌∷◌, ◌∙◌, ap, List, arith}
+use Rattle.std.proofs.lemmas.Grind.{common_steps}
 use Rattle.data_instructions.specs.declared.place.Place.{Place}
 use Rattle.data_instructions.specs.declared.tables.DataItem.{DataItem}
 use Rattle.data_instructions.specs.Tables.{shortened_item}
@@ -34,3 +35,12 @@ returns-clause-does c =
     (c.seen.ensures ∙ ap (λ (d : DataItem). shortened_item one d.item.length) c.part_of-part.ensures)
     (c.pop-pointer.ensures.newest ∙ ap (λ (ps : List Place). p ∷ ps) c.pop-place.ensures.newest)
     c.item_of-to.ensures c.item_of-one.ensures c.string_at.ensures.does
+
+pub string_at-requires-clause-stands : goal.string_at-requires-clause-stands
+string_at-requires-clause-stands c = grind (arith, common_steps)
+
+pub string_at-requires-clause-pointer : goal.string_at-requires-clause-pointer
+string_at-requires-clause-pointer c = grind (arith, common_steps)
+
+pub returns-clause-keeps : goal.returns-clause-keeps
+returns-clause-keeps c = grind (arith, common_steps)

@@ -46,3 +46,15 @@ replace-requires-clause-progress c = grind (arith, common_steps)
 
 pub measured-replacing-requires-clause-value : goal.measured-replacing-requires-clause-value
 measured-replacing-requires-clause-value c = grind (arith, common_steps)
+
+pub returns-clause-size : goal.returns-clause-size
+returns-clause-size c = grind (arith, common_steps)
+
+pub append-requires : goal.append-requires
+append-requires c = grind (arith, common_steps)
+
+pub count_each-requires-clause-progress : goal.count_each-requires-clause-progress
+count_each-requires-clause-progress c = grind (arith, common_steps)
+
+pub count_each-requires-clause-counts : goal.count_each-requires-clause-counts
+count_each-requires-clause-counts c = grind (arith, common_steps)
