@@ -1,4 +1,5 @@
-use Rattle.std.proofs.Common.{sym, ◌∙◌}
+use Rattle.std.proofs.Common.{sym, ◌∙◌, arith}
+use Rattle.std.proofs.lemmas.Grind.{common_steps}
 use Rattle.data_instructions.proofs.Entries.{in_order, items_in_order, senders_in_order, inspections_in_order}
 use Rattle.data_instructions.proofs.tables.DataTables.are_in_order.Goals as goal
 
@@ -26,3 +27,6 @@ returns c = (
   λ order. c.has_inspections.ensures.1
       (inspections_in_order c.args.self.now c.as_slice-5.result.now c.as_slice-5.ensures order),
 )
+
+pub returns-then-not-has_areas : goal.returns-then-not-has_areas
+returns-then-not-has_areas c = grind (arith, common_steps)
