@@ -30,60 +30,60 @@ ok_not_err : {T E A : Type 0} {x : T} {e : E} → (◌≡◌ {A = Result T E} (O
 ok_not_err is = cc
 
 module _ (copy : Result VolumeCopy StoreFault) {told : Result VolumeCopy CopyError} (is : told ≡ blamed_on_new copy)
-    where
-  pub never_old : {fault : StoreFault} {A : Type 0} → told ≡ Err (Old fault) → A
-  never_old {fault} {A} old = by copy (subst (λ (r : Result VolumeCopy CopyError). r ≡ Err (Old fault)) is old)
-    where
-      by : (r : Result VolumeCopy StoreFault) → blamed_on_new r ≡ Err (Old fault) → A
-      by (Ok x) e = ok_not_err e
-      by (Err f) e = old_not_new (sym e)
+  where
+    pub never_old : {fault : StoreFault} {A : Type 0} → told ≡ Err (Old fault) → A
+    never_old {fault} {A} old = by copy (subst (λ (r : Result VolumeCopy CopyError). r ≡ Err (Old fault)) is old)
+      where
+        by : (r : Result VolumeCopy StoreFault) → blamed_on_new r ≡ Err (Old fault) → A
+        by (Ok x) e = ok_not_err e
+        by (Err f) e = old_not_new (sym e)
 
-  failed : told ≡ Err (New Device) → copy ≡ Err Device
-  failed new = by copy (subst (λ (r : Result VolumeCopy CopyError). r ≡ Err (New Device)) is new)
-    where
-      by : (r : Result VolumeCopy StoreFault) → blamed_on_new r ≡ Err (New Device) → r ≡ Err Device
-      by (Ok x) e = ok_not_err e
-      by (Err f) e = ap Err (same_new e)
+    failed : told ≡ Err (New Device) → copy ≡ Err Device
+    failed new = by copy (subst (λ (r : Result VolumeCopy CopyError). r ≡ Err (New Device)) is new)
+      where
+        by : (r : Result VolumeCopy StoreFault) → blamed_on_new r ≡ Err (New Device) → r ≡ Err Device
+        by (Ok x) e = ok_not_err e
+        by (Err f) e = ap Err (same_new e)
 
-  pub told_refused : (image : List Sector) → IfErr told (IsCopyRefusal image)
-  told_refused image = subst (λ (r : Result VolumeCopy CopyError). IfErr r (IsCopyRefusal image)) (sym is) (by copy)
-    where
-      by : (r : Result VolumeCopy StoreFault) → IfErr (blamed_on_new r) (IsCopyRefusal image)
-      by (Ok x) = tt
-      by (Err f) = tt
+    pub told_refused : (image : List Sector) → IfErr told (IsCopyRefusal image)
+    told_refused image = subst (λ (r : Result VolumeCopy CopyError). IfErr r (IsCopyRefusal image)) (sym is) (by copy)
+      where
+        by : (r : Result VolumeCopy StoreFault) → IfErr (blamed_on_new r) (IsCopyRefusal image)
+        by (Ok x) = tt
+        by (Err f) = tt
 
-  pub told_unmade : IsAbandoned told → IsUnmade copy
-  told_unmade left = by copy (subst IsAbandoned is left)
-    where
-      by : (r : Result VolumeCopy StoreFault) → IsAbandoned (blamed_on_new r) → IsUnmade r
-      by (Ok Done) abandoned = abandoned
-      by (Ok Different) abandoned = tt
-      by (Err f) abandoned = abandoned
+    pub told_unmade : IsAbandoned told → IsUnmade copy
+    told_unmade left = by copy (subst IsAbandoned is left)
+      where
+        by : (r : Result VolumeCopy StoreFault) → IsAbandoned (blamed_on_new r) → IsUnmade r
+        by (Ok Done) abandoned = abandoned
+        by (Ok Different) abandoned = tt
+        by (Err f) abandoned = abandoned
 
-  pub told_leaves : {E : Type 0} (old new : E) → IfErr told (λ error. LeavesNew error old new)
-  told_leaves {E} old new = subst (λ (r : Result VolumeCopy CopyError). IfErr r (λ error. LeavesNew error old new))
-      (sym is) (by copy)
-    where
-      by : (r : Result VolumeCopy StoreFault) → IfErr (blamed_on_new r) (λ error. LeavesNew error old new)
-      by (Ok x) = tt
-      by (Err f) = tt
+    pub told_leaves : {E : Type 0} (old new : E) → IfErr told (λ error. LeavesNew error old new)
+    told_leaves {E} old new = subst (λ (r : Result VolumeCopy CopyError). IfErr r (λ error. LeavesNew error old new))
+        (sym is) (by copy)
+      where
+        by : (r : Result VolumeCopy StoreFault) → IfErr (blamed_on_new r) (λ error. LeavesNew error old new)
+        by (Ok x) = tt
+        by (Err f) = tt
 
-  pub told_different : told ≡ Ok Different → copy ≡ Ok Different
-  told_different differs = by copy (subst (λ (r : Result VolumeCopy CopyError). r ≡ Ok Different) is differs)
-    where
-      by : (r : Result VolumeCopy StoreFault) → blamed_on_new r ≡ Ok Different → r ≡ Ok Different
-      by (Ok Done) e = cc
-      by (Ok Different) e = cc
-      by (Err f) e = ok_not_err (sym e)
+    pub told_different : told ≡ Ok Different → copy ≡ Ok Different
+    told_different differs = by copy (subst (λ (r : Result VolumeCopy CopyError). r ≡ Ok Different) is differs)
+      where
+        by : (r : Result VolumeCopy StoreFault) → blamed_on_new r ≡ Ok Different → r ≡ Ok Different
+        by (Ok Done) e = cc
+        by (Ok Different) e = cc
+        by (Err f) e = ok_not_err (sym e)
 
-  pub told_keeps : {E : Type 0} (e : Devices E) (old made new : E) → new ≡ made
-      → KeepsDevice e (copy ≡ Err Device) old made → KeepsDevice e (told ≡ Err (New Device)) old new
-  told_keeps {E} e old made new same keeps =
-      subst (λ (one : E). KeepsDevice e (told ≡ Err (New Device)) old one) (sym same) (record {
-        honest = keeps.honest;
-        sectors = keeps.sectors;
-        failures = record {
-          no_fewer = keeps.failures.no_fewer;
-          failed = λ blamed. keeps.failures.failed (failed blamed);
-        };
-      })
+    pub told_keeps : {E : Type 0} (e : Devices E) (old made new : E) → new ≡ made
+        → KeepsDevice e (copy ≡ Err Device) old made → KeepsDevice e (told ≡ Err (New Device)) old new
+    told_keeps {E} e old made new same keeps =
+        subst (λ (one : E). KeepsDevice e (told ≡ Err (New Device)) old one) (sym same) (record {
+          honest = keeps.honest;
+          sectors = keeps.sectors;
+          failures = record {
+            no_fewer = keeps.failures.no_fewer;
+            failed = λ blamed. keeps.failures.failed (failed blamed);
+          };
+        })

@@ -108,7 +108,7 @@ pub returns-in_err-top-clause-spent : goal.returns-in_err-top-clause-spent
 returns-in_err-top-clause-spent g c = (
   λ is. (
     c.read_node.ensures.spent.0 (was_error c.from_residual.result c.read_node.result c.in_err-top.field-0.0 Spent
-    c.from_residual.ensures.1 c.in_err-top.was is),
+        c.from_residual.ensures.1 c.in_err-top.was is),
     λ zero. c.if-root-eq0.false (c.root-root.ensures ∙ zero),
   ),
   λ both. passed c.from_residual.result c.in_err-top.field-0.0 c.from_residual.ensures.1 (λ r. r ≡ Err Spent)

@@ -9,10 +9,10 @@ pub loop-byte-preserved : goal.loop-byte-preserved
 loop-byte-preserved c =
     let now = c.loop-byte in
     elim c.match-step.branch [
-      in-Begins w ↦ now.invariant ∙ byte_begins c.args.line.now now.bytes.items now.state now.byte-index
+      | in-Begins w ↦ now.invariant ∙ byte_begins c.args.line.now now.bytes.items now.state now.byte-index
           c.loop-byte-test.true w.in-Begins.next c.match-step.state c.match-step.bytes.items
           (sym c.step.ensures ∙ w.in-Begins.is) (ap (λ (v : Vec ℕ Global). v.items) w.bytes-is) w.state-is
-    | in-Spells+else-is_err w ↦ now.invariant ∙ byte_spells c.args.line.now now.bytes.items now.state now.byte-index
+      | in-Spells+else-is_err w ↦ now.invariant ∙ byte_spells c.args.line.now now.bytes.items now.state now.byte-index
           c.loop-byte-test.true w.in-Spells.byte c.match-step.state c.match-step.bytes.items
           (sym c.step.ensures ∙ w.in-Spells.is)
           (let pushed : c.match-step.bytes.items ≡ now.bytes.items ++ w.in-Spells.byte ∷ [] = search rules in pushed)
