@@ -32,8 +32,8 @@ impl<'a> Checker<'a> {
     }
 }
 
-/// The paragraphs, of which there are so many, have an order by what PERFORMs perform. Where they have none, the answer is at the first
-/// PERFORM that leads back.
+/// Whether the paragraphs have ranks that decrease along each PERFORM; `count` is how many paragraphs there are. If they have none, fault 54
+/// is at the first PERFORM in one of some paragraphs that perform one another, which performs one of them.
 fn order_rules(alloc: Global, count: usize, all: &Performs) -> Result<(), CheckError>
     requires ranges { All (IsRange count) all.now.ranges.items }
     requires places { length all.now.places.items ≡ length all.now.ranges.items }
